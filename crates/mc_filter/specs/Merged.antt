@@ -1,0 +1,38 @@
+-- The one filter that the records for a group merge to, over all records at once (RFC 3376, section 3.2).
+use Rattle.std.specs.Prelude.{◌≡◌, ◌↔◌, ℕ, List, Contains, All, Any}
+use Rattle.std.specs.List.Sorted.{IsStrictlyIncreasing}
+use Rattle.mc_igmp.specs.declared.record.Record.{Record}
+use Rattle.mc_igmp.specs.declared.record.Kind.{Kind}
+use Rattle.mc_igmp.specs.declared.record.Kind.TheVariants as kind
+use Rattle.mc_filter.specs.declared.filter.Mode.{Mode}
+use Rattle.mc_filter.specs.declared.filter.Mode.TheVariants.{Include, Exclude}
+use Rattle.mc_filter.specs.SourceFilter.{SourceFilter}
+
+-- the record is for the group, and of this kind
+abbrev pub IsFor : ℕ → Kind → Record → Type 0
+IsFor group told r = (r.group ≡ group) × (r.kind ≡ told)
+
+-- some record for the group is an EXCLUDE record
+abbrev pub HasExclude : List Record → ℕ → Type 0
+HasExclude records group = Any (IsFor group kind.Exclude) records
+
+-- the source is in the union of the INCLUDE lists for the group
+abbrev pub InSomeInclude : List Record → ℕ → ℕ → Type 0
+InSomeInclude records group source = Any (λ r. IsFor group kind.Include r × Contains r.sources source) records
+
+-- the source is in the intersection of the EXCLUDE lists for the group
+abbrev pub InEachExclude : List Record → ℕ → ℕ → Type 0
+InEachExclude records group source = All (λ r. IsFor group kind.Exclude r → Contains r.sources source) records
+
+-- EXCLUDE of the intersection of the EXCLUDE lists less all INCLUDE lists, if there is an EXCLUDE record. Else
+-- INCLUDE of the union of the INCLUDE lists.
+abbrev pub IsMergedIn : Mode → List ℕ → List Record → ℕ → Type 0
+IsMergedIn Exclude sources records group =
+    HasExclude records group × ((source : ℕ) → Contains sources source ↔ (InEachExclude records group source × ¬ (InSomeInclude records group source)))
+IsMergedIn Include sources records group =
+    ¬ (HasExclude records group) × ((source : ℕ) → Contains sources source ↔ InSomeInclude records group source)
+
+-- the filter is what the records for the group merge to, its list ascending with no address twice
+pub record IsMergedValue (records : List Record) (group : ℕ) (filter : SourceFilter) : Type 0 where
+  pub ascending : IsStrictlyIncreasing filter.sources
+  pub merged : IsMergedIn filter.mode filter.sources records group

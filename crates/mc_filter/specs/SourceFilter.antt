@@ -1,0 +1,40 @@
+-- A source filter: which sources of a group are wanted (RFC 3376, section 3.2).
+use Rattle.std.specs.Prelude.{ℕ, Bool, not, List, [], Contains}
+use Rattle.mc_igmp.specs.declared.record.Kind.{Kind}
+use Rattle.mc_igmp.specs.declared.record.Kind.TheVariants as kind
+use Rattle.mc_filter.specs.declared.filter.Mode.{Mode}
+use Rattle.mc_filter.specs.declared.filter.Mode.TheVariants.{Include, Exclude}
+use Rattle.mc_filter.specs.Addresses.{has}
+
+-- a filter mode, and the addresses of the source list
+pub record SourceFilter : Type 0 where
+  pub mode : Mode
+  pub sources : List ℕ
+
+-- INCLUDE of no source
+abbrev pub include_nothing : SourceFilter
+include_nothing = record { mode = Include; sources = [] }
+
+-- A filter of this mode with this list admits a source. INCLUDE admits the sources in the list, and EXCLUDE
+-- admits all others.
+abbrev pub AdmitsIn : Mode → List ℕ → ℕ → Type 0
+AdmitsIn Include sources source = Contains sources source
+AdmitsIn Exclude sources source = ¬ (Contains sources source)
+
+abbrev pub FilterAdmits : SourceFilter → ℕ → Type 0
+FilterAdmits filter source = AdmitsIn filter.mode filter.sources source
+
+-- Records of types 1 and 2 tell a filter, and no others.
+abbrev pub TellsNoFilter : Kind → Type 0
+TellsNoFilter kind.Include = ⊥
+TellsNoFilter kind.Exclude = ⊥
+TellsNoFilter (kind.Change type) = Unit {0}
+TellsNoFilter (kind.Unknown type) = Unit {0}
+
+-- The same as a test: whether a filter of this mode admits a source, by whether its list has the source.
+abbrev pub admits_by : Mode → Bool → Bool
+admits_by Include listed = listed
+admits_by Exclude listed = not listed
+
+abbrev pub admits : SourceFilter → ℕ → Bool
+admits filter source = admits_by filter.mode (has filter.sources source)

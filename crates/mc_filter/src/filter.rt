@@ -1,0 +1,134 @@
+//! A source filter.
+
+ghost use Rattle.std.specs.Prelude.{◌≡◌, ◌⊎◌, ◌↔◌, ◌++◌, ◌||◌, ℕ, Bool, List, [], IsTrue, IsOk, OnOk, OnErr};
+ghost use Rattle.std.specs.List.Sorted.{IsStrictlyIncreasing};
+ghost use Rattle.mc_igmp.specs.declared.record.Kind.TheVariants as kind;
+ghost use Rattle.mc_igmp.specs.Wants.{Admits};
+ghost use Rattle.mc_filter.specs.Addresses.{has, in_parts};
+ghost use Rattle.mc_filter.specs.SourceFilter.{FilterAdmits, TellsNoFilter, include_nothing, admits, admits_by};
+
+use crate::addresses::{Parts, append, make_ascending, parts_of};
+use mc_igmp::{Kind, Record};
+use mc_text::{Addr, Memory};
+use std::alloc::Global;
+use std::marker::Model;
+
+/// What a filter's list says of the sources in it.
+#[derive(Clone, Copy, Debug, PartialEq, Eq)]
+pub enum Mode {
+    /// Only the sources in the list are wanted.
+    Include,
+    /// All sources but those in the list are wanted.
+    Exclude,
+}
+
+/// The mode of what two filters merge to, and the parts of their two lists that make its list.
+fn merged(mode: Mode, other: Mode) -> (Mode, Parts)
+    ensures mode { (result.0 ≡ Mode.Exclude) ↔ ((mode ≡ Mode.Exclude) ⊎ (other ≡ Mode.Exclude)) }
+    ensures admits { (listed other_listed : Bool) →
+        admits_by result.0 (in_parts result.1 listed other_listed) ≡
+        (admits_by mode listed || admits_by other other_listed) }
+{
+    match (mode, other) {
+        (Mode::Include, Mode::Include) => (Mode::Include, Parts::ALL),
+        (Mode::Include, Mode::Exclude) => (Mode::Exclude, Parts::SECOND_ONLY),
+        (Mode::Exclude, Mode::Include) => (Mode::Exclude, Parts::FIRST_ONLY),
+        (Mode::Exclude, Mode::Exclude) => (Mode::Exclude, Parts::BOTH),
+    }
+}
+
+/// A mode and a list of sources, which is ascending and has none twice. Its value in contracts is the two.
+#[derive(Debug, Drop)]
+pub struct Filter {
+    mode: Mode,
+    sources: Vec<Addr>,
+}
+
+impl Model for Filter {
+    ghost use Rattle.std.specs.List.Sorted.{IsStrictlyIncreasing};
+    ghost use Rattle.mc_filter.specs.SourceFilter.{SourceFilter};
+
+    ghost Value = { SourceFilter };
+
+    ghost view = { λ s. record { mode = s.mode; sources = s.sources.items } };
+
+    ghost invariant = { λ s. IsStrictlyIncreasing s.sources.items };
+}
+
+impl Filter {
+    /// The filter that admits no source. It takes no memory.
+    pub fn none(alloc: Global) -> Filter
+        ensures { result ≡ include_nothing }
+    {
+        Filter {
+            mode: Mode::Include,
+            sources: Vec::new(alloc),
+        }
+    }
+
+    /// Merges in what a record tells (RFC 3376, section 3.2): afterwards the filter admits what it did
+    /// before and what the record admits. A record of another type than 1 and 2 changes nothing.
+    pub fn merge(&mut self, group_record: &Record<'_>) -> Result<(), Memory>
+        ensures admits { OnOk result ((source : ℕ) →
+            FilterAdmits self.new source ↔ (FilterAdmits self.old source ⊎ Admits group_record.now source)) }
+        ensures mode { OnOk result ((self.new.mode ≡ Mode.Exclude) ↔
+            ((self.old.mode ≡ Mode.Exclude) ⊎ (group_record.now.kind ≡ kind.Exclude))) }
+        ensures other_types { TellsNoFilter group_record.now.kind → IsOk result × (self.new ≡ self.old) }
+        ensures err { OnErr result (self.new ≡ self.old) }
+        ensures ascending { IsStrictlyIncreasing self.new.sources }
+    {
+        let alloc = *self.sources.allocator();
+        let mode = match group_record.kind {
+            Kind::Include => Mode::Include,
+            Kind::Exclude => Mode::Exclude,
+            Kind::Change(_) | Kind::Unknown(_) => return Ok(()),
+        };
+        let mut listed = Vec::new(alloc);
+        append(&mut listed, &group_record.sources)?;
+        self.merge_list(mode, listed)
+    }
+
+    /// Merges in a filter of this mode with these sources, in whatever order they stand.
+    pub fn merge_list(&mut self, mode: Mode, listed: Vec<Addr>) -> Result<(), Memory>
+        ensures admits { OnOk result ((source : ℕ) →
+            admits self.new source ≡ (admits self.old source || admits_by mode (has listed.items source))) }
+        ensures mode { OnOk result ((self.new.mode ≡ Mode.Exclude) ↔
+            ((self.old.mode ≡ Mode.Exclude) ⊎ (mode ≡ Mode.Exclude))) }
+        ensures err { OnErr result (self.new ≡ self.old) }
+        ensures ascending { IsStrictlyIncreasing self.new.sources }
+    {
+        let mut listed = listed;
+        make_ascending(&mut listed);
+        let (mode, parts) = merged(self.mode, mode);
+        let alloc = *self.sources.allocator();
+        let sources = parts_of(alloc, &self.sources, &listed, parts)?;
+        *self = Filter { mode, sources };
+        Ok(())
+    }
+
+    /// Whether the list has the sources that are wanted, or those that are not.
+    pub fn mode(&self) -> Mode
+        ensures { result ≡ self.now.mode }
+    {
+        self.mode
+    }
+
+    /// The sources in the list, ascending and none twice.
+    pub fn sources(&self) -> &[Addr]
+        ensures value { result.now ≡ self.now.sources }
+        ensures ascending { IsStrictlyIncreasing result.now }
+    {
+        &self.sources
+    }
+
+    /// Whether the filter admits a source.
+    pub fn admits(&self, source: Addr) -> bool
+        ensures { IsTrue result ↔ FilterAdmits self.now source }
+    {
+        let is_listed = self.sources.binary_search(&source).is_ok();
+        match self.mode {
+            Mode::Include => is_listed,
+            Mode::Exclude => !is_listed,
+        }
+    }
+}

@@ -1,0 +1,22 @@
+//! What follows from the definition of the merged filter alone, for whoever builds on it.
+
+ghost use Rattle.std.specs.Prelude.{◌≡◌, ◌↔◌, ℕ, List};
+ghost use Rattle.std.specs.List.Sorted.{IsPermutation};
+ghost use Rattle.mc_igmp.specs.declared.record.Record.{Record};
+ghost use Rattle.mc_igmp.specs.Wants.{Wants};
+ghost use Rattle.mc_filter.specs.SourceFilter.{SourceFilter, FilterAdmits};
+ghost use Rattle.mc_filter.specs.Merged.{IsMergedValue};
+
+/// What records for a group merge to admits exactly the sources that one of them admits.
+pub fn merged_filter_admits_what_is_wanted()
+    ensures { (records : List Record) (group : ℕ) (filter : SourceFilter) →
+        IsMergedValue records group filter →
+        (source : ℕ) → FilterAdmits filter source ↔ Wants records group source }
+{}
+
+/// The same records in another order merge to the same filter.
+pub fn order_of_records_does_not_matter()
+    ensures { (records others : List Record) (group : ℕ) (filter other : SourceFilter) →
+        IsPermutation records others →
+        IsMergedValue records group filter → IsMergedValue others group other → filter ≡ other }
+{}

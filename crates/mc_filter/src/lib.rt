@@ -1,0 +1,15 @@
+//! Source filters: what the hosts of a LAN want of a group, merged from all that they report
+//! (RFC 3376, section 3.2).
+#![tactic(auto)]
+
+mod addresses;
+mod filter;
+mod laws;
+mod wants;
+
+pub use filter::{Filter, Mode};
+pub use laws::{merged_filter_admits_what_is_wanted, order_of_records_does_not_matter};
+pub use wants::wants_of;
+
+#[cfg(test)]
+mod tests;

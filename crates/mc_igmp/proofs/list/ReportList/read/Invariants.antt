@@ -1,0 +1,8 @@
+use Rattle.std.proofs.Common.{◌≡◌}
+use Rattle.mc_text.specs.Lines.{lines_of}
+use Rattle.mc_igmp.specs.ReadingList.{read_lines}
+use Rattle.mc_igmp.proofs.ListLemmas.{with_front}
+use Rattle.mc_igmp.proofs.list.ReportList.read.Given as goal
+
+abbrev pub invariant-loop-line : goal.invariant-loop-line
+invariant-loop-line l = with_front l.list (read_lines l.line-iterator) ≡ read_lines (lines_of l.fn.text)

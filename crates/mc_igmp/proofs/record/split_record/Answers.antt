@@ -1,0 +1,18 @@
+use Rattle.std.proofs.Common.{◌≡◌, ◌+◌, ◌*◌, get_or, arith, ◌∙◌}
+use Rattle.mc_igmp.proofs.RecordLemmas.{word_at, read_record-none, read_record-split}
+use Rattle.mc_igmp.proofs.record.split_record.Goals as goal
+
+pub returns-then-bytes-lt-HEADER_LEN : goal.returns-then-bytes-lt-HEADER_LEN
+returns-then-bytes-lt-HEADER_LEN c = read_record-none c.args.bytes.now (omega arith)
+
+pub returns-then-bytes-end : goal.returns-then-bytes-end
+returns-then-bytes-end c =
+    let count : c.read_u16.result ≡ 256 * get_or c.args.bytes.now 2 0 + get_or c.args.bytes.now 3 0 = c.read_u16.ensures ∙ word_at c.args.bytes.now 2 in
+    read_record-none c.args.bytes.now (omega arith)
+
+pub returns : goal.returns
+returns c =
+    let count : c.read_u16.result ≡ 256 * get_or c.args.bytes.now 2 0 + get_or c.args.bytes.now 3 0 = c.read_u16.ensures ∙ word_at c.args.bytes.now 2 in
+    let bytes = c.args.bytes.now in
+    let sources_end = 8 + 4 * c.from.result in
+    read_record-split bytes sources_end (sources_end + 4 * c.from-2.result) c.from_type.result c.from_octets.result (omega arith) (omega arith) (omega arith) c.from_type.ensures c.from_octets.ensures.value

@@ -1,0 +1,19 @@
+-- The types of a group record (RFC 3376, section 4.2.12).
+use Rattle.std.specs.Prelude.{ℕ, ◌==◌, ◌&&◌, nat_le, Bool, true, false, if◌then◌else◌}
+use Rattle.mc_igmp.specs.declared.record.Kind.{Kind}
+use Rattle.mc_igmp.specs.declared.record.Kind.TheVariants.{Include, Exclude, Change, Unknown}
+
+-- 1 is MODE_IS_INCLUDE and 2 is MODE_IS_EXCLUDE. 3 to 6 tell of a change: CHANGE_TO_INCLUDE_MODE,
+-- CHANGE_TO_EXCLUDE_MODE, ALLOW_NEW_SOURCES and BLOCK_OLD_SOURCES.
+unfoldable pub kind_of : ℕ → Kind
+kind_of type =
+    if type == 1 then Include
+    else if type == 2 then Exclude
+    else if nat_le 3 type && nat_le type 6 then Change type
+    else Unknown type
+
+abbrev pub is_change : Kind → Bool
+is_change Include = false
+is_change Exclude = false
+is_change (Change type) = true
+is_change (Unknown type) = false

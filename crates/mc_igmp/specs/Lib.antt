@@ -1,0 +1,14 @@
+pub mod Checksum
+pub mod Kind
+pub mod Addresses
+pub mod Record
+pub mod Records
+pub mod Message
+pub mod ReadingMessage
+pub mod Memory
+pub mod ReportList
+pub mod ReadingList
+pub mod Wants
+pub use Rattle.mc_text.specs.Addr
+pub use Rattle.mc_text.specs.Lines
+pub use Rattle.hex.specs.Hex

@@ -1,0 +1,31 @@
+-- What a message stands for (RFC 3376, section 4.2).
+use Rattle.std.specs.Prelude.{◌≡◌, ◌≢◌, ℕ, ◌+◌, ◌*◌, List, [], ◌++◌, length, drop, slice_index}
+use Rattle.mc_igmp.specs.declared.record.Record.{Record}
+use Rattle.mc_igmp.specs.declared.message.Message.{Message}
+use Rattle.mc_igmp.specs.declared.message.Message.TheVariants.{Report, Other}
+use Rattle.mc_igmp.specs.Checksum.{IsWellFormed}
+use Rattle.mc_igmp.specs.Records.{AreRecords}
+
+-- the number of group records that a report tells in its bytes 6 and 7
+abbrev pub record_count : List ℕ → ℕ
+record_count bytes = 256 * slice_index bytes 6 + slice_index bytes 7
+
+-- A Version 3 report's records follow one another from byte 8, as many as it tells. Bytes after the last
+-- record say nothing.
+pub record IsReport (bytes : List ℕ) (records : List Record) : Type 0 where
+  pub own : List ℕ
+  pub ignored : List ℕ
+  pub type : slice_index bytes 0 ≡ 0x22
+  pub counted : length records ≡ record_count bytes
+  pub parts : drop 8 bytes ≡ own ++ ignored
+  pub whole : AreRecords own records
+
+-- The bytes are this message. A message of another type than 0x22 stands for its type alone.
+abbrev pub IsMessage : List ℕ → Message → Type 0
+IsMessage bytes (Report records) = IsWellFormed bytes × IsReport bytes records
+IsMessage bytes (Other type) = IsWellFormed bytes × (slice_index bytes 0 ≡ type) × (type ≢ 0x22)
+
+-- the records that a message stands for
+abbrev pub records_of : Message → List Record
+records_of (Report records) = records
+records_of (Other type) = []

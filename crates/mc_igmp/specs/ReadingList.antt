@@ -1,0 +1,75 @@
+-- A report list read line by line, with the first fault that is met.
+use Rattle.std.specs.Prelude.{ℕ, ◌+◌, ◌==◌, ◌||◌, not, nat_lt, List, [], ◌∷◌, ◌++◌, length, Option, Some, None, Result, Ok, Err, if◌then◌else◌}
+use Rattle.hex.specs.declared.error.FromHexError.{FromHexError}
+use Rattle.hex.specs.Hex.{decode_of}
+use Rattle.mc_text.specs.Lines.{LineText, lines_of}
+use Rattle.mc_igmp.specs.declared.record.Record.{Record}
+use Rattle.mc_igmp.specs.declared.message.Message.{Message}
+use Rattle.mc_igmp.specs.declared.message.Message.TheVariants.{Report, Other}
+use Rattle.mc_igmp.specs.declared.message.MessageFault.{MessageFault}
+use Rattle.mc_igmp.specs.declared.message.MessageFault.TheVariants as message
+use Rattle.mc_igmp.specs.declared.fault.ListFault.{ListFault}
+use Rattle.mc_igmp.specs.declared.fault.ListFaultKind.{ListFaultKind}
+use Rattle.mc_igmp.specs.declared.fault.ListFaultKind.TheVariants.{BadHex, Short, BadChecksum, Truncated, StateChange, OlderReport, TooLarge, Unended}
+use Rattle.mc_igmp.specs.Kind.{is_change}
+use Rattle.mc_igmp.specs.ReadingMessage.{read_message}
+
+-- the second step, if the first gave a value
+infixl 10 ◌>>=◌
+abbrev pub ◌>>=◌ : {A B : Type 0} → Result A ListFault → (A → Result B ListFault) → Result B ListFault
+(Ok x) >>= f = f x
+(Err e) >>= f = Err e
+
+-- a fault of this line and record
+abbrev pub fault_at : ℕ → ℕ → ListFaultKind → ListFault
+fault_at line record_no kind = record { line = line; record_no = record_no; kind = kind }
+
+-- the bytes that the digits of a line write
+abbrev pub digits_read : ℕ → Result (List ℕ) FromHexError → Result (List ℕ) ListFault
+digits_read line (Ok bytes) = Ok bytes
+digits_read line (Err e) = Err (fault_at line 0 BadHex)
+
+unfoldable pub bytes_of_line : LineText → Result (List ℕ) ListFault
+bytes_of_line line =
+    if not line.ended then Err (fault_at line.number 0 Unended)
+    else if nat_lt 65536 line.number || nat_lt 131030 (length line.bytes) then Err (fault_at line.number 0 TooLarge)
+    else digits_read line.number (decode_of line.bytes)
+
+-- the number of the first record that tells of a change, where the first record has the number `number`
+unfoldable pub first_change : ℕ → List Record → Option ℕ
+first_change number [] = None
+first_change number (r ∷ rs) = if is_change r.kind then Some number else first_change (number + 1) rs
+
+-- the records, if none tells of a change
+abbrev pub without_change : ℕ → List Record → Option ℕ → Result (List Record) ListFault
+without_change line records None = Ok records
+without_change line records (Some number) = Err (fault_at line number StateChange)
+
+-- the records of what was read as a message, if a list takes it
+abbrev pub taken_records : ℕ → Result Message MessageFault → Result (List Record) ListFault
+taken_records line (Ok (Report records)) = without_change line records (first_change 1 records)
+taken_records line (Ok (Other type)) =
+    if type == 0x12 || type == 0x16 then Err (fault_at line 0 OlderReport) else Ok []
+taken_records line (Err message.Short) = Err (fault_at line 0 Short)
+taken_records line (Err message.BadChecksum) = Err (fault_at line 0 BadChecksum)
+taken_records line (Err (message.Truncated number)) = Err (fault_at line number Truncated)
+
+-- the records of the message on a line
+unfoldable pub read_line : LineText → Result (List Record) ListFault
+read_line line = do
+  bytes ← bytes_of_line line
+  taken_records line.number (read_message bytes)
+
+-- the records of all lines, or the fault of the first line that has one
+unfoldable pub read_lines : List LineText → Result (List Record) ListFault
+read_lines [] = Ok []
+read_lines (line ∷ lines) = do
+  records ← read_line line
+  others ← read_lines lines
+  Ok (records ++ others)
+
+-- a text past the limit is refused before any line is looked at
+unfoldable pub read_list : List ℕ → Result (List Record) ListFault
+read_list text =
+    if nat_lt 16777216 (length text) then Err (fault_at 0 0 TooLarge)
+    else read_lines (lines_of text)

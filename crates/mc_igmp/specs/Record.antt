@@ -1,0 +1,42 @@
+-- A group record (RFC 3376, section 4.2.4 and on).
+use Rattle.std.specs.Prelude.{◌≡◌, ℕ, ◌+◌, ◌*◌, ◌<◌, ◌^◌, List, [], ◌∷◌, ◌++◌, length, drop, take, Option, Some, None, nat_lt, slice_index, if◌then◌else◌}
+use Rattle.std.specs.Int.{w16, w32, to_be_bytes, from_be_bytes}
+use Rattle.std.specs.List.{flat_map, AllByRecursion}
+use Rattle.mc_text.specs.Addr.{IsAddr, octets_of}
+use Rattle.mc_igmp.specs.declared.record.Record.{Record}
+use Rattle.mc_igmp.specs.Kind.{kind_of}
+use Rattle.mc_igmp.specs.Addresses.{addresses_in}
+
+-- The bytes are this record, whole: its type, the length of its auxiliary data in words of 32 bits, the
+-- number of its sources, its group, its sources, and the auxiliary data, which say nothing.
+pub record IsRecord (bytes : List ℕ) (r : Record) : Type 0 where
+  pub type : ℕ
+  pub auxiliary_words : ℕ
+  pub auxiliary : List ℕ
+  pub kind : r.kind ≡ kind_of type
+  pub group_fits : IsAddr r.group
+  pub sources_fit : AllByRecursion IsAddr r.sources
+  pub count_fits : length r.sources < 2 ^ 16
+  pub auxiliary_length : length auxiliary ≡ 4 * auxiliary_words
+  pub spelled : bytes ≡ (type ∷ auxiliary_words ∷ to_be_bytes w16 (length r.sources))
+      ++ octets_of r.group ++ flat_map octets_of r.sources ++ auxiliary
+
+-- The number of sources of the record that the bytes begin with, and the bytes that the record takes.
+abbrev pub source_count : List ℕ → ℕ
+source_count bytes = 256 * slice_index bytes 2 + slice_index bytes 3
+
+abbrev pub record_size : List ℕ → ℕ
+record_size bytes = 8 + 4 * source_count bytes + 4 * slice_index bytes 1
+
+abbrev pub record_at : List ℕ → Record
+record_at bytes = record {
+  kind = kind_of (slice_index bytes 0);
+  group = from_be_bytes w32 (slice_index bytes 4 ∷ slice_index bytes 5 ∷ slice_index bytes 6 ∷ slice_index bytes 7 ∷ []);
+  sources = addresses_in (take (4 * source_count bytes) (drop 8 bytes));
+}
+
+-- the record that the bytes begin with, if it ends within them, and the bytes after it
+unfoldable pub read_record : List ℕ → Option (Record × List ℕ)
+read_record bytes =
+    if nat_lt (length bytes) (record_size bytes) then None
+    else Some (record_at bytes, drop (record_size bytes) bytes)

@@ -1,0 +1,39 @@
+-- What a report list stands for: the records of its messages, in order.
+use Rattle.std.specs.Prelude.{◌≡◌, ◌≢◌, ℕ, ◌≤◌, true, false, List, [], ◌∷◌, length, Ok}
+use Rattle.std.specs.List.{flat_map, AllByRecursion}
+use Rattle.hex.specs.Hex.{decode_of}
+use Rattle.mc_text.specs.Lines.{LineText, lines_of}
+use Rattle.mc_igmp.specs.declared.record.Record.{Record}
+use Rattle.mc_igmp.specs.declared.message.Message.{Message}
+use Rattle.mc_igmp.specs.declared.message.Message.TheVariants.{Report, Other}
+use Rattle.mc_igmp.specs.Kind.{is_change}
+use Rattle.mc_igmp.specs.Message.{IsMessage, records_of}
+
+-- reports of versions 1 and 2 (0x12 and 0x16) are not taken
+abbrev pub IsTaken : Message → Type 0
+IsTaken (Report records) = AllByRecursion (λ r. is_change r.kind ≡ false) records
+IsTaken (Other type) = (type ≢ 0x12) × (type ≢ 0x16)
+
+-- The line is the hexadecimal of this message, and nothing else. A message is the payload of one IP packet,
+-- of at most 65,515 bytes, and a list has at most 65,536 lines.
+pub record IsMessageLine (line : LineText) (message : Message) : Type 0 where
+  pub bytes : List ℕ
+  pub ended : line.ended ≡ true
+  pub number : line.number ≤ 65536
+  pub size : length line.bytes ≤ 131030
+  pub decoded : decode_of line.bytes ≡ Ok bytes
+  pub stands : IsMessage bytes message
+  pub taken : IsTaken message
+
+abbrev pub AreMessageLines : List LineText → List Message → Type 0
+AreMessageLines [] [] = Unit {0}
+AreMessageLines [] (message ∷ messages) = ⊥
+AreMessageLines (line ∷ lines) [] = ⊥
+AreMessageLines (line ∷ lines) (message ∷ messages) = IsMessageLine line message × AreMessageLines lines messages
+
+-- the text's lines are messages, one a line, and these are all their records
+pub record IsReportList (text : List ℕ) (records : List Record) : Type 0 where
+  pub messages : List Message
+  pub size : length text ≤ 16777216
+  pub lines : AreMessageLines (lines_of text) messages
+  pub in_order : records ≡ flat_map records_of messages

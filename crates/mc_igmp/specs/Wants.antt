@@ -1,0 +1,21 @@
+-- What the hosts of a LAN want (RFC 3376, section 3.2), from the answers to one General Query.
+use Rattle.std.specs.Prelude.{◌≡◌, ℕ, List, Contains}
+use Rattle.std.specs.List.{Any}
+use Rattle.mc_igmp.specs.declared.record.Record.{Record}
+use Rattle.mc_igmp.specs.declared.record.Kind.{Kind}
+use Rattle.mc_igmp.specs.declared.record.Kind.TheVariants.{Include, Exclude, Change, Unknown}
+
+-- A record of a kind with these sources admits a source. MODE_IS_INCLUDE admits the sources in its list, and
+-- MODE_IS_EXCLUDE admits all others. The other types admit none.
+abbrev pub AdmitsBy : Kind → List ℕ → ℕ → Type 0
+AdmitsBy Include sources source = Contains sources source
+AdmitsBy Exclude sources source = ¬ (Contains sources source)
+AdmitsBy (Change type) sources source = ⊥
+AdmitsBy (Unknown type) sources source = ⊥
+
+abbrev pub Admits : Record → ℕ → Type 0
+Admits r source = AdmitsBy r.kind r.sources source
+
+-- a LAN wants what the source sends to the group if some record for the group admits the source
+abbrev pub Wants : List Record → ℕ → ℕ → Type 0
+Wants records group source = Any (λ r. (r.group ≡ group) × Admits r source) records

@@ -1,0 +1,82 @@
+//! Why a text is no report list.
+
+ghost use Rattle.std.specs.Prelude.{◌≡◌};
+ghost use Rattle.mc_igmp.specs.Memory.{IsMemory};
+
+use std::alloc::{AllocError, AllocFailed};
+use thiserror::Error;
+
+/// What is wrong with a report list.
+#[derive(Clone, Copy, Debug, PartialEq, Eq, Error)]
+pub enum ListFaultKind {
+    /// (1) The line is no hexadecimal of whole bytes.
+    #[error("BadHex")]
+    BadHex,
+    /// (2) The message has fewer than 8 bytes.
+    #[error("Short")]
+    Short,
+    /// (3) The message's checksum is wrong.
+    #[error("BadChecksum")]
+    BadChecksum,
+    /// (4) The record doesn't end within the message.
+    #[error("Truncated")]
+    Truncated,
+    /// (5) The record tells of a change: its meaning hangs on what was reported before.
+    #[error("StateChange")]
+    StateChange,
+    /// (6) The message is a report of version 1 or 2.
+    #[error("OlderReport")]
+    OlderReport,
+    /// (7) The text has more than 16,777,216 bytes (line 0), or more than 65,536 lines, or the line has more
+    /// than 131,030 bytes.
+    #[error("TooLarge")]
+    TooLarge,
+    /// (8) No line feed ends the line.
+    #[error("Unended")]
+    Unended,
+    /// (9) Memory ran out (line 0).
+    #[error("Memory")]
+    Memory,
+}
+
+/// Why a text is no report list, with the line and the record that it is about. Both count from 1, and
+/// are 0 where no line or no record is meant.
+#[derive(Clone, Copy, Debug, PartialEq, Eq, Error)]
+#[error("line {line} record {record_no}: {kind}")]
+pub struct ListFault {
+    /// The line, or 0.
+    pub line: u32,
+    /// The record of its message, or 0.
+    pub record_no: u32,
+    /// What is wrong there.
+    pub kind: ListFaultKind,
+}
+
+impl ListFaultKind {
+    /// The fault of this kind at a line and a record.
+    pub(crate) fn at(self, line: u32, record_no: u32) -> ListFault
+        ensures { result ≡ record { line = line; record_no = record_no; kind = self } }
+    {
+        ListFault {
+            line,
+            record_no,
+            kind: self,
+        }
+    }
+}
+
+impl From<AllocError> for ListFault {
+    ghost from_gives = { λ _ fault. IsMemory fault };
+
+    fn from(_refused: AllocError) -> ListFault {
+        ListFaultKind::Memory.at(0, 0)
+    }
+}
+
+impl<T: Drop> From<AllocFailed<T>> for ListFault {
+    ghost from_gives = { λ _ fault. IsMemory fault };
+
+    fn from(_refused: AllocFailed<T>) -> ListFault {
+        ListFaultKind::Memory.at(0, 0)
+    }
+}

@@ -1,0 +1,21 @@
+//! IGMP messages and lists of them: what hosts report of the groups and sources that they want
+//! (RFC 3376).
+#![tactic(auto)]
+
+mod checksum;
+mod fault;
+mod laws;
+mod list;
+mod message;
+mod record;
+mod records;
+
+pub use fault::{ListFault, ListFaultKind};
+pub use laws::{lists_are_read_as_they_stand, messages_are_read_as_they_stand};
+pub use list::{ListRecords, ReportList};
+pub use message::{Message, MessageFault};
+pub use record::{Kind, Record, Sources};
+pub use records::Records;
+
+#[cfg(test)]
+mod tests;

@@ -1,0 +1,209 @@
+//! A report list: what the hosts of one LAN answer to one General Query, a message on each line.
+
+ghost use Rattle.std.specs.Prelude.{◌≡◌, ◌≢◌, ◌++◌, ◌<◌, ◌^◌, ◌⊎◌, List, [], length, unwrap_or, IfOk, IfErr, OnOk, OnErr, MatchResult};
+ghost use Rattle.mc_text.specs.LineView.{line_text};
+ghost use Rattle.mc_igmp.specs.declared.record.Record.{Record};
+ghost use Rattle.mc_igmp.specs.declared.fault.ListFaultKind.TheVariants.{BadHex};
+ghost use Rattle.hex.specs.declared.error.FromHexError.TheVariants as FromHexError;
+ghost use Rattle.mc_igmp.specs.Memory.{IsMemory, no_memory};
+ghost use Rattle.mc_igmp.specs.ReadingMessage.{read_message};
+ghost use Rattle.mc_igmp.specs.ReportList.{IsReportList};
+ghost use Rattle.mc_igmp.specs.ReadingList.{bytes_of_line, first_change, taken_records, read_line, read_list, fault_at};
+
+use crate::fault::{ListFault, ListFaultKind};
+use crate::message::{Message, MessageFault};
+use crate::record::{Kind, Record};
+use crate::records::Records;
+use hex::FromHexError;
+use mc_text::{Line, Lines, MAX_TEXT};
+use std::alloc::{AllocError, Global};
+use std::marker::Model;
+
+/// The greatest number of lines.
+const MAX_LINES: u32 = 65_536;
+
+/// The greatest line, in bytes: two digits for each byte of an IP packet's greatest payload.
+const MAX_LINE_LEN: usize = 131_030;
+
+/// The type of a Version 1 report.
+const VERSION_1_REPORT: u8 = 0x12;
+
+/// The type of a Version 2 report.
+const VERSION_2_REPORT: u8 = 0x16;
+
+/// Why the digits of a line could not be decoded.
+fn fault_of_digits(line: u32, error: FromHexError) -> ListFault
+    ensures memory { error ≡ FromHexError.OutOfMemory → IsMemory result }
+    ensures digits { error ≢ FromHexError.OutOfMemory → result ≡ fault_at line 0 BadHex }
+{
+    match error {
+        FromHexError::OutOfMemory => ListFaultKind::Memory.at(0, 0),
+        _ => ListFaultKind::BadHex.at(line, 0),
+    }
+}
+
+/// The bytes that a line's hexadecimal digits write.
+fn bytes_of_digits(alloc: Global, line: &Line<'_>) -> Result<Vec<u8>, ListFault>
+    ensures { MatchResult result
+        (λ bytes. bytes_of_line (line_text line.now) ≡ Ok bytes.items)
+        (λ fault. IsMemory fault ⊎ (bytes_of_line (line_text line.now) ≡ Err fault)) }
+{
+    if !line.ended {
+        return Err(ListFaultKind::Unended.at(line.number, 0));
+    }
+    if line.number > MAX_LINES || line.bytes.len() > MAX_LINE_LEN {
+        return Err(ListFaultKind::TooLarge.at(line.number, 0));
+    }
+    match hex::decode(alloc, line.bytes) {
+        Ok(bytes) => Ok(bytes),
+        Err(error) => Err(fault_of_digits(line.number, error)),
+    }
+}
+
+/// The number of the first record, counted from 1, that tells of a change.
+fn first_change_of(records: &Records<'_>) -> Option<u32>
+    requires { length records.now < 2 ^ 16 }
+    ensures { result ≡ first_change 1 records.now }
+{
+    let mut number = 0u32;
+    for record in records.iter() {
+        number += 1;
+        if let Kind::Change(_) = record.kind {
+            return Some(number);
+        }
+    }
+    None
+}
+
+/// The records of the message on a line, none if the list takes it and it is no report.
+fn records_taken(line: u32, bytes: &[u8]) -> Result<Option<Records<'_>>, ListFault>
+    ensures { MatchResult result
+        (λ records. taken_records line (read_message bytes.now) ≡ Ok (unwrap_or records []))
+        (λ fault. taken_records line (read_message bytes.now) ≡ Err fault) }
+{
+    match Message::parse(bytes) {
+        Ok(Message::Report(records)) => match first_change_of(&records) {
+            Some(number) => Err(ListFaultKind::StateChange.at(line, number)),
+            None => Ok(Some(records)),
+        },
+        Ok(Message::Other(VERSION_1_REPORT | VERSION_2_REPORT)) => {
+            Err(ListFaultKind::OlderReport.at(line, 0))
+        }
+        Ok(Message::Other(_)) => Ok(None),
+        Err(MessageFault::Short) => Err(ListFaultKind::Short.at(line, 0)),
+        Err(MessageFault::BadChecksum) => Err(ListFaultKind::BadChecksum.at(line, 0)),
+        Err(MessageFault::Truncated(number)) => Err(ListFaultKind::Truncated.at(line, number)),
+    }
+}
+
+/// The records of a LAN's reports, in the order of the list. Its value in contracts is the list of
+/// them.
+#[derive(Debug, Drop)]
+pub struct ReportList {
+    /// The number of the records.
+    count: usize,
+    /// The bytes of the records, one after another.
+    bytes: Vec<u8>,
+}
+
+impl Model for ReportList {
+    ghost use Rattle.std.specs.Prelude.{List};
+    ghost use Rattle.mc_igmp.specs.declared.record.Record.{Record};
+    ghost use Rattle.mc_igmp.specs.Records.{records_in, IsWhole};
+
+    ghost Value = { List Record };
+
+    ghost view = { λ s. records_in s.count s.bytes.items };
+
+    ghost invariant = { λ s. IsWhole s.count s.bytes.items };
+}
+
+impl ReportList {
+    /// Reads a report list: a message in hexadecimal on each line, with nothing else on it. The empty
+    /// text is a list without a record, and so is one of messages that are no reports. Reports of
+    /// versions 1 and 2, and records that tell of a change, are refused.
+    pub fn read(alloc: Global, text: &[u8]) -> Result<ReportList, ListFault>
+        // What is read are the records of the text's messages.
+        ensures found { IfOk result (λ records. IsReportList text.now records) }
+        // A text that stands for records is read as those, unless memory runs out.
+        ensures only { (records : List Record) → IsReportList text.now records →
+            (result ≡ Ok records) ⊎ (result ≡ Err no_memory) }
+        // Which fault it is, unless memory runs out.
+        ensures fault { (result ≡ read_list text.now) ⊎ (result ≡ Err no_memory) }
+    {
+        if text.len() > MAX_TEXT {
+            return Err(ListFaultKind::TooLarge.at(0, 0));
+        }
+        let mut list = ReportList {
+            count: 0,
+            bytes: Vec::new(alloc),
+        };
+        for line in Lines::new(text) {
+            list.push_line(alloc, &line)?;
+        }
+        Ok(list)
+    }
+
+    // Appends the records of the message on a line.
+    fn push_line(&mut self, alloc: Global, line: &Line<'_>) -> Result<(), ListFault>
+        ensures ok { OnOk result
+            ((records : List Record) × (read_line (line_text line.now) ≡ Ok records) × (self.new ≡ self.old ++ records)) }
+        ensures err { IfErr result (λ fault. IsMemory fault ⊎ (read_line (line_text line.now) ≡ Err fault)) }
+    {
+        let bytes = bytes_of_digits(alloc, line)?;
+        match records_taken(line.number, &bytes)? {
+            Some(records) => self.append(&records)?,
+            None => {}
+        }
+        Ok(())
+    }
+
+    // Appends records.
+    fn append(&mut self, records: &Records<'_>) -> Result<(), AllocError>
+        ensures ok { OnOk result (self.new ≡ self.old ++ records.now) }
+        ensures err { OnErr result (self.new ≡ self.old) }
+    {
+        let (count, bytes) = records.parts();
+        self.bytes.extend_from_slice(bytes)?;
+        self.count += count;
+        Ok(())
+    }
+
+    /// All records, in the order of the list.
+    pub fn records(&self) -> ListRecords<'_>
+        ensures { result ≡ self.now }
+    {
+        ListRecords {
+            records: Records::new(self.count, &self.bytes),
+        }
+    }
+}
+
+/// The records of a list, from the first. Its value in contracts is the list of those that are left.
+#[derive(Debug, Drop)]
+pub struct ListRecords<'a> {
+    records: Records<'a>,
+}
+
+impl<'a> Model for ListRecords<'a> {
+    ghost use Rattle.std.specs.Prelude.{List};
+    ghost use Rattle.mc_igmp.specs.declared.record.Record.{Record};
+
+    ghost Value = { List Record };
+
+    ghost view = { λ s. s.records };
+}
+
+impl<'a> Iterator for ListRecords<'a> {
+    type Item = Record<'a>;
+
+    ghost use Rattle.std.specs.Iterator.{YieldsFirst, item_count};
+
+    ghost next_gives = { YieldsFirst (λ left. left) };
+
+    ghost remaining = { item_count (λ left. left) };
+
+    fn next(&mut self) -> Option<Record<'a>> {
+        self.records.next()
+    }
+}

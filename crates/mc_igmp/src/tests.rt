@@ -1,0 +1,233 @@
+//! What no clause says: worked messages and lists, and what is printed of a fault.
+
+use super::*;
+use std::alloc::{AllocError, Global};
+use std::fmt::Write;
+use std::test::Fail;
+
+// A query, as the line of a list. It stands for no record.
+const QUERY: &str = "1164ee9b00000000";
+
+// EXCLUDE of nothing for 239.1.2.3.
+const ALL_SOURCES: &str = "2200eaf90000000102000000ef010203";
+
+// What a record says.
+fn push_record(out: &mut String, record: Record<'_>) -> Result<(), AllocError> {
+    let kind = record.kind;
+    let group = record.group;
+    write!(out, "{kind:?} {group}")?;
+    for source in record.sources.iter() {
+        write!(out, " {source}")?;
+    }
+    out.push_str(";")
+}
+
+// The records of a list, or its fault.
+fn list_shown(alloc: Global, text: &str) -> Result<String, AllocError> {
+    let mut out = String::new(alloc);
+    match ReportList::read(alloc, text.as_bytes()) {
+        Ok(list) => {
+            for record in list.records() {
+                push_record(&mut out, record)?;
+            }
+        }
+        Err(fault) => write!(out, "{fault}")?,
+    }
+    Ok(out)
+}
+
+// What a message is, or its fault.
+fn message_shown(alloc: Global, bytes: &[u8]) -> Result<String, AllocError> {
+    let mut out = String::new(alloc);
+    match Message::parse(bytes) {
+        Ok(Message::Report(records)) => {
+            for record in records {
+                push_record(&mut out, record)?;
+            }
+        }
+        Ok(Message::Other(message_type)) => write!(out, "type {message_type}")?,
+        Err(fault) => write!(out, "{fault}")?,
+    }
+    Ok(out)
+}
+
+// `count` copies of a text after one another.
+fn repeated(alloc: Global, text: &str, count: usize) -> Result<String, AllocError> {
+    let mut out = String::new(alloc);
+    for _ in 0..count {
+        out.push_str(text)?;
+    }
+    Ok(out)
+}
+
+#[test]
+fn messages(rt: HostRuntime) -> Result<(), Fail> {
+    let cases: [(&[u8], &str); 8] = [
+        (b"\x22\x00\xea\xf9\x00\x00\x00", "Short"),
+        (
+            b"\x22\x00\xea\xf8\x00\x00\x00\x01\x02\x00\x00\x00\xef\x01\x02\x03",
+            "BadChecksum",
+        ),
+        (b"\x00\x00\x00\x00\x00\x00\x00\x00", "BadChecksum"),
+        (b"\x22\x00\xdd\xfe\x00\x00\x00\x01", "Truncated 1"),
+        (
+            b"\x22\x00\xe9\xf8\x00\x00\x00\x02\x03\x00\x00\x00\xef\x01\x02\x03",
+            "Truncated 2",
+        ),
+        (b"\x11\x64\xee\x9b\x00\x00\x00\x00", "type 17"),
+        (b"\x16\x00\xf8\xfa\xef\x01\x02\x03", "type 22"),
+        (
+            b"\x22\x00\xe9\xf9\x00\x00\x00\x01\x03\x00\x00\x00\xef\x01\x02\x03",
+            "Change(3) 239.1.2.3;",
+        ),
+    ];
+    for (bytes, want) in cases {
+        let shown = message_shown(rt.alloc(), bytes)?;
+        assert_eq!(rt; shown.as_str(), want);
+    }
+    Ok(())
+}
+
+#[test]
+fn records_of_lists(rt: HostRuntime) -> Result<(), Fail> {
+    let cases = [
+        ("", ""),
+        ("2200eaf90000000102000000ef010203\n", "Exclude 239.1.2.3;"),
+        ("2200EAF90000000102000000EF010203\n", "Exclude 239.1.2.3;"),
+        (
+            "2200e0f30000000102000001ef0102030a000005\n",
+            "Exclude 239.1.2.3 10.0.0.5;",
+        ),
+        // Two messages, in the order of the lines.
+        (
+            "2200e0f30000000102000001ef0102030a000005\n2200e1f30000000101000001ef0102030a000005\n",
+            "Exclude 239.1.2.3 10.0.0.5;Include 239.1.2.3 10.0.0.5;",
+        ),
+        // A byte after the last record.
+        ("2200ebf80000000102000000ef010203ff\n", "Exclude 239.1.2.3;"),
+        // An unknown type of record, a query and a leave.
+        (
+            "2200e5f90000000107000000ef010203\n",
+            "Unknown(7) 239.1.2.3;",
+        ),
+        ("1164ee9b00000000\n1700f7faef010203\n", ""),
+        // One word of auxiliary data.
+        (
+            "22004d5b0000000102010000ef010203deadbeef\n",
+            "Exclude 239.1.2.3;",
+        ),
+        // What a Linux kernel sent, with another querier's query before it.
+        (
+            "1101ecfe0000000002000000\n\
+             2200e2de0000000201000001e80101010a00000902000002ef0102030a0000050a000006\n\
+             2200e1e00000000202000001e80101010a00000502000002ef0102030a0000060a000007\n\
+             2200e0f20000000102000001ef0102030a000006\n",
+            "Include 232.1.1.1 10.0.0.9;Exclude 239.1.2.3 10.0.0.5 10.0.0.6;\
+             Exclude 232.1.1.1 10.0.0.5;Exclude 239.1.2.3 10.0.0.6 10.0.0.7;\
+             Exclude 239.1.2.3 10.0.0.6;",
+        ),
+    ];
+    for (text, want) in cases {
+        let shown = list_shown(rt.alloc(), text)?;
+        assert_eq!(rt; shown.as_str(), want, "{text}");
+    }
+    Ok(())
+}
+
+// Each text is refused at its first line, and at the second one behind a good line.
+#[test]
+fn faults_of_lists(rt: HostRuntime) -> Result<(), Fail> {
+    let cases = [
+        ("2200eaf80000000102000000ef010203\n", "0: BadChecksum"),
+        ("2200e0f20000000102000002ef0102030a000005\n", "1: Truncated"),
+        ("2200ddff0000ffff\n", "1: Truncated"),
+        ("2200ddfe00000001\n", "1: Truncated"),
+        ("2200eaf9000000010200ffffef010203\n", "1: Truncated"),
+        ("2200e9fa0000000102ff0000ef010203\n", "1: Truncated"),
+        ("22000c4b0000000102010000ef010203dead\n", "1: Truncated"),
+        ("2200eaf90000000102000000ef010203", "0: Unended"),
+        ("\n", "0: Short"),
+        ("2200eaf9000000\n", "0: Short"),
+        ("2200eaf90000000\n", "0: BadHex"),
+        ("2200eaf90000000102000000ef010203 \n", "0: BadHex"),
+        ("2200eaf90000000102000000ef010203\r\n", "0: BadHex"),
+        ("1600f8faef010203\n", "0: OlderReport"),
+        ("1200fcfaef010203\n", "0: OlderReport"),
+        ("2200e9f90000000103000000ef010203\n", "1: StateChange"),
+        (
+            "2200f6f30000000202000000ef01020303000000ef010203\n",
+            "2: StateChange",
+        ),
+        // Two faults on a line.
+        ("2200e9f80000000203000000ef010203\n", "2: Truncated"),
+        ("1600f8fbef010203\n", "0: BadChecksum"),
+        ("220\n", "0: BadHex"),
+        ("zz", "0: Unended"),
+        // A fault on the next line too.
+        ("1600f8faef010203\nzz\n", "0: OlderReport"),
+        ("2200e9f90000000103000000ef010203\nzz", "1: StateChange"),
+    ];
+    for (text, want) in cases {
+        let first = format!(in rt.alloc(); "line 1 record {want}")?;
+        assert_eq!(rt;
+            list_shown(rt.alloc(), text)?.as_str(),
+            first.as_str(),
+            "{text}"
+        );
+        let after_another = format!(in rt.alloc(); "{ALL_SOURCES}\n{text}")?;
+        let second = format!(in rt.alloc(); "line 2 record {want}")?;
+        assert_eq!(rt;
+            list_shown(rt.alloc(), after_another.as_str())?.as_str(),
+            second.as_str(),
+            "{text}"
+        );
+    }
+    Ok(())
+}
+
+#[test]
+fn limits_of_lists(rt: HostRuntime) -> Result<(), Fail> {
+    // A query of 65,515 bytes, and one of a byte more.
+    let zeros = repeated(rt.alloc(), "00", 65_507)?;
+    let longest = format!(in rt.alloc(); "{QUERY}{zeros}\n")?;
+    assert_eq!(rt; list_shown(rt.alloc(), longest.as_str())?.as_str(), "");
+    let longer = format!(in rt.alloc(); "{ALL_SOURCES}\n{QUERY}{zeros}00\n")?;
+    assert_eq!(rt;
+        list_shown(rt.alloc(), longer.as_str())?.as_str(),
+        "line 2 record 0: TooLarge"
+    );
+    // 65,536 lines, and one more.
+    let mut lines = repeated(rt.alloc(), "1164ee9b00000000\n", 65_536)?;
+    assert_eq!(rt; list_shown(rt.alloc(), lines.as_str())?.as_str(), "");
+    lines.push_str("zz\n")?;
+    assert_eq!(rt;
+        list_shown(rt.alloc(), lines.as_str())?.as_str(),
+        "line 65537 record 0: TooLarge"
+    );
+    // 16,777,216 bytes, and one more.
+    let mut bytes = vec![in rt.alloc(); b'\n'; 16_777_216]?;
+    let fault = ReportList::read(rt.alloc(), &bytes)
+        .err()
+        .ok_or("a list of empty lines")?;
+    assert_eq!(rt;
+        fault,
+        ListFault {
+            line: 1,
+            record_no: 0,
+            kind: ListFaultKind::Short
+        }
+    );
+    bytes.push(b'\n')?;
+    let fault = ReportList::read(rt.alloc(), &bytes)
+        .err()
+        .ok_or("a list too large")?;
+    assert_eq!(rt;
+        fault,
+        ListFault {
+            line: 0,
+            record_no: 0,
+            kind: ListFaultKind::TooLarge
+        }
+    );
+    Ok(())
+}

@@ -1,0 +1,91 @@
+-- The look-ups of a cache answer by its table.
+use Rattle.std.proofs.Common.{◌≡◌, ℕ, Bool, true, false, ltb, arith, List, [], ◌∷◌, Option, Some, None, Bor, refl, sym, ap, ◌∙◌, inl, inr}
+use Rattle.std.specs.Prelude.{nat_eq, ◌||◌, is_some}
+use Rattle.std.specs.Option.{option_map, option_copied}
+use Rattle.std.specs.List.{filter_map, cons_option, list_any}
+use Rattle.std.specs.Ordering.{nat_cmp, eq_by_cmp}
+use Rattle.std.specs.Cmp.{unsigned_tied}
+use Rattle.std.specs.FinMap as map
+use Rattle.std.specs.FinSet as set
+use Rattle.std.proofs.lemmas.Bool.{cases_Bool, lt-ltb, eqb-false}
+use Rattle.std.proofs.lemmas.Cmp.{nat_cmp_total, nat_eq_equiv}
+use Rattle.mc_tables.specs.declared.entry.Entry.{Entry}
+use Rattle.mc_tables.specs.declared.cache_row.CacheRow.{CacheRow}
+use Rattle.mc_tables.specs.CacheTable.{key_cmp, same_key, exact_entry, key_of, entry_of_key, entry_at}
+
+-- a reference to an entry is there where the entry is
+pub is_some-copied : (o : Option (Bor Entry)) → is_some (option_copied o) ≡ is_some o
+is_some-copied None = refl
+is_some-copied (Some entry) = refl
+
+pub none_copied : (o : Option (Bor Entry)) → option_copied o ≡ None → o ≡ None
+none_copied None e = refl
+none_copied (Some entry) e = absurd cc
+
+-- a row that has no entry for the key is passed over
+skip_entry : (key : ℕ × ℕ) (o : Option ((ℕ × ℕ) × Entry)) (rest : List ((ℕ × ℕ) × Entry)) → entry_of_key key o ≡ None → map.find key_cmp key (cons_option o rest) ≡ map.find key_cmp key rest
+skip_entry key None rest e = refl
+skip_entry key (Some exact) rest e =
+    elim (cases_Bool (same_key key exact.0)) [ inl is ↦ absurd (let wrong = rw is at e in cc) | inr other ↦ rw other refl ]
+
+take_entry : (key : ℕ × ℕ) (o : Option ((ℕ × ℕ) × Entry)) (rest : List ((ℕ × ℕ) × Entry)) (entry : Entry) → entry_of_key key o ≡ Some entry → map.find key_cmp key (cons_option o rest) ≡ Some entry
+take_entry key None rest entry e = absurd cc
+take_entry key (Some exact) rest entry e =
+    elim (cases_Bool (same_key key exact.0)) [ inl is ↦ rw is (rw is at e) | inr other ↦ absurd (let wrong = rw other at e in cc) ]
+
+pub skip_row : (key : ℕ × ℕ) (row : CacheRow) (rows : List CacheRow) → entry_at key row ≡ None → map.find key_cmp key (filter_map exact_entry (row ∷ rows)) ≡ map.find key_cmp key (filter_map exact_entry rows)
+skip_row key row rows e = skip_entry key (exact_entry row) (filter_map exact_entry rows) e
+
+pub take_row : (key : ℕ × ℕ) (row : CacheRow) (rows : List CacheRow) (entry : Entry) → entry_at key row ≡ Some entry → map.find key_cmp key (filter_map exact_entry (row ∷ rows)) ≡ Some entry
+take_row key row rows entry e = take_entry key (exact_entry row) (filter_map exact_entry rows) entry e
+
+-- a row's key is among the keys where the rows have an entry for it
+key_of_entry : (key : ℕ × ℕ) (o : Option ((ℕ × ℕ) × Entry)) (entries : List ((ℕ × ℕ) × Entry)) (keys : List (ℕ × ℕ)) → is_some (map.find key_cmp key entries) ≡ list_any (same_key key) keys
+    → is_some (map.find key_cmp key (cons_option o entries)) ≡ list_any (same_key key) (cons_option (option_map (λ exact. exact.0) o) keys)
+key_of_entry key None entries keys same = same
+key_of_entry key (Some exact) entries keys same =
+    elim (cases_Bool (same_key key exact.0)) [ inl is ↦ rw is refl | inr other ↦ rw other same ]
+
+pub key_among : (key : ℕ × ℕ) (rows : List CacheRow) → is_some (map.find key_cmp key (filter_map exact_entry rows)) ≡ list_any (same_key key) (filter_map key_of rows)
+key_among key [] = refl
+key_among key (row ∷ rows) = key_of_entry key (exact_entry row) (filter_map exact_entry rows) (filter_map key_of rows) (key_among key rows)
+
+-- ---- no entry for 0.0.0.0
+
+-- (0, group) is not the key of a row whose origin isn't 0
+zero_apart : (group origin other : ℕ) → nat_eq origin 0 ≡ false → same_key (0, group) (origin, other) ≡ false
+zero_apart group origin other apart =
+    let positive : ltb 0 origin ≡ true = lt-ltb 0 origin (let h : origin ≡ 0 → ⊥ = eqb-false origin 0 apart in omega (arith, h)) in
+    rw positive refl
+
+apart_from_zero : (group : ℕ) (row : CacheRow) → nat_eq row.origin 0 ≡ false → (entry : Option Entry) → entry_of_key (0, group) (option_map (λ e. ((row.origin, row.group), e)) entry) ≡ None
+apart_from_zero group row other None = refl
+apart_from_zero group row other (Some entry) =
+    let apart : same_key (0, group) (row.origin, row.group) ≡ false = zero_apart group row.origin row.group other in
+    rw apart refl
+
+row_without : (group : ℕ) (row : CacheRow) → entry_at (0, group) row ≡ None
+row_without group row =
+    elim (cases_Bool (nat_eq row.origin 0)) [ inl is ↦ rw is refl | inr other ↦ rw other (apart_from_zero group row other row.entry) ]
+
+pub zero_absent : (group : ℕ) (rows : List CacheRow) → map.find key_cmp (0, group) (filter_map exact_entry rows) ≡ None
+zero_absent group [] = refl
+zero_absent group (row ∷ rows) = skip_row (0, group) row rows (row_without group row) ∙ zero_absent group rows
+
+-- ---- wildcards
+
+swap : (a b c d : Bool) → ((a || b) || (c || d)) ≡ ((a || c) || (b || d))
+swap true b c d = refl
+swap false true true d = refl
+swap false true false d = refl
+swap false false c d = refl
+
+either_group : (group : ℕ) (groups : List ℕ) → list_any (λ g. nat_eq g group || nat_eq g 0) groups ≡ (list_any (eq_by_cmp nat_cmp group) groups || list_any (eq_by_cmp nat_cmp 0) groups)
+either_group group [] = refl
+either_group group (g ∷ groups) =
+    rw (unsigned_tied group g, unsigned_tied 0 g, nat_eq_equiv.symm g group, nat_eq_equiv.symm g 0, either_group group groups)
+    (swap (nat_eq group g) (nat_eq 0 g) (list_any (eq_by_cmp nat_cmp group) groups) (list_any (eq_by_cmp nat_cmp 0) groups))
+
+pub wildcard_is : (group : ℕ) (groups : List ℕ) → list_any (λ g. nat_eq g group || nat_eq g 0) groups ≡ (set.contains (set.from_list {R = nat_cmp} groups) group || set.contains (set.from_list {R = nat_cmp} groups) 0)
+wildcard_is group groups =
+    either_group group groups ∙ sym (ap (λ b. b || set.contains (set.from_list {R = nat_cmp} groups) 0) (set.contains-from_list nat_cmp_total groups group) ∙ ap (λ b. list_any (eq_by_cmp nat_cmp group) groups || b) (set.contains-from_list nat_cmp_total groups 0))

@@ -1,0 +1,13 @@
+pub mod StepLemmas
+pub mod WordLemmas
+pub mod RowLemmas
+pub mod KeyLemmas
+pub mod VifLemmas
+pub mod VifLookupLemmas
+pub mod AddressLemmas
+pub mod ColonLemmas
+pub mod RowWordLemmas
+pub mod OifLemmas
+pub mod CacheLemmas
+pub mod CacheLookupLemmas
+pub mod LawLemmas

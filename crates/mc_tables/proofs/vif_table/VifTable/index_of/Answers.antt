@@ -1,0 +1,15 @@
+use Rattle.std.proofs.Common.{◌∙◌, sym, ap, subst}
+use Rattle.std.specs.Prelude.{IfSome}
+use Rattle.mc_tables.specs.VifLookups.{HasDevice, first_index_with}
+use Rattle.mc_tables.proofs.VifLookupLemmas.{index_found_in_map, index_only_in_map}
+use Rattle.mc_tables.proofs.vif_table.VifTable.index_of.Goals as goal
+
+pub returns-clause-found : goal.returns-clause-found
+returns-clause-found c =
+    let is = c.index_with_device.ensures ∙ ap (first_index_with c.args.device.now) c.as_slice.ensures.value in
+    subst (λ vifs. IfSome c.index_with_device.result (λ index. HasDevice vifs index c.args.device.now)) c.self.view_is (index_found_in_map c.args.device.now c.self.inside.vifs.items c.index_with_device.result c.self.invariant.0 is)
+
+pub returns-clause-only : goal.returns-clause-only
+returns-clause-only c =
+    let is = c.index_with_device.ensures ∙ ap (first_index_with c.args.device.now) c.as_slice.ensures.value in
+    λ index some has. is ∙ index_only_in_map c.args.device.now c.self.inside.vifs.items index some c.self.invariant.1 (subst (λ vifs. HasDevice vifs index c.args.device.now) (sym c.self.view_is) has)

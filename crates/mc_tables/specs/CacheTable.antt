@@ -1,0 +1,126 @@
+-- What a text of /proc/net/ip_mr_cache says (ipmr_mfc_seq_show in net/ipv4/ipmr.c, which writes a line by
+-- "%08X %08X %-3hd", " %8lu %8lu %8lu" and for each outgoing vif " %2d:%-3d").
+use Rattle.std.specs.Prelude.{◌≡◌, ℕ, ◌≤◌, ◌==◌, nat_eq, Bool, IsTrue, List, [], ◌∷◌, ◌++◌, length, map as map_list, Option, Some, None, if◌then◌else◌, codes, refl}
+use Rattle.std.specs.List.{IsDistinct, filter_map}
+use Rattle.std.specs.Option.{option_map}
+use Rattle.std.specs.Ordering.{nat_cmp, ordering_then, eq_by_cmp}
+use Rattle.std.specs.declared.cmp.Ordering.{Ordering}
+use Rattle.std.specs.Coded.{Coded, code_by, coded×, coded_list, coded_ℕ}
+use Rattle.std.specs.FinMap as map
+use Rattle.std.specs.FinSet as set
+use Rattle.mc_text.specs.declared.addr.Order.{Order}
+use Rattle.mc_text.specs.Lines.{LineText}
+use Rattle.mc_text.specs.Words.{words_of}
+use Rattle.mc_tables.specs.declared.entry.Oif.{Oif}
+use Rattle.mc_tables.specs.declared.entry.Entry.{Entry}
+use Rattle.mc_tables.specs.declared.cache_row.CacheRow.{CacheRow}
+use Rattle.mc_tables.specs.TableWords.{is_counter, WritesNumber, WritesAddress}
+use Rattle.mc_tables.specs.TableLines.{HasHeader, EachTells}
+
+-- ---- the lines
+
+-- `n:t` writes an outgoing vif and its threshold
+pub record WritesOif (word : List ℕ) (oif : ℕ × ℕ) : Type 0 where
+  pub vif : List ℕ
+  pub threshold : List ℕ
+  pub colon : word ≡ vif ++ 58 ∷ threshold
+  pub vif_number : WritesNumber 0 31 vif oif.0
+  pub threshold_number : WritesNumber 1 254 threshold oif.1
+
+-- a map from vifs to thresholds, as the list of outgoing vifs by ascending vif
+abbrev pub to_oif : ℕ × ℕ → Oif
+to_oif o = record { vif = o.0; threshold = o.1 }
+
+abbrev pub by_vif : map.FinMap nat_cmp ℕ → List Oif
+by_vif thresholds = map_list to_oif (map.entries thresholds)
+
+-- words that write outgoing vifs, each vif once
+pub record WriteOifs (words : List (List ℕ)) (oifs : List Oif) : Type 0 where
+  pub told : List (ℕ × ℕ)
+  pub each : EachTells WritesOif words told
+  pub vifs_differ : IsDistinct nat_eq (map_list (λ oif. oif.0) told)
+  pub ascending : oifs ≡ by_vif (map.from_entries told)
+
+-- the word of an incoming vif and the outgoing words: `-1` alone in an unresolved row
+abbrev pub WriteEntry : List ℕ → List (List ℕ) → Option Entry → Type 0
+WriteEntry iif outgoing None = (iif ≡ codes "-1") × (outgoing ≡ [])
+WriteEntry iif outgoing (Some entry) = WritesNumber 0 31 iif entry.iif × WriteOifs outgoing entry.oifs
+
+-- Words tell a row: group, origin, incoming vif, packets, bytes, packets from a wrong vif, and the outgoing vifs.
+abbrev pub WordsTellRow : Order → List (List ℕ) → CacheRow → Type 0
+WordsTellRow order (group ∷ origin ∷ iif ∷ packets ∷ bytes ∷ wrong ∷ outgoing) row =
+    WritesAddress order group row.group × WritesAddress order origin row.origin
+    × IsTrue (is_counter packets) × IsTrue (is_counter bytes) × IsTrue (is_counter wrong)
+    × WriteEntry iif outgoing row.entry
+WordsTellRow order words row = ⊥
+
+-- a line that a line feed ends
+pub record LineTellsRow (order : Order) (line : LineText) (row : CacheRow) : Type 0 where
+  pub ended : IsTrue line.ended
+  pub words : WordsTellRow order (words_of line.bytes) row
+
+-- ---- the rows
+
+-- sources and groups, by source and then by group
+abbrev pub key_cmp : ℕ × ℕ → ℕ × ℕ → Ordering
+key_cmp x y = ordering_then (nat_cmp x.0 y.0) (nat_cmp x.1 y.1)
+
+abbrev pub same_key : ℕ × ℕ → ℕ × ℕ → Bool
+same_key = eq_by_cmp key_cmp
+
+-- the source, the group and the entry of a resolved row whose source isn't 0.0.0.0
+abbrev pub exact_entry : CacheRow → Option ((ℕ × ℕ) × Entry)
+exact_entry row = if row.origin == 0 then None else option_map (λ entry. ((row.origin, row.group), entry)) row.entry
+
+abbrev pub key_of : CacheRow → Option (ℕ × ℕ)
+key_of row = option_map (λ exact. exact.0) (exact_entry row)
+
+-- the group of a resolved row for every source
+abbrev pub wildcard_of : CacheRow → Option ℕ
+wildcard_of row = if row.origin == 0 then option_map (λ _. row.group) row.entry else None
+
+-- a text of these rows, in the order of its lines
+pub record AreCacheRows (order : Order) (text : List ℕ) (rows : List CacheRow) : Type 0 where
+  pub lines : List LineText
+  pub header : HasHeader (codes "Group") text lines
+  pub told : EachTells (LineTellsRow order) lines rows
+  pub count : length rows ≤ 65536
+  pub keys_differ : IsDistinct same_key (filter_map key_of rows)
+
+-- ---- the table
+
+-- the entries by source and group, and the groups of the rows for every source
+pub record CacheText : Type 0 where
+  pub entries : map.FinMap key_cmp Entry
+  pub wildcards : set.FinSet nat_cmp
+
+abbrev pub table_of : List CacheRow → CacheText
+table_of rows = record { entries = map.from_entries (filter_map exact_entry rows); wildcards = set.from_list (filter_map wildcard_of rows) }
+
+-- a text stands for a table
+pub record StandsForCache (order : Order) (text : List ℕ) (table : CacheText) : Type 0 where
+  pub rows : List CacheRow
+  pub lines : AreCacheRows order text rows
+  pub as_table : table ≡ table_of rows
+
+-- a table is stored as its fields
+abbrev pub oif_code : Coded Oif
+oif_code = code_by (ℕ × ℕ) (coded× coded_ℕ coded_ℕ) (λ o. (o.vif, o.threshold)) (λ p. record { vif = p.0; threshold = p.1 }) (λ _. refl)
+
+abbrev pub entry_code : Coded Entry
+entry_code = code_by (ℕ × List Oif) (coded× coded_ℕ (coded_list oif_code)) (λ e. (e.iif, e.oifs)) (λ p. record { iif = p.0; oifs = p.1 }) (λ _. refl)
+
+abbrev pub cache_code : Coded CacheText
+cache_code =
+    code_by (map.FinMap key_cmp Entry × set.FinSet nat_cmp) (coded× (map.code (coded× coded_ℕ coded_ℕ) entry_code) (set.code coded_ℕ))
+    (λ t. (t.entries, t.wildcards)) (λ p. record { entries = p.0; wildcards = p.1 }) (λ _. refl)
+
+-- ---- the look-up of one row
+
+-- the entry, if it is this key's
+abbrev pub entry_of_key : ℕ × ℕ → Option ((ℕ × ℕ) × Entry) → Option Entry
+entry_of_key key None = None
+entry_of_key key (Some exact) = if same_key key exact.0 then Some exact.1 else None
+
+abbrev pub entry_at : ℕ × ℕ → CacheRow → Option Entry
+entry_at key row = entry_of_key key (exact_entry row)

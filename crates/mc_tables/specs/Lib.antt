@@ -1,0 +1,17 @@
+pub mod Memory
+pub mod Steps
+pub mod TableWords
+pub mod TableLines
+pub mod VifTable
+pub mod VifReading
+pub mod VifWords
+pub mod VifLookups
+pub mod CacheTable
+pub mod CacheReading
+pub mod CacheWords
+pub use Rattle.mc_text.specs.Addr
+pub use Rattle.mc_text.specs.AddressWord
+pub use Rattle.mc_text.specs.Lines
+pub use Rattle.mc_text.specs.Number
+pub use Rattle.mc_text.specs.Words
+pub use Rattle.mc_text.specs.Hex

@@ -1,0 +1,19 @@
+-- Reading in steps, of which the first that fails gives the fault.
+use Rattle.std.specs.Prelude.{ℕ, Bool, Result, Ok, Err, if◌then◌else◌}
+use Rattle.mc_tables.specs.declared.fault.TableFault.{TableFault}
+use Rattle.mc_tables.specs.declared.fault.TableFaultKind.{TableFaultKind}
+
+-- the next step is taken with the value of the one before
+infixl 10 ◌>>=◌
+abbrev pub ◌>>=◌ : {A B E : Type 0} → Result A E → (A → Result B E) → Result B E
+Ok x >>= f = f x
+Err e >>= f = Err e
+
+-- a test that has to be met
+abbrev pub demand : {E : Type 0} → Bool → E → Result (Unit {0}) E
+demand test fault = if test then Ok tt else Err fault
+
+-- a fault of this line
+abbrev pub at_line : {A : Type 0} → ℕ → Result A TableFaultKind → Result A TableFault
+at_line line (Ok x) = Ok x
+at_line line (Err k) = Err (record { line = line; kind = k })

@@ -1,0 +1,52 @@
+-- The kernel's tables line by line: a header, and then a line for each row.
+use Rattle.std.specs.Prelude.{◌≡◌, ℕ, ◌≤◌, nat_lt, Bool, false, IsTrue, List, [], ◌∷◌, ◌++◌, length, Option, Some, None, Result, Ok, Err, if◌then◌else◌}
+use Rattle.std.specs.List.{list_any}
+use Rattle.std.specs.Str.{bytes_eq}
+use Rattle.mc_text.specs.Lines.{LineText, lines_of}
+use Rattle.mc_text.specs.Words.{words_of}
+use Rattle.mc_tables.specs.declared.fault.TableFault.{TableFault}
+use Rattle.mc_tables.specs.declared.fault.TableFaultKind.TheVariants.{NoHeader, Unended, TooLarge}
+use Rattle.mc_tables.specs.Steps.{◌>>=◌, demand, at_line}
+
+-- ---- what a text says
+
+-- the words have this one first
+abbrev pub begins_with : List ℕ → List (List ℕ) → Bool
+begins_with first [] = false
+begins_with first (word ∷ words) = bytes_eq word first
+
+-- The text has at most 16,777,216 bytes. A line feed ends its header, whose first word is this one, and these are the
+-- lines after the header.
+pub record HasHeader (first : List ℕ) (text : List ℕ) (lines : List LineText) : Type 0 where
+  pub size : length text ≤ 16777216
+  pub header : LineText
+  pub whole : lines_of text ≡ header ∷ lines
+  pub ended : IsTrue header.ended
+  pub begins : IsTrue (begins_with first (words_of header.bytes))
+
+-- each line tells its row, in order
+abbrev pub EachTells : {L R : Type 0} → (L → R → Type 0) → List L → List R → Type 0
+EachTells Tells [] [] = Unit {0}
+EachTells Tells [] (row ∷ rows) = ⊥
+EachTells Tells (line ∷ lines) [] = ⊥
+EachTells Tells (line ∷ lines) (row ∷ rows) = Tells line row × EachTells Tells lines rows
+
+-- what the row has is among what the earlier rows have
+abbrev pub is_among : {K : Type 0} → (K → K → Bool) → Option K → List K → Bool
+is_among same None earlier = false
+is_among same (Some key) earlier = list_any (same key) earlier
+
+-- ---- what reading gives
+
+-- the lines after the header
+abbrev pub header_in : List ℕ → List LineText → Result (List LineText) TableFault
+header_in first [] = Err (record { line = 1; kind = NoHeader })
+header_in first (header ∷ lines) = at_line 1 (demand header.ended Unended >>= λ _. demand (begins_with first (words_of header.bytes)) NoHeader) >>= λ _. Ok lines
+
+abbrev pub lines_in : List ℕ → List ℕ → Result (List LineText) TableFault
+lines_in first text = if nat_lt 16777216 (length text) then Err (record { line = 0; kind = TooLarge }) else header_in first (lines_of text)
+
+-- the rows of the lines, each of which is read after the earlier ones
+abbrev pub rows_after : {L R E : Type 0} → (List R → L → Result R E) → List R → List L → Result (List R) E
+rows_after row_in earlier [] = Ok earlier
+rows_after row_in earlier (line ∷ lines) = row_in earlier line >>= λ row. rows_after row_in (earlier ++ row ∷ []) lines

@@ -1,0 +1,73 @@
+-- The words of the kernel's tables: what each kind of word is, and the value that it writes.
+use Rattle.std.specs.Prelude.{ℕ, ◌≤◌, ◌^◌, ◌==◌, nat_lt, nat_le, Bool, not, ◌&&◌, ◌||◌, List, length, drop, reverse, slice_index, Option, Some, None, Result, Ok, Err, if◌then◌else◌}
+use Rattle.std.specs.Char.{digit_value, is_ascii_digit, is_ascii_hexdigit}
+use Rattle.std.specs.List.{list_all}
+use Rattle.std.specs.Int.{w32, from_be_bytes}
+use Rattle.std.specs.Str.{bytes_eq}
+use Rattle.std.specs.Str.Parse.{digits_value}
+use Rattle.mc_text.specs.Hex.{decode_of}
+use Rattle.mc_text.specs.declared.addr.Order.{Order}
+use Rattle.mc_text.specs.declared.addr.Order.TheVariants.{Little, Big}
+use Rattle.mc_text.specs.Addr.{IsAddr}
+use Rattle.mc_text.specs.AddressWord.{printed_octets, IsAddressWord}
+use Rattle.mc_text.specs.Number.{IsDecimal}
+
+-- ---- words whose value is not used
+
+-- the digits after a `-`, if one stands first
+abbrev pub unsigned : List ℕ → List ℕ
+unsigned word = if slice_index word 0 == 45 then drop 1 word else word
+
+-- one to twenty decimal digits, with one `-` before them allowed
+abbrev pub is_counter : List ℕ → Bool
+is_counter word = (nat_le 1 (length (unsigned word)) && nat_le (length (unsigned word)) 20) && list_all is_ascii_digit (unsigned word)
+
+-- so many hexadecimal digits of either case, and nothing else
+abbrev pub is_hexadecimal : ℕ → ℕ → List ℕ → Bool
+is_hexadecimal least most word = (nat_le least (length word) && nat_le (length word) most) && list_all is_ascii_hexdigit word
+
+-- ---- numbers
+
+-- the word writes in decimal the number n, from least to most
+abbrev pub WritesNumber : ℕ → ℕ → List ℕ → ℕ → Type 0
+WritesNumber least most word n = IsDecimal word n × (least ≤ n) × (n ≤ most)
+
+-- the number that it writes
+abbrev pub is_decimal : List ℕ → Bool
+is_decimal word = nat_lt 0 (length word) && list_all (λ c. nat_lt (digit_value c) 10) word
+
+abbrev pub number_in : ℕ → ℕ → List ℕ → Option ℕ
+number_in least most word =
+    if is_decimal word && (nat_le least (digits_value 10 word) && nat_le (digits_value 10 word) most) then Some (digits_value 10 word) else None
+
+-- ---- devices
+
+-- a byte that a device's name may have: no space, tab, line feed or the like (0x09 to 0x0D), `/` or `:`
+abbrev pub is_device_byte : ℕ → Bool
+is_device_byte b = not ((nat_le 9 b && nat_le b 13) || ((b == 32) || ((b == 47) || (b == 58))))
+
+-- a network device's name (dev_valid_name in net/core/dev.c, IFNAMSIZ in linux/if.h)
+abbrev pub is_device : List ℕ → Bool
+is_device word = (nat_le 1 (length word) && nat_le (length word) 15) && list_all is_device_byte word
+
+-- ---- addresses
+
+-- the word shows the address a
+abbrev pub WritesAddress : Order → List ℕ → ℕ → Type 0
+WritesAddress order word a = IsAddr a × IsAddressWord order word a
+
+-- the address whose octets are these, in the order of the digits
+abbrev pub octets_in_order : Order → List ℕ → List ℕ
+octets_in_order Big octets = octets
+octets_in_order Little octets = reverse octets
+
+abbrev pub address_printed : Order → List ℕ → ℕ → Option ℕ
+address_printed order octets a = if bytes_eq (printed_octets order a) octets && nat_lt a (2 ^ 32) then Some a else None
+
+abbrev pub address_of_octets : {E : Type 0} → Order → Result (List ℕ) E → Option ℕ
+address_of_octets order (Ok octets) = address_printed order octets (from_be_bytes w32 (octets_in_order order octets))
+address_of_octets order (Err e) = None
+
+-- the address that the word shows
+abbrev pub address_in : Order → List ℕ → Option ℕ
+address_in order word = address_of_octets order (decode_of word)

@@ -1,0 +1,15 @@
+-- What the look-ups of a vif table answer.
+use Rattle.std.specs.Prelude.{◌≡◌, ℕ, List, [], ◌∷◌, Option, Some, None, IsSomeAnd, if◌then◌else◌}
+use Rattle.std.specs.Ordering.{nat_cmp}
+use Rattle.std.specs.Str.{bytes_eq}
+use Rattle.std.specs.FinMap.{FinMap, get}
+use Rattle.mc_tables.specs.VifTable.{VifText}
+
+-- the vif of this index has this device
+abbrev pub HasDevice : FinMap nat_cmp VifText → ℕ → List ℕ → Type 0
+HasDevice vifs index device = IsSomeAnd (get vifs index) (λ vif. vif.device ≡ device)
+
+-- the index of the first row with this device
+abbrev pub first_index_with : List ℕ → List (ℕ × VifText) → Option ℕ
+first_index_with device [] = None
+first_index_with device (row ∷ rows) = if bytes_eq row.1.device device then Some row.0 else first_index_with device rows

@@ -1,0 +1,74 @@
+-- What a text of /proc/net/ip_mr_vif says (ipmr_vif_seq_show in net/ipv4/ipmr.c, which writes a line by
+-- "%2td %-10s %8ld %7ld  %8ld %7ld %05X %08X %08X\n").
+use Rattle.std.specs.Prelude.{◌≡◌, ℕ, ◌==◌, nat_eq, Bool, not, bit_and, IsTrue, List, [], ◌∷◌, map, Option, Some, None, if◌then◌else◌, codes, refl}
+use Rattle.std.specs.List.{IsDistinct, filter_map}
+use Rattle.std.specs.Ordering.{nat_cmp}
+use Rattle.std.specs.Str.{bytes_eq}
+use Rattle.std.specs.Str.Parse.{digits_value}
+use Rattle.std.specs.Coded.{Coded, code_by, coded×, coded_list, coded_ℕ, coded_bool}
+use Rattle.std.specs.FinMap.{FinMap, from_entries}
+use Rattle.mc_text.specs.Lines.{LineText}
+use Rattle.mc_text.specs.Words.{words_of}
+use Rattle.mc_tables.specs.TableWords.{is_counter, is_hexadecimal, is_device, WritesNumber}
+use Rattle.mc_tables.specs.TableLines.{HasHeader, EachTells}
+
+-- a virtual interface of the kernel: its device, and whether it is a tunnel or a register interface
+pub record VifText : Type 0 where
+  pub device : List ℕ
+  pub tunnel : Bool
+  pub register : Bool
+
+-- a vif is stored as its fields
+abbrev pub vif_code : Coded VifText
+vif_code =
+    code_by (List ℕ × (Bool × Bool)) (coded× (coded_list coded_ℕ) (coded× coded_bool coded_bool)) (λ v. (v.device, (v.tunnel, v.register)))
+    (λ p. record { device = p.0; tunnel = p.1.0; register = p.1.1 }) (λ _. refl)
+
+-- VIFF_TUNNEL (0x1) and VIFF_REGISTER (0x4) of linux/mroute.h
+abbrev pub is_tunnel : ℕ → Bool
+is_tunnel flags = not (bit_and flags 0x1 == 0)
+
+abbrev pub is_register : ℕ → Bool
+is_register flags = not (bit_and flags 0x4 == 0)
+
+-- the kernel's word for a vif without a device, which is no device's name here
+abbrev pub no_device : List ℕ
+no_device = codes "none"
+
+-- the flags in hexadecimal (`%05X`), of which the other bits are not used
+pub record WritesFlags (word : List ℕ) (vif : VifText) : Type 0 where
+  pub digits : IsTrue (is_hexadecimal 5 8 word)
+  pub tunnel : vif.tunnel ≡ is_tunnel (digits_value 16 word)
+  pub register : vif.register ≡ is_register (digits_value 16 word)
+
+-- Nine words tell a vif and its index: index, device, bytes in, packets in, bytes out, packets out, flags, local address
+-- (or interface index) and remote address.
+abbrev pub WordsTellVif : List (List ℕ) → ℕ × VifText → Type 0
+WordsTellVif (index ∷ device ∷ bytes_in ∷ packets_in ∷ bytes_out ∷ packets_out ∷ flags ∷ local ∷ remote ∷ []) row =
+    WritesNumber 0 31 index row.0 × (IsTrue (is_device device) × (row.1.device ≡ device))
+    × IsTrue (is_counter bytes_in) × IsTrue (is_counter packets_in) × IsTrue (is_counter bytes_out) × IsTrue (is_counter packets_out)
+    × WritesFlags flags row.1 × IsTrue (is_hexadecimal 8 8 local) × IsTrue (is_hexadecimal 8 8 remote)
+WordsTellVif words row = ⊥
+
+-- a line that a line feed ends
+pub record LineTellsVif (line : LineText) (row : ℕ × VifText) : Type 0 where
+  pub ended : IsTrue line.ended
+  pub words : WordsTellVif (words_of line.bytes) row
+
+-- the device of a vif that has one
+abbrev pub device_of : ℕ × VifText → Option (List ℕ)
+device_of row = if bytes_eq row.1.device no_device then None else Some row.1.device
+
+-- a text of these vifs with their indexes, in the order of its lines
+pub record AreVifRows (text : List ℕ) (rows : List (ℕ × VifText)) : Type 0 where
+  pub lines : List LineText
+  pub header : HasHeader (codes "Interface") text lines
+  pub told : EachTells LineTellsVif lines rows
+  pub indexes_differ : IsDistinct nat_eq (map (λ row. row.0) rows)
+  pub devices_differ : IsDistinct bytes_eq (filter_map device_of rows)
+
+-- a text stands for a map from indexes to vifs
+pub record StandsForVifs (text : List ℕ) (vifs : FinMap nat_cmp VifText) : Type 0 where
+  pub rows : List (ℕ × VifText)
+  pub lines : AreVifRows text rows
+  pub as_map : vifs ≡ from_entries rows

@@ -1,0 +1,116 @@
+//! Why a kernel's table is refused.
+
+ghost use Rattle.std.specs.Prelude.{◌≡◌};
+ghost use Rattle.mc_tables.specs.declared.fault.TableFaultKind.TheVariants.{Memory};
+ghost use Rattle.mc_tables.specs.Memory.{out_of_memory};
+
+use std::alloc::{AllocError, AllocFailed};
+use thiserror::Error;
+
+/// What is wrong with a table.
+#[derive(Clone, Copy, Debug, PartialEq, Eq, Error)]
+pub enum TableFaultKind {
+    /// (1) The first line's first word isn't the table's.
+    #[error("NoHeader")]
+    NoHeader,
+    /// (2) No line feed ends the line.
+    #[error("Unended")]
+    Unended,
+    /// (3) The line has too few or too many words.
+    #[error("WordCount")]
+    WordCount,
+    /// (4) The index isn't a number from 0 to 31.
+    #[error("BadIndex")]
+    BadIndex,
+    /// (5) The word can't be a device's name.
+    #[error("BadDevice")]
+    BadDevice,
+    /// (6) A counter isn't one to twenty digits.
+    #[error("BadCounter")]
+    BadCounter,
+    /// (7) The flags aren't five to eight hexadecimal digits.
+    #[error("BadFlags")]
+    BadFlags,
+    /// (8) An address isn't eight hexadecimal digits.
+    #[error("BadAddress")]
+    BadAddress,
+    /// (9) An earlier line has the index.
+    #[error("RepeatedIndex")]
+    RepeatedIndex,
+    /// (10) An earlier line has the device.
+    #[error("RepeatedDevice")]
+    RepeatedDevice,
+    /// (11) The incoming vif is neither a number from 0 to 31 nor `-1`.
+    #[error("BadIif")]
+    BadIif,
+    /// (12) An outgoing word isn't a number from 0 to 31, one colon and a threshold.
+    #[error("BadOif")]
+    BadOif,
+    /// (13) A threshold isn't a number from 1 to 254.
+    #[error("BadThreshold")]
+    BadThreshold,
+    /// (14) An earlier word of the line has the outgoing vif.
+    #[error("RepeatedOif")]
+    RepeatedOif,
+    /// (15) An earlier line has the source and the group.
+    #[error("RepeatedEntry")]
+    RepeatedEntry,
+    /// (16) The text has too many bytes or rows.
+    #[error("TooLarge")]
+    TooLarge,
+    /// (17) Memory ran out.
+    #[error("Memory")]
+    Memory,
+}
+
+impl TableFaultKind {
+    /// The fault of this kind at a line.
+    pub(crate) fn at(self, line: u32) -> TableFault
+        ensures line { result.line ≡ line }
+        ensures kind { result.kind ≡ self }
+    {
+        TableFault { line, kind: self }
+    }
+}
+
+/// The first fault of a table.
+#[derive(Clone, Copy, Debug, PartialEq, Eq, Error)]
+#[error("line {line}: {kind}")]
+pub struct TableFault {
+    /// The line, counted from 1, or 0 where no line is meant.
+    pub line: u32,
+    /// What is wrong there.
+    pub kind: TableFaultKind,
+}
+
+impl From<AllocError> for TableFaultKind {
+    ghost from_gives = { λ _ kind. kind ≡ Memory };
+
+    fn from(_refused: AllocError) -> TableFaultKind {
+        TableFaultKind::Memory
+    }
+}
+
+impl<T: Drop> From<AllocFailed<T>> for TableFaultKind {
+    ghost from_gives = { λ _ kind. kind ≡ Memory };
+
+    fn from(_refused: AllocFailed<T>) -> TableFaultKind {
+        TableFaultKind::Memory
+    }
+}
+
+impl From<AllocError> for TableFault {
+    ghost from_gives = { λ _ fault. fault ≡ out_of_memory };
+
+    fn from(_refused: AllocError) -> TableFault {
+        TableFaultKind::Memory.at(0)
+    }
+}
+
+impl<T: Drop> From<AllocFailed<T>> for TableFault {
+    ghost from_gives = { λ _ fault. fault ≡ out_of_memory };
+
+    fn from(_refused: AllocFailed<T>) -> TableFault {
+        TableFaultKind::Memory.at(0)
+    }
+}

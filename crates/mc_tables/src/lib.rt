@@ -1,0 +1,26 @@
+//! The multicast forwarding tables of a Linux router as its kernel shows them: the texts of
+//! `/proc/net/ip_mr_vif` and `/proc/net/ip_mr_cache`.
+#![tactic(auto)]
+
+mod cache_line;
+mod cache_row;
+mod cache_table;
+mod entry;
+mod fault;
+mod laws;
+mod outgoing;
+mod table_lines;
+mod table_words;
+mod vif;
+mod vif_line;
+mod vif_table;
+
+pub use cache_table::CacheTable;
+pub use entry::{Entry, Oif, Oifs};
+pub use fault::{TableFault, TableFaultKind};
+pub use laws::{devices_have_one_vif, texts_stand_for_one_table, vifs_are_numbered_to_31};
+pub use vif::Vif;
+pub use vif_table::VifTable;
+
+#[cfg(test)]
+mod tests;

@@ -1,0 +1,63 @@
+//! The words of the kernel's tables.
+
+ghost use Rattle.std.specs.Prelude.{◌≡◌, ◌&&◌, nat_le, length};
+ghost use Rattle.std.specs.List.{list_all};
+ghost use Rattle.std.specs.Char.{is_ascii_digit, is_ascii_hexdigit};
+ghost use Rattle.mc_tables.specs.TableWords.{unsigned, is_counter, is_hexadecimal, number_in};
+
+use mc_text::decimal;
+
+/// Reads a decimal number from `least` to `most`.
+pub fn number(word: &[u8], least: u8, most: u8) -> Option<u8>
+    ensures { result ≡ number_in least most word.now }
+{
+    let number = decimal(word, u64::from(most))?;
+    if number < u64::from(least) {
+        return None;
+    }
+    Some(number as u8)
+}
+
+/// Whether the word is one to twenty decimal digits, with one `-` before them allowed.
+pub fn is_counter_word(word: &[u8]) -> bool
+    ensures { result ≡ is_counter word.now }
+{
+    let digits = without_minus(word);
+    has_length(digits, 1, 20) && are_decimal_digits(digits)
+}
+
+/// The word without a `-` at its front.
+fn without_minus(word: &[u8]) -> &[u8]
+    ensures { result.now ≡ unsigned word.now }
+{
+    match word {
+        [b'-', digits @ ..] => digits,
+        _ => word,
+    }
+}
+
+fn are_decimal_digits(word: &[u8]) -> bool
+    ensures { result ≡ list_all is_ascii_digit word.now }
+{
+    word.iter().all(|byte| byte.is_ascii_digit())
+}
+
+/// Whether the word is `least` to `most` hexadecimal digits of either case.
+pub fn is_hexadecimal_word(word: &[u8], least: usize, most: usize) -> bool
+    ensures { result ≡ is_hexadecimal least most word.now }
+{
+    has_length(word, least, most) && are_hexadecimal_digits(word)
+}
+
+fn are_hexadecimal_digits(word: &[u8]) -> bool
+    ensures { result ≡ list_all is_ascii_hexdigit word.now }
+{
+    word.iter().all(|byte| byte.is_ascii_hexdigit())
+}
+
+/// Whether the word has `least` to `most` bytes.
+pub fn has_length(word: &[u8], least: usize, most: usize) -> bool
+    ensures { result ≡ (nat_le least (length word.now) && nat_le (length word.now) most) }
+{
+    least <= word.len() && word.len() <= most
+}

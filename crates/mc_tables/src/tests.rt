@@ -1,0 +1,4 @@
+//! What no clause says: worked texts, and texts of a kernel.
+
+mod caches;
+mod vifs;

@@ -1,0 +1,297 @@
+//! Texts of `/proc/net/ip_mr_cache`.
+
+use crate::{CacheTable, Oif, Oifs, TableFault, TableFaultKind};
+use mc_text::{Addr, Order};
+use std::test::Fail;
+
+const SOURCE: [u8; 4] = [10, 0, 0, 5];
+
+const GROUP: [u8; 4] = [239, 1, 2, 3];
+
+/// A line as a kernel pads it.
+const PADDED: &[u8] = b"Group    Origin   Iif     Pkts    Bytes    Wrong Oifs
+030201EF 0500000A 0         12     1200        0  1:1  
+";
+
+/// The same of a big-endian router, in small letters and with leading zeros.
+const BIG: &[u8] = b"Group
+ef010203 0a000005 000 12 1200 0 0001:001
+";
+
+#[test]
+fn reads_a_row(rt: HostRuntime) -> Result<(), Fail> {
+    for (text, order) in [(PADDED, Order::Little), (BIG, Order::Big)] {
+        let table = CacheTable::read(rt.alloc(), text, order)?;
+        let (source, group) = (Addr::from_octets(SOURCE), Addr::from_octets(GROUP));
+        let entry = table.exact(source, group).ok_or("no entry")?;
+        assert_eq!(rt; entry.iif, 0);
+        assert_eq!(rt;
+            entry.oifs.as_slice(),
+            [Oif {
+                vif: 1,
+                threshold: 1
+            }]
+            .as_slice()
+        );
+        assert!(rt; table.exact(group, source).is_none());
+        assert!(rt; !table.wildcard(group));
+    }
+    Ok(())
+}
+
+/// Rows of a kernel for one source, for every source, and unresolved ones.
+const MIXED: &[u8] = b"Group    Origin   Iif     Pkts    Bytes    Wrong Oifs
+030201EF 0500000A 31         0 -1 18446744073709551615 31:254 0:1    7:3  
+040201EF 0500000A 0 -1 0 0
+050201EF 00000000 0          0        0        0  1:1  
+050201EF 00000000 1          0        0        0  0:1  
+060201EF 00000000 -1         0        0        0
+3C0008EF 0500000A -1         0        0        0
+3C0008EF 0500000A -1         0        0        0
+";
+
+#[test]
+fn answers_by_source_and_group(rt: HostRuntime) -> Result<(), Fail> {
+    let table = CacheTable::read(rt.alloc(), MIXED, Order::Little)?;
+    let source = Addr::from_octets(SOURCE);
+    let full = table
+        .exact(source, Addr::from_octets(GROUP))
+        .ok_or("no entry")?;
+    let ascending = [
+        Oif {
+            vif: 0,
+            threshold: 1,
+        },
+        Oif {
+            vif: 7,
+            threshold: 3,
+        },
+        Oif {
+            vif: 31,
+            threshold: 254,
+        },
+    ];
+    assert_eq!(rt; full.iif, 31);
+    assert_eq!(rt; full.oifs.as_slice(), ascending.as_slice());
+    let empty = table
+        .exact(source, Addr::from_octets([239, 1, 2, 4]))
+        .ok_or("no entry")?;
+    assert_eq!(rt; empty.oifs.as_slice(), [].as_slice());
+    assert!(rt;
+        table
+            .exact(source, Addr::from_octets([239, 8, 0, 60]))
+            .is_none(),
+        "unresolved"
+    );
+    let unspecified = Addr::from_octets([0, 0, 0, 0]);
+    assert!(rt;
+        table
+            .exact(unspecified, Addr::from_octets([239, 1, 2, 5]))
+            .is_none()
+    );
+    assert!(rt; table.wildcard(Addr::from_octets([239, 1, 2, 5])));
+    assert!(rt;
+        !table.wildcard(Addr::from_octets([239, 1, 2, 6])),
+        "unresolved"
+    );
+    assert!(rt; !table.wildcard(Addr::from_octets(GROUP)));
+    let any = b"Group\n00000000 00000000 0 0 0 0 1:1\n";
+    let any = CacheTable::read(rt.alloc(), any, Order::Little)?;
+    assert!(rt; any.wildcard(Addr::from_octets(GROUP)), "every group");
+    Ok(())
+}
+
+#[test]
+fn refuses_caches(rt: HostRuntime) {
+    let faults: [(&[u8], u32, TableFaultKind); 24] = [
+        (b"", 1, TableFaultKind::NoHeader),
+        (b"Interface\n", 1, TableFaultKind::NoHeader),
+        (b"Group", 1, TableFaultKind::Unended),
+        (
+            b"Group\n030201EF 0500000A 0 0 0 0 1:1",
+            2,
+            TableFaultKind::Unended,
+        ),
+        (b"Group\n\n", 2, TableFaultKind::WordCount),
+        (
+            b"Group\n030201EF 0500000A 0 0 0\n",
+            2,
+            TableFaultKind::WordCount,
+        ),
+        (
+            b"Group\n030201E 0500000A 0 0 0 0\n",
+            2,
+            TableFaultKind::BadAddress,
+        ),
+        (
+            b"Group\n030201EF 0500000AA 32 0 0 0\n",
+            2,
+            TableFaultKind::BadAddress,
+        ),
+        (
+            b"Group\n030201EF 0500000A 32 0 0 0\n",
+            2,
+            TableFaultKind::BadIif,
+        ),
+        (
+            b"Group\n030201EF 0500000A -2 0 0 0\n",
+            2,
+            TableFaultKind::BadIif,
+        ),
+        (
+            b"Group\n030201EF 0500000A 0 0 + 0 1:1 1:1\n",
+            2,
+            TableFaultKind::BadCounter,
+        ),
+        (
+            b"Group\n030201EF 0500000A -1 0 0 0 1:1\n",
+            2,
+            TableFaultKind::BadOif,
+        ),
+        (
+            b"Group\n030201EF 0500000A 0 0 0 0 32:1\n",
+            2,
+            TableFaultKind::BadOif,
+        ),
+        (
+            b"Group\n030201EF 0500000A 0 0 0 0 1\n",
+            2,
+            TableFaultKind::BadOif,
+        ),
+        (
+            b"Group\n030201EF 0500000A 0 0 0 0 1:1:1\n",
+            2,
+            TableFaultKind::BadOif,
+        ),
+        (
+            b"Group\n030201EF 0500000A 0 0 0 0 :0\n",
+            2,
+            TableFaultKind::BadOif,
+        ),
+        (
+            b"Group\n030201EF 0500000A 0 0 0 0 1:0\n",
+            2,
+            TableFaultKind::BadThreshold,
+        ),
+        (
+            b"Group\n030201EF 0500000A 0 0 0 0 1:255\n",
+            2,
+            TableFaultKind::BadThreshold,
+        ),
+        (
+            b"Group\n030201EF 0500000A 0 0 0 0 1:\n",
+            2,
+            TableFaultKind::BadThreshold,
+        ),
+        (
+            b"Group\n030201EF 0500000A 0 0 0 0 1:1 1:2 x\n",
+            2,
+            TableFaultKind::RepeatedOif,
+        ),
+        (
+            b"Group\n030201EF 0500000A 0 0 0 0 1:1 1:0\n",
+            2,
+            TableFaultKind::BadThreshold,
+        ),
+        (
+            b"Group\n030201EF 0500000A 0 0 0 0 1:1\n030201EF 0500000A 0 0 0 0 1:1\n",
+            3,
+            TableFaultKind::RepeatedEntry,
+        ),
+        (
+            b"Group\n030201EF 0500000A -1 0 0 0\n030201EF 0500000A 0 0 0 0\n030201EF 0500000A 1 0 0 0\n",
+            4,
+            TableFaultKind::RepeatedEntry,
+        ),
+        (ENTRY_TWICE, 3, TableFaultKind::RepeatedEntry),
+    ];
+    for (text, line, kind) in faults {
+        let read = CacheTable::read(rt.alloc(), text, Order::Little);
+        assert_eq!(rt; read.err(), Some(TableFault { line, kind }));
+    }
+}
+
+/// A kernel's cache after an entry was added with two incoming vifs.
+const ENTRY_TWICE: &[u8] = b"Group    Origin   Iif     Pkts    Bytes    Wrong Oifs
+030201EF 0500000A 0          0        0        0  1:1  
+030201EF 0500000A 1          0        0        0  0:1  
+040201EF 0500000A 1          0        0        0  0:1  
+040201EF 0500000A 0          0        0        0  1:1  
+";
+
+#[test]
+fn has_limits(rt: HostRuntime) -> Result<(), Fail> {
+    let mut text = Vec::new(rt.alloc());
+    text.extend_from_slice(b"Group\n")?;
+    for _ in 0..65_536 {
+        text.extend_from_slice(b"030201EF 00000000 0 0 0 0\n")?;
+    }
+    assert!(rt; CacheTable::read(rt.alloc(), text.as_slice(), Order::Little).is_ok());
+    text.extend_from_slice(b"one row more\n")?;
+    let read = CacheTable::read(rt.alloc(), text.as_slice(), Order::Little);
+    let too_large = TableFaultKind::TooLarge;
+    assert_eq!(rt;
+        read.err(),
+        Some(TableFault {
+            line: 65_538,
+            kind: too_large
+        })
+    );
+    let long = vec![in rt.alloc(); b'\n'; 16_777_217]?;
+    let read = CacheTable::read(rt.alloc(), long.as_slice(), Order::Little);
+    assert_eq!(rt;
+        read.err(),
+        Some(TableFault {
+            line: 0,
+            kind: too_large
+        })
+    );
+    let read = CacheTable::read(rt.alloc(), &long[1..], Order::Little);
+    assert_eq!(rt;
+        read.err(),
+        Some(TableFault {
+            line: 1,
+            kind: TableFaultKind::NoHeader
+        })
+    );
+    Ok(())
+}
+
+#[test]
+fn gives_vectors_back(rt: HostRuntime) -> Result<(), Fail> {
+    let oif = Oif {
+        vif: 2,
+        threshold: 9,
+    };
+    let oifs = Oifs::from_vec(vec![in rt.alloc(); oif]?);
+    assert_eq!(rt; oifs.as_slice(), [oif].as_slice());
+    assert_eq!(rt; oifs.into_vec().as_slice(), [oif].as_slice());
+    Ok(())
+}
+
+#[test]
+fn prints_faults(rt: HostRuntime) -> Result<(), Fail> {
+    for (kind, text) in [
+        (TableFaultKind::NoHeader, "line 2: NoHeader"),
+        (TableFaultKind::Unended, "line 2: Unended"),
+        (TableFaultKind::WordCount, "line 2: WordCount"),
+        (TableFaultKind::BadIndex, "line 2: BadIndex"),
+        (TableFaultKind::BadDevice, "line 2: BadDevice"),
+        (TableFaultKind::BadCounter, "line 2: BadCounter"),
+        (TableFaultKind::BadFlags, "line 2: BadFlags"),
+        (TableFaultKind::BadAddress, "line 2: BadAddress"),
+        (TableFaultKind::RepeatedIndex, "line 2: RepeatedIndex"),
+        (TableFaultKind::RepeatedDevice, "line 2: RepeatedDevice"),
+        (TableFaultKind::BadIif, "line 2: BadIif"),
+        (TableFaultKind::BadOif, "line 2: BadOif"),
+        (TableFaultKind::BadThreshold, "line 2: BadThreshold"),
+        (TableFaultKind::RepeatedOif, "line 2: RepeatedOif"),
+        (TableFaultKind::RepeatedEntry, "line 2: RepeatedEntry"),
+        (TableFaultKind::TooLarge, "line 2: TooLarge"),
+        (TableFaultKind::Memory, "line 2: Memory"),
+    ] {
+        let fault = TableFault { line: 2, kind };
+        assert_eq!(rt; fault.to_string(rt.alloc())?.as_str(), text);
+    }
+    Ok(())
+}

@@ -1,0 +1,158 @@
+//! Texts of `/proc/net/ip_mr_vif`.
+
+use crate::{TableFault, TableFaultKind, VifTable};
+use std::test::Fail;
+
+/// A table with all that a line may have, its indexes in no order.
+const TABLE: &[u8] = b"Interface      BytesIn  PktsIn  BytesOut PktsOut Flags Local    Remote
+31 pimreg            -1 -00000000000000000007 18446744073709551615 0 f0000004 00000000 00000000
+ 0 eth0           1200      12         0       0 00000 0100000A 00000000
+007 none 0 0 0 0 00000 00000000 00000000
+ 2 a.name_of15byte 0 0 0 0 0800b 010014ac FFFFffff
+ 1 none 0 0 0 0 00000008 00000002 00000000
+";
+
+#[test]
+fn reads_vifs(rt: HostRuntime) -> Result<(), Fail> {
+    let table = VifTable::read(rt.alloc(), TABLE)?;
+    let rows: [(u8, &[u8], bool, bool); 5] = [
+        (0, b"eth0", false, false),
+        (1, b"none", false, false),
+        (2, b"a.name_of15byte", true, false),
+        (7, b"none", false, false),
+        (31, b"pimreg", false, true),
+    ];
+    for (index, device, tunnel, register) in rows {
+        let vif = table.vif(index).ok_or("no vif")?;
+        assert_eq!(rt; vif.device(), device, "at {index}");
+        assert_eq!(rt; vif.tunnel(), tunnel, "at {index}");
+        assert_eq!(rt; vif.register(), register, "at {index}");
+    }
+    assert!(rt; table.vif(3).is_none());
+    assert!(rt; table.vif(255).is_none());
+    assert_eq!(rt; table.index_of(b"pimreg"), Some(31));
+    assert_eq!(rt; table.index_of(b"eth0"), Some(0));
+    assert_eq!(rt; table.index_of(b"none"), None);
+    assert_eq!(rt; table.index_of(b"eth1"), None);
+    Ok(())
+}
+
+#[test]
+fn refuses_vif_tables(rt: HostRuntime) {
+    let faults: [(&[u8], u32, TableFaultKind); 25] = [
+        (b"", 1, TableFaultKind::NoHeader),
+        (b"Group\n", 1, TableFaultKind::NoHeader),
+        (b"\n", 1, TableFaultKind::NoHeader),
+        (b"Group", 1, TableFaultKind::Unended),
+        (
+            b"Interface\n0 eth0 0 0 0 0 00000 00000000 00000000",
+            2,
+            TableFaultKind::Unended,
+        ),
+        (b"Interface\n\n", 2, TableFaultKind::WordCount),
+        (
+            b"Interface\n0 eth0 0 0 0 0 00000 00000000\n",
+            2,
+            TableFaultKind::WordCount,
+        ),
+        (
+            b"Interface\n0 eth0 0 0 0 0 00000 00000000 00000000 0\n",
+            2,
+            TableFaultKind::WordCount,
+        ),
+        (
+            b"Interface\n32 et/0 0 0 0 0 00000 00000000 00000000\n",
+            2,
+            TableFaultKind::BadIndex,
+        ),
+        (
+            b"Interface\n-1 eth0 0 0 0 0 00000 00000000 00000000\n",
+            2,
+            TableFaultKind::BadIndex,
+        ),
+        (
+            b"Interface\n0 et/0 x 0 0 0 00000 00000000 00000000\n",
+            2,
+            TableFaultKind::BadDevice,
+        ),
+        (
+            b"Interface\n0 eth0:1 0 0 0 0 00000 00000000 00000000\n",
+            2,
+            TableFaultKind::BadDevice,
+        ),
+        (
+            b"Interface\n0 a-name-of16bytes 0 0 0 0 00000 00000000 00000000\n",
+            2,
+            TableFaultKind::BadDevice,
+        ),
+        (
+            b"Interface\n0 eth0\t0 0 0 0 0 00000 00000000 00000000\n",
+            2,
+            TableFaultKind::BadDevice,
+        ),
+        (
+            b"Interface\n0 eth0 0 0 0 123456789012345678901 0000 00000000 00000000\n",
+            2,
+            TableFaultKind::BadCounter,
+        ),
+        (
+            b"Interface\n0 eth0 - 0 0 0 00000 00000000 00000000\n",
+            2,
+            TableFaultKind::BadCounter,
+        ),
+        (
+            b"Interface\n0 eth0 0 --1 0 0 00000 00000000 00000000\n",
+            2,
+            TableFaultKind::BadCounter,
+        ),
+        (
+            b"Interface\n0 eth0 0 0 0 0 0000 00000000 00000000\n",
+            2,
+            TableFaultKind::BadFlags,
+        ),
+        (
+            b"Interface\n0 eth0 0 0 0 0 000000000 0 00000000\n",
+            2,
+            TableFaultKind::BadFlags,
+        ),
+        (
+            b"Interface\n0 eth0 0 0 0 0 00000 0000000 00000000\n",
+            2,
+            TableFaultKind::BadAddress,
+        ),
+        (
+            b"Interface\n0 eth0 0 0 0 0 00000 00000000 0000000g\n",
+            2,
+            TableFaultKind::BadAddress,
+        ),
+        (
+            b"Interface\n0 eth0 0 0 0 0 00000 00000000 00000000\n0 eth0 0 0 0 0 00000 00000000 00000000\n",
+            3,
+            TableFaultKind::RepeatedIndex,
+        ),
+        (
+            b"Interface\n0 none 0 0 0 0 00000 00000000 00000000\n00 none 0 0 0 0 00000 00000000 00000000\n",
+            3,
+            TableFaultKind::RepeatedIndex,
+        ),
+        (
+            b"Interface\n0 eth0 0 0 0 0 00000 00000000 00000000\n1 eth0 0 0 0 0 00000 00000000 00000000\n",
+            3,
+            TableFaultKind::RepeatedDevice,
+        ),
+        (DEVICE_TWICE, 4, TableFaultKind::RepeatedDevice),
+    ];
+    for (text, line, kind) in faults {
+        assert_eq!(rt;
+            VifTable::read(rt.alloc(), text).err(),
+            Some(TableFault { line, kind })
+        );
+    }
+}
+
+/// A kernel's table after a device was added by its name and by its index.
+const DEVICE_TWICE: &[u8] = b"Interface      BytesIn  PktsIn  BytesOut PktsOut Flags Local    Remote
+ 0 eth0              0       0         0       0 00000 010014AC 00000000
+ 1 eth1              0       0         0       0 00000 020114AC 00000000
+ 2 eth1              0       0         0       0 00008 00000003 00000000
+";

@@ -1,0 +1,127 @@
+//! A virtual interface, as the kernel's table has it.
+
+ghost use Rattle.std.specs.Prelude.{◌≡◌, ◌≤◌, length};
+ghost use Rattle.std.specs.List.{list_all};
+ghost use Rattle.mc_tables.specs.TableWords.{is_device_byte, is_device};
+ghost use Rattle.mc_tables.specs.VifTable.{is_tunnel, is_register};
+
+use crate::table_words::has_length;
+use std::marker::Model;
+
+/// The longest name of a device, in bytes (`IFNAMSIZ` of linux/if.h less the zero at its end).
+const MAX_DEVICE: usize = 15;
+
+/// A network device's name, or `none`.
+#[derive(Debug, Drop)]
+pub struct DeviceName {
+    bytes: [u8; 15],
+    length: u8,
+}
+
+impl Model for DeviceName {
+    ghost use Rattle.std.specs.Prelude.{◌≤◌, ℕ, List, take};
+
+    ghost Value = { List ℕ };
+
+    ghost view = { λ name. take name.length name.bytes };
+
+    ghost invariant = { λ name. name.length ≤ 15 };
+}
+
+impl DeviceName {
+    /// The name of at most 15 bytes.
+    pub fn new(name: &[u8]) -> DeviceName
+        requires { length name.now ≤ 15 }
+        ensures { result ≡ name.now }
+    {
+        let mut bytes = [0; 15];
+        bytes[..name.len()].copy_from_slice(name);
+        DeviceName {
+            bytes,
+            length: name.len() as u8,
+        }
+    }
+
+    pub fn as_bytes(&self) -> &[u8]
+        ensures { result.now ≡ self.now }
+    {
+        &self.bytes[..self.length as usize]
+    }
+}
+
+/// Whether a device can have this name.
+pub fn is_device_name(word: &[u8]) -> bool
+    ensures { result ≡ is_device word.now }
+{
+    has_length(word, 1, MAX_DEVICE) && are_name_bytes(word)
+}
+
+fn are_name_bytes(word: &[u8]) -> bool
+    ensures { result ≡ list_all is_device_byte word.now }
+{
+    word.iter().all(|byte| is_name_byte(*byte))
+}
+
+fn is_name_byte(byte: u8) -> bool
+    ensures { result ≡ is_device_byte byte }
+{
+    !matches!(byte, 0x09..=0x0D | b' ' | b'/' | b':')
+}
+
+/// A virtual interface of the kernel's multicast routing.
+#[derive(Debug, Drop)]
+pub struct Vif {
+    device: DeviceName,
+    tunnel: bool,
+    register: bool,
+}
+
+impl Model for Vif {
+    ghost use Rattle.mc_tables.specs.VifTable.{VifText};
+
+    ghost Value = { VifText };
+
+    ghost view = { λ vif. record { device = vif.device; tunnel = vif.tunnel; register = vif.register } };
+}
+
+/// `VIFF_TUNNEL` of linux/mroute.h.
+const TUNNEL: u32 = 0x1;
+
+/// `VIFF_REGISTER` of linux/mroute.h.
+const REGISTER: u32 = 0x4;
+
+impl Vif {
+    /// The vif of a device with these flags.
+    pub(crate) fn new(device: DeviceName, flags: u32) -> Vif
+        ensures device { result.device ≡ device }
+        ensures tunnel { result.tunnel ≡ is_tunnel flags }
+        ensures register { result.register ≡ is_register flags }
+    {
+        Vif {
+            device,
+            tunnel: flags & TUNNEL != 0,
+            register: flags & REGISTER != 0,
+        }
+    }
+
+    /// The name of its device, or `none`.
+    pub fn device(&self) -> &[u8]
+        ensures { result.now ≡ self.now.device }
+    {
+        self.device.as_bytes()
+    }
+
+    /// Whether it is a tunnel.
+    pub fn tunnel(&self) -> bool
+        ensures { result ≡ self.now.tunnel }
+    {
+        self.tunnel
+    }
+
+    /// Whether it is PIM's register interface.
+    pub fn register(&self) -> bool
+        ensures { result ≡ self.now.register }
+    {
+        self.register
+    }
+}

@@ -1,0 +1,185 @@
+//! The table of virtual interfaces, `/proc/net/ip_mr_vif`.
+
+ghost use Rattle.std.specs.Prelude.{◌≡◌, ◌≢◌, ℕ, nat_eq, [], IfOk, IfErr, IfSome, Ok, Err, Some};
+ghost use Rattle.std.specs.Option.{option_copied};
+ghost use Rattle.std.specs.List.{list_any};
+ghost use Rattle.std.specs.Ordering.{nat_cmp};
+ghost use Rattle.std.specs.Str.{bytes_eq};
+ghost use Rattle.std.specs.FinMap as map;
+ghost use Rattle.mc_text.specs.LineView.{line_text};
+ghost use Rattle.mc_text.specs.Lines.{LineText};
+ghost use Rattle.mc_tables.specs.Memory.{out_of_memory};
+ghost use Rattle.mc_tables.specs.TableLines.{rows_after};
+ghost use Rattle.mc_tables.specs.VifTable.{VifText, no_device, StandsForVifs};
+ghost use Rattle.mc_tables.specs.VifReading.{index_repeats, device_repeats, vif_in_line, vif_at, vif_rows_in, vifs_in};
+ghost use Rattle.mc_tables.specs.VifLookups.{HasDevice, first_index_with};
+
+use crate::fault::{TableFault, TableFaultKind};
+use crate::table_lines::lines_after_header;
+use crate::vif::Vif;
+use crate::vif_line::vif_of_line;
+use mc_text::{Line, Lines};
+use std::alloc::Global;
+use std::marker::Model;
+
+/// The kernel's word for a vif without a device.
+const NO_DEVICE: &[u8] = b"none";
+
+/// The vifs of a router, each with its index.
+#[derive(Debug, Drop)]
+pub struct VifTable {
+    vifs: Vec<(u8, Vif)>,
+}
+
+impl Model for VifTable {
+    ghost use Rattle.std.specs.Prelude.{nat_eq, map as map_list};
+    ghost use Rattle.std.specs.List.{IsDistinct, filter_map};
+    ghost use Rattle.std.specs.Ordering.{nat_cmp};
+    ghost use Rattle.std.specs.Str.{bytes_eq};
+    ghost use Rattle.std.specs.Coded.{coded_ℕ};
+    ghost use Rattle.std.specs.FinMap as map;
+    ghost use Rattle.mc_tables.specs.VifTable.{VifText, vif_code, device_of};
+
+    ghost Value = { map.FinMap nat_cmp VifText };
+
+    ghost coded = { map.code coded_ℕ vif_code };
+
+    ghost view = { λ table. map.from_entries table.vifs.items };
+
+    ghost invariant = { λ table. IsDistinct nat_eq (map_list (λ row. row.0) table.vifs.items) × IsDistinct bytes_eq (filter_map device_of table.vifs.items) };
+}
+
+impl VifTable {
+    /// Reads the text of `/proc/net/ip_mr_vif`, at most 16,777,216 bytes. Its lines may come in any
+    /// order of indexes.
+    ///
+    /// # Errors
+    ///
+    /// The text's first fault, or `Memory`.
+    pub fn read(alloc: Global, text: &[u8]) -> Result<VifTable, TableFault>
+        // What is read is what the text stands for.
+        ensures found { IfOk result (StandsForVifs text.now) }
+        // What the text stands for is read, unless memory runs out.
+        ensures only { (vifs : map.FinMap nat_cmp VifText) → StandsForVifs text.now vifs → result ≢ Err out_of_memory → result ≡ Ok vifs }
+        // Which fault it is, unless memory runs out.
+        ensures fault { result ≢ Err out_of_memory → result ≡ vifs_in text.now }
+    {
+        VifTable::from_text(alloc, text)
+    }
+
+    fn from_text(alloc: Global, text: &[u8]) -> Result<VifTable, TableFault>
+        ensures { result ≢ Err out_of_memory → result ≡ vifs_in text.now }
+    {
+        let lines = lines_after_header(text, b"Interface")?;
+        let vifs = vifs_of_lines(alloc, lines)?;
+        Ok(VifTable { vifs })
+    }
+
+    /// The vif of an index.
+    pub fn vif(&self, index: u8) -> Option<&Vif>
+        ensures { option_copied result ≡ map.get self.now index }
+    {
+        vif_with_index(self.vifs.as_slice(), index)
+    }
+
+    /// The index of the vif that has this device. There is none for `none`.
+    pub fn index_of(&self, device: &[u8]) -> Option<u8>
+        ensures found { IfSome result (λ index. HasDevice self.now index device.now) }
+        ensures no_device { device.now ≡ no_device → result ≡ None }
+        ensures only { (index : ℕ) → device.now ≢ no_device → HasDevice self.now index device.now → result ≡ Some index }
+    {
+        if device == NO_DEVICE {
+            return None;
+        }
+        index_with_device(self.vifs.as_slice(), device)
+    }
+}
+
+fn vifs_of_lines(alloc: Global, lines: Lines<'_>) -> Result<Vec<(u8, Vif)>, TableFault>
+    ensures found { IfOk result (λ vifs. rows_after vif_at [] lines.entry ≡ Ok vifs.items) }
+    ensures fault { IfErr result (λ fault. fault ≢ out_of_memory → rows_after vif_at [] lines.entry ≡ Err fault) }
+{
+    let mut vifs = Vec::new(alloc);
+    for line in lines {
+        let row = next_vif(vifs.as_slice(), &line)?;
+        vifs.push(row)?;
+    }
+    Ok(vifs)
+}
+
+/// Reads a line after the earlier vifs.
+fn next_vif(earlier: &[(u8, Vif)], line: &Line<'_>) -> Result<(u8, Vif), TableFault>
+    ensures { result ≡ vif_at earlier.now (line_text line.now) }
+{
+    match new_vif(earlier, line) {
+        Ok(row) => Ok(row),
+        Err(kind) => Err(kind.at(line.number)),
+    }
+}
+
+#[tactic(auto, unfolding(crate::specs::VifReading::vif_in_line))]
+fn new_vif(earlier: &[(u8, Vif)], line: &Line<'_>) -> Result<(u8, Vif), TableFaultKind>
+    ensures { result ≡ vif_in_line earlier.now (line_text line.now) }
+{
+    if !line.ended {
+        return Err(TableFaultKind::Unended);
+    }
+    let row = vif_of_line(line.bytes)?;
+    if repeats_index(earlier, &row) {
+        return Err(TableFaultKind::RepeatedIndex);
+    }
+    if repeats_device(earlier, &row) {
+        return Err(TableFaultKind::RepeatedDevice);
+    }
+    Ok(row)
+}
+
+fn repeats_index(earlier: &[(u8, Vif)], row: &(u8, Vif)) -> bool
+    ensures { result ≡ index_repeats earlier.now row.now }
+{
+    any_has_index(earlier, row.0)
+}
+
+fn any_has_index(vifs: &[(u8, Vif)], index: u8) -> bool
+    ensures { result ≡ list_any (λ row. nat_eq index row.0) vifs.now }
+{
+    vifs.iter().any(|row| index == row.0)
+}
+
+fn repeats_device(earlier: &[(u8, Vif)], row: &(u8, Vif)) -> bool
+    ensures { result ≡ device_repeats earlier.now row.now }
+{
+    let device = row.1.device();
+    if device == NO_DEVICE {
+        return false;
+    }
+    any_has_device(earlier, device)
+}
+
+fn any_has_device(vifs: &[(u8, Vif)], device: &[u8]) -> bool
+    ensures { result ≡ list_any (λ row. bytes_eq row.1.device device.now) vifs.now }
+{
+    vifs.iter().any(|row| row.1.device() == device)
+}
+
+fn vif_with_index(vifs: &[(u8, Vif)], index: u8) -> Option<&Vif>
+    ensures { option_copied result ≡ map.find nat_cmp index vifs.now }
+{
+    for row in vifs {
+        if index == row.0 {
+            return Some(&row.1);
+        }
+    }
+    None
+}
+
+fn index_with_device(vifs: &[(u8, Vif)], device: &[u8]) -> Option<u8>
+    ensures { result ≡ first_index_with device.now vifs.now }
+{
+    for row in vifs {
+        if row.1.device() == device {
+            return Some(row.0);
+        }
+    }
+    None
+}

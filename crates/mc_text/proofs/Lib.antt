@@ -1,0 +1,15 @@
+pub mod LawLemmas
+pub mod LineLemmas
+pub mod WordLemmas
+pub mod ResultLemmas
+pub mod AddrLemmas
+pub mod Written
+pub mod BundleWords
+pub mod BundleLines
+pub mod BundlePlaces
+pub mod BundleLaws
+pub mod BundleCode
+pub mod BundleLoop
+pub mod DecimalDigits
+pub mod BundleWritten
+pub mod BundleLimits

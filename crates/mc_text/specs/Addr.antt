@@ -1,0 +1,28 @@
+-- An address is the number of 32 bits whose most significant octet is its first, so that addresses are
+-- ordered by their octets as the numbers are.
+use Rattle.std.specs.Prelude.{◌≢◌, ℕ, ◌+◌, ◌*◌, ◌/◌, ◌<◌, ◌≤◌, ◌^◌, List}
+use Rattle.std.specs.Int.{w32, to_be_bytes}
+use Rattle.std.specs.Net.Text.{ipv4_text}
+
+abbrev pub IsAddr : ℕ → Type 0
+IsAddr a = a < 2 ^ 32
+
+-- the four octets, the first one first
+abbrev pub octets_of : ℕ → List ℕ
+octets_of a = to_be_bytes w32 a
+
+-- the four octets in decimal without leading zeros, with dots between them
+abbrev pub dotted : ℕ → List ℕ
+dotted a = ipv4_text (octets_of a)
+
+-- a group that routers forward: 224.0.1.0 to 239.255.255.255 (RFC 5771, section 4)
+abbrev pub IsForwardedGroup : ℕ → Type 0
+IsForwardedGroup a = (224 * 2 ^ 24 + 2 ^ 8 ≤ a) × (a < 240 * 2 ^ 24)
+
+-- the first octet
+abbrev pub first_octet : ℕ → ℕ
+first_octet a = a / 2 ^ 24
+
+-- an address that a host may send from: its first octet is 1 to 223, and not 127 (RFC 1122, section 3.2.1.3)
+abbrev pub IsSource : ℕ → Type 0
+IsSource a = (1 ≤ first_octet a) × (first_octet a ≤ 223) × (first_octet a ≢ 127)

@@ -1,0 +1,111 @@
+-- Reading a bundle from the front, with the first fault that is met.
+use Rattle.std.specs.Prelude.{◌≡◌, ℕ, zero, suc, ◌+◌, ◌-◌, ◌==◌, ◌&&◌, ◌||◌, nat_lt, nat_le, not, Bool, List, [], ◌∷◌, length, take, drop, slice_index, position, codes, Option, Some, None, Result, Ok, Err, if◌then◌else◌}
+use Rattle.std.specs.Char.{is_ascii_digit}
+use Rattle.std.specs.List.{list_all}
+use Rattle.std.specs.Str.{bytes_eq}
+use Rattle.std.specs.Str.Parse.{digits_value}
+use Rattle.mc_text.specs.declared.bundle_fault.BundleFault.{BundleFault}
+use Rattle.mc_text.specs.declared.bundle_fault.BundleFault.TheVariants as faults
+use Rattle.mc_text.specs.Bundle.{PartText, is_name_byte}
+
+infixl 10 ◌>>=◌
+abbrev pub ◌>>=◌ : {A B : Type 0} → Result A BundleFault → (A → Result B BundleFault) → Result B BundleFault
+(Ok x) >>= f = f x
+(Err e) >>= f = Err e
+
+-- What a function answered, seen by view, is what reading gives, unless memory ran out.
+abbrev pub Fails : {Y : Type 0} → BundleFault → Result Y BundleFault → Type 0
+Fails faults.Memory read = Unit {0}
+Fails fault read = read ≡ Err fault
+
+abbrev pub Gives : {X Y : Type 0} → (X → Y) → Result X BundleFault → Result Y BundleFault → Type 0
+Gives view (Ok x) read = read ≡ Ok (view x)
+Gives view (Err fault) read = Fails fault read
+
+-- ---- lines
+
+-- The bytes before the line feed, and those after it. A line has at most 96 bytes with its line feed.
+abbrev pub cut_line : List ℕ → Option ℕ → Result (List ℕ × List ℕ) BundleFault
+cut_line rest (Some n) = Ok (take n rest, drop (n + 1) rest)
+cut_line rest None = if nat_lt (length rest) 96 then Err faults.NoEnd else Err faults.BadPartLine
+
+unfoldable pub line_at : List ℕ → Result (List ℕ × List ℕ) BundleFault
+line_at rest = cut_line rest (position (λ b. b == 10) (take 96 rest))
+
+abbrev pub is_part_name : List ℕ → Bool
+is_part_name name = nat_le 1 (length name) && nat_le (length name) 64 && list_all is_name_byte name
+
+-- one digit or more, and no needless leading zero
+abbrev pub is_length : List ℕ → Bool
+is_length word = nat_le 1 (length word) && list_all is_ascii_digit word && ((length word == 1) || not (slice_index word 0 == 48))
+
+-- the name and the length of a part line, whose words are these without `part `, and whose first space is here
+abbrev pub cut_words : List ℕ → Option ℕ → Option (List ℕ × ℕ)
+cut_words words None = None
+cut_words words (Some n) =
+    if is_part_name (take n words) && is_length (drop (n + 1) words) then Some (take n words, digits_value 10 (drop (n + 1) words)) else None
+
+unfoldable pub words_said : List ℕ → Option (List ℕ × ℕ)
+words_said words = cut_words words (position (λ b. b == 32) words)
+
+unfoldable pub part_said : List ℕ → Option (List ℕ × ℕ)
+part_said line = if bytes_eq (take 5 line) (codes "part ") then words_said (drop 5 line) else None
+
+-- ---- places
+
+-- where reading stands: how many parts and how many bytes may still come, and the bytes that do
+pub record Place : Type 0 where
+  pub parts : ℕ
+  pub room : ℕ
+  pub rest : List ℕ
+
+-- the bytes of a part, and those after its line feed
+unfoldable pub part_bytes_at : ℕ → List ℕ → Result (List ℕ × List ℕ) BundleFault
+part_bytes_at size rest =
+    if nat_le (length rest) size then Err faults.Truncated
+    else if slice_index rest size == 10 then Ok (take size rest, drop (size + 1) rest)
+    else Err faults.BadPartLine
+
+-- the line and the part, each with its line feed, take this room
+abbrev pub part_room : List ℕ → ℕ → ℕ
+part_room line size = length line + 1 + (size + 1)
+
+abbrev pub is_too_large : Place → List ℕ → ℕ → Bool
+is_too_large place line size = (place.parts == 0) || nat_lt 16777216 size || nat_lt place.room (part_room line size)
+
+abbrev pub part_place : Place → List ℕ → List ℕ → Option (List ℕ × ℕ) → Result (Option (PartText × Place)) BundleFault
+part_place place line after None = Err faults.BadPartLine
+part_place place line after (Some said) =
+    if is_too_large place line said.1 then Err faults.TooLarge
+    else (part_bytes_at said.1 after >>= λ found. Ok (Some (record { name = said.0; bytes = found.0 }, record { parts = place.parts - 1; room = place.room - part_room line said.1; rest = found.1 })))
+
+abbrev pub end_place : Place → List ℕ → Result (Option (PartText × Place)) BundleFault
+end_place place after =
+    if nat_lt place.room 4 then Err faults.TooLarge
+    else if length after == 0 then Ok None
+    else Err faults.AfterEnd
+
+-- the part at a place, and the place after it, or nothing at the end
+unfoldable pub place_of : Place → Result (Option (PartText × Place)) BundleFault
+place_of place =
+    line_at place.rest >>= λ cut.
+    if bytes_eq cut.0 (codes "end") then end_place place cut.1
+    else part_place place cut.0 cut.1 (part_said cut.0)
+
+-- the part at a place, and those after it
+abbrev pub with_next : Option (PartText × Place) → (Place → Result (List PartText) BundleFault) → Result (List PartText) BundleFault
+with_next None next = Ok []
+with_next (Some found) next = next found.1 >>= λ parts. Ok (found.0 ∷ parts)
+
+-- the parts from a place on, where so many may come
+unfoldable pub parts_from : ℕ → ℕ → List ℕ → Result (List PartText) BundleFault
+parts_from zero room rest = place_of (record { parts = 0; room = room; rest = rest }) >>= λ _. Ok []
+parts_from (suc n) room rest =
+    place_of (record { parts = suc n; room = room; rest = rest }) >>= λ found.
+    with_next found (λ place. parts_from n place.room place.rest)
+
+-- all the parts of a bundle
+unfoldable pub bundle_of : List ℕ → Result (List PartText) BundleFault
+bundle_of text =
+    if bytes_eq (take 17 text) (codes "mcaudit bundle 1\n") then parts_from 1538 (268435456 - 17) (drop 17 text)
+    else Err faults.NoMagic

@@ -1,0 +1,17 @@
+pub mod Addr
+pub mod AddressWord
+pub mod Bundle
+pub mod BundleReading
+pub mod BundleWriting
+pub mod Device
+pub mod DeviceState
+pub mod Lines
+pub mod LineView
+pub mod Number
+pub mod PaddedName
+pub mod PartName
+pub mod PartView
+pub mod PlaceView
+pub mod ReadFault
+pub mod Words
+pub use Rattle.hex.specs.Hex

@@ -1,0 +1,6 @@
+-- A line as contracts see it.
+use Rattle.mc_text.specs.declared.lines.Line.{Line}
+use Rattle.mc_text.specs.Lines.{LineText}
+
+abbrev pub line_text : Line → LineText
+line_text l = record { number = l.number; bytes = l.bytes.now; ended = l.ended }

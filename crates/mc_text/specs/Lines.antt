@@ -1,0 +1,41 @@
+-- The lines of a text: what stands between its line feeds, numbered from 1.
+use Rattle.std.specs.Prelude.{◌≢◌, ℕ, ◌+◌, ◌<◌, ◌==◌, IsTrue, MatchBool, Bool, true, false, List, [], ◌∷◌, ◌++◌, length, if◌then◌else◌}
+use Rattle.std.specs.List.{slice_split, flat_map, AllByRecursion}
+
+-- a line without where it lies in memory
+pub record LineText : Type 0 where
+  pub number : ℕ
+  pub bytes : List ℕ
+  pub ended : Bool
+
+-- Of the parts between line feeds each but the last is a line that one ends. What stands after the last
+-- line feed is a line that none ends, if it is not empty.
+abbrev pub numbered : ℕ → List (List ℕ) → List LineText
+numbered n [] = []
+numbered n (part ∷ []) = if length part == 0 then [] else record { number = n; bytes = part; ended = false } ∷ []
+numbered n (part ∷ next ∷ more) = record { number = n; bytes = part; ended = true } ∷ numbered (n + 1) (next ∷ more)
+
+-- the lines of a text whose first has the number n
+abbrev pub lines_from : ℕ → List ℕ → List LineText
+lines_from n text = numbered n (slice_split (λ b. b == 10) text)
+
+abbrev pub lines_of : List ℕ → List LineText
+lines_of text = lines_from 1 text
+
+-- the bytes of a line, with its line feed if it has one
+abbrev pub spelling : LineText → List ℕ
+spelling line = if line.ended then line.bytes ++ 10 ∷ [] else line.bytes
+
+-- the text that the lines make
+abbrev pub joined : List LineText → List ℕ
+joined lines = flat_map spelling lines
+
+-- a line feed never stands within a line
+abbrev pub HasNoLineFeed : LineText → Type 0
+HasNoLineFeed line = AllByRecursion (λ b. b ≢ 10) line.bytes
+
+-- each line but the last is ended by a line feed, and a last line without one is not empty
+abbrev pub OnlyLastMayBeUnended : List LineText → Type 0
+OnlyLastMayBeUnended [] = Unit {0}
+OnlyLastMayBeUnended (line ∷ []) = MatchBool line.ended (Unit {0}) (0 < length line.bytes)
+OnlyLastMayBeUnended (line ∷ next ∷ more) = IsTrue line.ended × OnlyLastMayBeUnended (next ∷ more)

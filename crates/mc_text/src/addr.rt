@@ -1,0 +1,121 @@
+//! IPv4 addresses, as people write them and as a kernel's tables show them.
+
+ghost use Rattle.std.specs.Prelude.{◌≡◌, ℕ, ◌<◌, ◌^◌, ◌↔◌, List, length, IsTrue, IfSome, Some, Ok};
+ghost use Rattle.std.specs.Int.{w32, from_be_bytes};
+ghost use Rattle.hex.specs.Hex.{decode_of};
+ghost use Rattle.mc_text.specs.Addr.{IsAddr, IsForwardedGroup, IsSource, octets_of, dotted};
+ghost use Rattle.mc_text.specs.AddressWord.{IsAddressWord};
+
+use std::fmt;
+use std::marker::Model;
+use std::net::Ipv4Addr;
+
+/// An IPv4 address. Addresses are ordered by their four octets, the first octet first.
+#[derive(Clone, Copy, Debug, PartialEq, Eq, PartialOrd, Ord, Hash)]
+pub struct Addr {
+    bits: u32,
+}
+
+impl Model for Addr {
+    ghost Value = { ℕ };
+
+    ghost view = { λ a. a.bits };
+
+    ghost inverse = { λ n. record { bits = n } };
+}
+
+/// The byte order of a router's machine.
+#[derive(Clone, Copy, Debug, PartialEq, Eq)]
+pub enum Order {
+    /// The least significant byte first, as on x86-64 and most ARM machines.
+    Little,
+    /// The most significant byte first.
+    Big,
+}
+
+/// The four bytes of a word of eight hexadecimal digits.
+fn four_bytes(word: &[u8]) -> Option<[u8; 4]>
+    ensures found { IfSome result (λ bytes. decode_of word.now ≡ Ok bytes) }
+    ensures only { (bytes : List ℕ) → length bytes ≡ 4 → decode_of word.now ≡ Ok bytes → result ≡ Some bytes }
+{
+    let mut bytes = [0u8; 4];
+    hex::decode_to_slice(word, &mut bytes).ok()?;
+    Some(bytes)
+}
+
+impl Addr {
+    /// Reads four decimal numbers from 0 to 255 without leading zeros, with dots between them.
+    pub fn parse_dotted(text: &[u8]) -> Option<Addr>
+        // What is read is written so.
+        ensures found { IfSome result (λ a. text.now ≡ dotted a) }
+        ensures in_range { IfSome result IsAddr }
+        // What is written so is read.
+        ensures only { (a : ℕ) → IsAddr a → text.now ≡ dotted a → result ≡ Some a }
+    {
+        let parsed = Ipv4Addr::parse_ascii(text).ok()?;
+        Some(Addr {
+            bits: parsed.to_bits(),
+        })
+    }
+
+    /// Reads an address word of `/proc/net/ip_mr_vif` and `/proc/net/ip_mr_cache`: eight hexadecimal
+    /// digits of either case, which the kernel prints of the four network-order bytes taken as one
+    /// number of its machine (`%08X` in net/ipv4/ipmr.c).
+    pub fn from_hex_word(word: &[u8], order: Order) -> Option<Addr>
+        ensures found { IfSome result (λ a. IsAddressWord order word.now a) }
+        ensures in_range { IfSome result IsAddr }
+        ensures only { (a : ℕ) → IsAddr a → IsAddressWord order word.now a → result ≡ Some a }
+    {
+        let bytes = four_bytes(word)?;
+        Some(match order {
+            Order::Big => Addr::from_octets(bytes),
+            Order::Little => {
+                let [first, second, third, fourth] = bytes;
+                Addr::from_octets([fourth, third, second, first])
+            }
+        })
+    }
+
+    /// The address with these octets, of which the first is the most significant.
+    pub fn from_octets(octets: [u8; 4]) -> Addr
+        ensures value { result ≡ from_be_bytes w32 octets }
+        ensures octets { octets_of result ≡ octets }
+    {
+        Addr {
+            bits: u32::from_be_bytes(octets),
+        }
+    }
+
+    /// Whether routers forward this group: 224.0.1.0 to 239.255.255.255. The groups 224.0.0.0 to
+    /// 224.0.0.255 before them stay on their LAN (RFC 5771, section 4).
+    pub fn is_forwarded_group(self) -> bool
+        ensures { IsTrue result ↔ IsForwardedGroup self }
+    {
+        (0xE000_0100..=0xEFFF_FFFF).contains(&self.bits)
+    }
+
+    /// Whether a host may send from this address: its first octet is 1 to 223, and not 127
+    /// (RFC 1122, section 3.2.1.3).
+    pub fn is_source(self) -> bool
+        ensures { IsTrue result ↔ IsSource self }
+    {
+        let first = self.bits >> 24;
+        (1..=223).contains(&first) && first != 127
+    }
+
+    /// The four octets, the most significant first.
+    pub fn octets(self) -> [u8; 4]
+        ensures { result ≡ octets_of self }
+    {
+        self.bits.to_be_bytes()
+    }
+}
+
+impl fmt::Display for Addr {
+    ghost output = { λ a. Some (dotted a) };
+
+    fn fmt<W: fmt::Write>(&self, f: &mut fmt::Formatter<W>) -> fmt::Result {
+        let address = Ipv4Addr::from_bits(self.bits);
+        write!(f, "{address}")
+    }
+}

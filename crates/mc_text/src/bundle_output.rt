@@ -1,0 +1,107 @@
+//! Writing a bundle.
+
+ghost use Rattle.std.specs.Prelude.{◌≡◌, ◌≢◌, ◌+◌, ◌↔◌, ◌⊎◌, ◌<◌, ◌≤◌, length, OnOk, OnErr, IfErr, IsErrOf};
+ghost use Rattle.std.specs.Bool.{OnTrue, OnFalse};
+ghost use Rattle.std.specs.Io.KnownBytes.{Appends};
+ghost use Rattle.std.specs.List.{AllByRecursion};
+ghost use Rattle.mc_text.specs.Bundle.{IsPartName, part_spelling, bundle_spelling, AreWithinLimits};
+ghost use Rattle.mc_text.specs.BundleWriting.{failed_by_writing, AppendsBundle};
+ghost use Rattle.mc_text.specs.Device.{failed_by_write_all, AppendsPart};
+ghost use Rattle.mc_text.specs.PartView.{part_text, part_texts};
+
+use crate::bundle::{END, MAGIC, MAX_BUNDLE, MAX_PART, MAX_PARTS};
+use crate::bundle_fault::BundleFault;
+use crate::device::{DeviceFault, Output};
+use crate::digits::{MAX_DIGITS, decimal_digits};
+use crate::output_bytes::write_all;
+use crate::part::Part;
+
+/// Writes the bundle of the parts, if they are within a bundle's limits. It takes no memory.
+///
+/// Parts that pass a limit are `TooLarge`, and nothing is written. A failed write is `Write`; a proper part
+/// of the bundle was written then, from its front.
+pub fn write_bundle<W: Output>(parts: &[Part<'_>], output: &mut W) -> Result<(), BundleFault>
+    requires { W.failed output.old < u64.MAX }
+    ensures same { W.names output.new ≡ W.names output.old }
+    ensures ok { OnOk result (AppendsBundle (W.took output.old) (W.took output.new) (part_texts parts.now)) }
+
+    // It fails for two reasons only.
+    ensures faults { IfErr result (λ fault. (fault ≡ BundleFault.TooLarge) ⊎ (fault ≡ BundleFault.Write)) }
+    ensures too_large { IsErrOf result BundleFault.TooLarge ↔ ¬ AreWithinLimits (part_texts parts.now) }
+    ensures unwritten { IfErr result (λ fault. fault ≢ BundleFault.Write → output.new ≡ output.old) }
+    ensures cut { IsErrOf result BundleFault.Write
+        → AppendsPart (W.took output.old) (W.took output.new) (bundle_spelling (part_texts parts.now)) }
+    ensures failures { W.failed output.new ≡ failed_by_writing result (W.failed output.old) }
+{
+    if !are_within_limits(parts) {
+        return Err(BundleFault::TooLarge);
+    }
+    match write_parts(output, parts) {
+        Ok(()) => Ok(()),
+        Err(_) => Err(BundleFault::Write),
+    }
+}
+
+// Whether the parts are within a bundle's limits.
+fn are_within_limits(parts: &[Part<'_>]) -> bool
+    ensures within { OnTrue result (AreWithinLimits (part_texts parts.now)) }
+    ensures names { OnTrue result (AllByRecursion (λ part. IsPartName part.name) (part_texts parts.now)) }
+    ensures beyond { OnFalse result (¬ AreWithinLimits (part_texts parts.now)) }
+{
+    if parts.len() > MAX_PARTS {
+        return false;
+    }
+    let mut size = MAGIC.len() + END.len() + 1;
+    for part in parts {
+        if part.bytes.len() > MAX_PART {
+            return false;
+        }
+        size += size_of_part(part);
+    }
+    size <= MAX_BUNDLE
+}
+
+// How many bytes a part takes, with its line.
+fn size_of_part(part: &Part<'_>) -> usize
+    requires { length part.now.bytes.now ≤ MAX_PART }
+    ensures size { result ≡ length (part_spelling (part_text part.now)) }
+    ensures bound { result ≤ MAX_PART + 92 }
+    ensures named { IsPartName part.now.name }
+{
+    let mut buffer = [0u8; MAX_DIGITS];
+    let digits = decimal_digits(part.bytes.len(), &mut buffer);
+    let line = 5 + part.name.as_bytes().len() + 1 + digits.len();
+    line + 1 + part.bytes.len() + 1
+}
+
+fn write_parts<W: Output>(output: &mut W, parts: &[Part<'_>]) -> Result<(), DeviceFault>
+    requires { W.failed output.old < u64.MAX }
+    ensures same { W.names output.new ≡ W.names output.old }
+    ensures ok { OnOk result (Appends (W.took output.old) (W.took output.new) (bundle_spelling (part_texts parts.now))) }
+    ensures err { OnErr result (AppendsPart (W.took output.old) (W.took output.new) (bundle_spelling (part_texts parts.now))) }
+    ensures failures { W.failed output.new ≡ failed_by_write_all result (W.failed output.old) }
+{
+    write_all(output, MAGIC)?;
+    for part in parts {
+        write_part(output, part)?;
+    }
+    write_all(output, b"end\n")
+}
+
+fn write_part<W: Output>(output: &mut W, part: &Part<'_>) -> Result<(), DeviceFault>
+    requires { W.failed output.old < u64.MAX }
+    ensures same { W.names output.new ≡ W.names output.old }
+    ensures ok { OnOk result (Appends (W.took output.old) (W.took output.new) (part_spelling (part_text part.now))) }
+    ensures err { OnErr result (AppendsPart (W.took output.old) (W.took output.new) (part_spelling (part_text part.now))) }
+    ensures failures { W.failed output.new ≡ failed_by_write_all result (W.failed output.old) }
+{
+    let mut buffer = [0u8; MAX_DIGITS];
+    let digits = decimal_digits(part.bytes.len(), &mut buffer);
+    write_all(output, b"part ")?;
+    write_all(output, part.name.as_bytes())?;
+    write_all(output, b" ")?;
+    write_all(output, digits)?;
+    write_all(output, b"\n")?;
+    write_all(output, part.bytes)?;
+    write_all(output, b"\n")
+}

@@ -1,0 +1,104 @@
+//! What bytes come from and go to: inputs and outputs, which may fail, and count how often they did.
+
+ghost use Rattle.std.specs.Prelude.{◌≡◌, ◌<◌, ◌∷◌, ℕ, List, [], Option, Some, codes};
+ghost use Rattle.std.specs.Borrow.{GName};
+ghost use Rattle.std.specs.Io.{ReadsAtMost, WritesAtMost};
+ghost use Rattle.std.specs.Io.KnownBytes.{ReadConsumes, WriteAppends};
+ghost use Rattle.mc_text.specs.Device.{failed_by_read, failed_by_write};
+
+use std::fmt;
+
+/// A device failed, and says no more than that.
+#[derive(Clone, Copy, Debug, PartialEq, Eq)]
+pub struct DeviceFault;
+
+impl fmt::Display for DeviceFault {
+    ghost output = { λ _. Some (codes "the device failed") };
+
+    fn fmt<W: fmt::Write>(&self, f: &mut fmt::Formatter<W>) -> fmt::Result {
+        write!(f, "the device failed")
+    }
+}
+
+impl std::error::Error for DeviceFault {}
+
+/// What bytes are read from.
+pub trait Input {
+    // the bytes that it still gives, where it tells them
+    ghost told: { Self → Option (List ℕ) };
+
+    // how many calls failed
+    ghost failed: { Self → ℕ };
+
+    // the references that it is reached through
+    ghost names: { Self → List GName } = { λ _. [] };
+
+    /// Puts the next bytes at the buffer's front, and answers how many. It answers 0 only at the end of
+    /// the input or for an empty buffer. A call that answers an error took no byte.
+    fn read(&mut self, buffer: &mut [u8]) -> Result<usize, DeviceFault>
+        requires { failed self.old < u64.MAX }
+        ensures same { names self.new ≡ names self.old }
+        ensures bound { ReadsAtMost result buffer.new }
+        ensures bytes { ReadConsumes (told self.old) (told self.new) result buffer.new }
+        ensures failures { failed self.new ≡ failed_by_read result (failed self.old) };
+
+    /// How many calls of `read` answered an error.
+    fn failures(&self) -> u64
+        ensures { result ≡ failed self.now };
+}
+
+impl<R: Input> Input for &mut R {
+    ghost told = { λ r. R.told r.now };
+
+    ghost failed = { λ r. R.failed r.now };
+
+    ghost names = { λ r. r.ghost_name ∷ R.names r.now };
+
+    fn read(&mut self, buffer: &mut [u8]) -> Result<usize, DeviceFault> {
+        Input::read(&mut **self, buffer)
+    }
+
+    fn failures(&self) -> u64 {
+        Input::failures(&**self)
+    }
+}
+
+/// What bytes are written to.
+pub trait Output {
+    // the bytes that it took, where it tells them
+    ghost took: { Self → Option (List ℕ) };
+
+    // how many calls failed
+    ghost failed: { Self → ℕ };
+
+    // the references that it is reached through
+    ghost names: { Self → List GName } = { λ _. [] };
+
+    /// Takes bytes from the text's front, and answers how many. A call that answers an error took none.
+    fn write(&mut self, text: &[u8]) -> Result<usize, DeviceFault>
+        requires { failed self.old < u64.MAX }
+        ensures same { names self.new ≡ names self.old }
+        ensures bound { WritesAtMost result text.now }
+        ensures bytes { WriteAppends (took self.old) (took self.new) result text.now }
+        ensures failures { failed self.new ≡ failed_by_write result text.now (failed self.old) };
+
+    /// How many calls of `write` answered an error, or took no byte of a text that has one.
+    fn failures(&self) -> u64
+        ensures { result ≡ failed self.now };
+}
+
+impl<W: Output> Output for &mut W {
+    ghost took = { λ w. W.took w.now };
+
+    ghost failed = { λ w. W.failed w.now };
+
+    ghost names = { λ w. w.ghost_name ∷ W.names w.now };
+
+    fn write(&mut self, text: &[u8]) -> Result<usize, DeviceFault> {
+        Output::write(&mut **self, text)
+    }
+
+    fn failures(&self) -> u64 {
+        Output::failures(&**self)
+    }
+}

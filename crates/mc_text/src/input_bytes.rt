@@ -1,0 +1,77 @@
+//! Reading a whole input, up to a limit.
+
+ghost use Rattle.std.specs.Prelude.{◌≡◌, ◌<◌, ◌≤◌, ◌++◌, length, vec_len, take, IfOk, IfSome, OnOk};
+ghost use Rattle.std.specs.Io.KnownBytes.{Consumes, IsAtEnd};
+ghost use Rattle.mc_text.specs.ReadFault.{failed_by_reading, ReadsMore};
+
+use crate::device::Input;
+use std::alloc::Global;
+use thiserror::Error;
+
+/// How many bytes are asked of an input at once.
+const PIECE: usize = 65_536;
+
+/// Why an input could not be read.
+#[derive(Clone, Copy, Debug, PartialEq, Eq, Error)]
+pub enum ReadFault {
+    /// The input answered an error.
+    #[error("the device failed")]
+    Read,
+    /// Memory ran out.
+    #[error("no memory")]
+    Memory,
+}
+
+/// Reads until the end of the input, or until it has read `limit` bytes.
+///
+/// The first error of the input ends it. It asks for large pieces at once, and never for a byte past the
+/// limit.
+pub fn read_to_limit<R: Input>(
+    alloc: Global,
+    input: &mut R,
+    limit: usize,
+) -> Result<Vec<u8>, ReadFault>
+    requires { R.failed input.old < u64.MAX }
+    ensures same { R.names input.new ≡ R.names input.old }
+    ensures bound { IfOk result (λ bytes. vec_len bytes ≤ limit) }
+    // All that the input still had, or its first bytes as many as the limit allows.
+    ensures bytes { IfOk result (λ bytes. IfSome (R.told input.old) (λ text. bytes.items ≡ take limit text)) }
+    // The rest is left in the input, and where less than the limit was read there is none.
+    ensures rest { IfOk result (λ bytes. Consumes (R.told input.old) (R.told input.new) bytes.items) }
+    ensures end { IfOk result (λ bytes. vec_len bytes < limit → IsAtEnd (R.told input.new)) }
+    ensures failures { R.failed input.new ≡ failed_by_reading result (R.failed input.old) }
+{
+    let mut buffer = [0u8; PIECE];
+    let mut bytes = Vec::new(alloc);
+    fill_to_limit(input, &mut bytes, limit, &mut buffer)?;
+    Ok(bytes)
+}
+
+// Reads on, through the buffer, until the bytes are as many as the limit or the input is at its end.
+fn fill_to_limit<R: Input>(
+    input: &mut R,
+    bytes: &mut Vec<u8>,
+    limit: usize,
+    buffer: &mut [u8],
+) -> Result<(), ReadFault>
+    requires room { 0 < length buffer.old }
+    requires start { vec_len bytes.old ≤ limit }
+    requires failures { R.failed input.old < u64.MAX }
+    ensures same { R.names input.new ≡ R.names input.old }
+    ensures bound { OnOk result (vec_len bytes.new ≤ limit) }
+    ensures bytes { OnOk result (ReadsMore (R.told input.old) (R.told input.new) bytes.old.items bytes.new.items) }
+    ensures end { OnOk result (vec_len bytes.new < limit → IsAtEnd (R.told input.new)) }
+    ensures failures { R.failed input.new ≡ failed_by_reading result (R.failed input.old) }
+{
+    'reading: while bytes.len() < limit {
+        let room = buffer.len().min(limit - bytes.len());
+        match input.read(&mut buffer[..room]) {
+            Ok(0) => return Ok(()),
+            Ok(count) => bytes
+                .extend_from_slice(&buffer[..count])
+                .map_err(|_| ReadFault::Memory)?,
+            Err(_) => return Err(ReadFault::Read),
+        }
+    }
+    Ok(())
+}

@@ -1,0 +1,44 @@
+//! Texts as operators and kernels write them: addresses, lines, words and numbers; the devices that bytes
+//! come from and go to; and the bundle, the one stream of named parts. Nothing here knows of a domain.
+#![tactic(auto)]
+
+mod addr;
+mod bundle;
+mod bundle_fault;
+mod bundle_laws;
+mod bundle_output;
+mod device;
+mod digits;
+mod from_reader;
+mod input_bytes;
+mod laws;
+mod lines;
+mod memory;
+mod number;
+mod output_bytes;
+mod part;
+mod part_line;
+mod part_name;
+mod to_writer;
+mod words;
+
+pub use addr::{Addr, Order};
+pub use bundle::Bundle;
+pub use bundle_fault::BundleFault;
+pub use bundle_laws::{one_list_of_parts, written_is_read};
+pub use bundle_output::write_bundle;
+pub use device::{DeviceFault, Input, Output};
+pub use from_reader::FromReader;
+pub use input_bytes::{ReadFault, read_to_limit};
+pub use laws::{addresses_are_ordered_by_octets, lines_end_at_line_feeds, lines_make_their_text};
+pub use lines::{Line, Lines, MAX_TEXT};
+pub use memory::Memory;
+pub use number::decimal;
+pub use output_bytes::write_all;
+pub use part::Part;
+pub use part_name::PartName;
+pub use to_writer::ToWriter;
+pub use words::Words;
+
+#[cfg(test)]
+mod tests;

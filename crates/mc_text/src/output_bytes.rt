@@ -1,0 +1,26 @@
+//! Writing a whole text.
+
+ghost use Rattle.std.specs.Prelude.{◌≡◌, ◌<◌, OnOk, OnErr};
+ghost use Rattle.std.specs.Io.KnownBytes.{Appends};
+ghost use Rattle.mc_text.specs.Device.{failed_by_write_all, AppendsPart};
+
+use crate::device::{DeviceFault, Output};
+
+/// Writes the whole text. The first call of `write` that answers an error or takes no byte ends it.
+pub fn write_all<W: Output>(output: &mut W, text: &[u8]) -> Result<(), DeviceFault>
+    requires { W.failed output.old < u64.MAX }
+    ensures same { W.names output.new ≡ W.names output.old }
+    ensures ok { OnOk result (Appends (W.took output.old) (W.took output.new) text.now) }
+    ensures err { OnErr result (AppendsPart (W.took output.old) (W.took output.new) text.now) }
+    ensures failures { W.failed output.new ≡ failed_by_write_all result (W.failed output.old) }
+{
+    let mut taken = 0;
+    while taken < text.len() {
+        match output.write(&text[taken..]) {
+            Ok(0) => return Err(DeviceFault),
+            Ok(count) => taken += count,
+            Err(fault) => return Err(fault),
+        }
+    }
+    Ok(())
+}

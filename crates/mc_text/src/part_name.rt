@@ -1,0 +1,91 @@
+//! Names of a bundle's parts.
+
+ghost use Rattle.std.specs.Prelude.{◌≡◌, ◌≤◌, length, IfSome, Some};
+ghost use Rattle.std.specs.List.{list_all};
+ghost use Rattle.mc_text.specs.Bundle.{IsPartName, is_name_byte as is_letter};
+ghost use Rattle.mc_text.specs.BundleReading.{is_part_name as is_name};
+ghost use Rattle.mc_text.specs.PaddedName.{padded as with_zeros};
+
+use std::marker::Model;
+
+/// The greatest length of a name, in bytes.
+const MAX_NAME: usize = 64;
+
+/// A part's name: 1 to 64 letters, digits, `-`, `_`, `.` and `/`.
+#[derive(Clone, Copy, Debug, PartialEq, Eq)]
+pub struct PartName {
+    bytes: [u8; MAX_NAME],
+    length: usize,
+}
+
+impl Model for PartName {
+    ghost use Rattle.std.specs.Prelude.{ℕ, List};
+    ghost use Rattle.mc_text.specs.PartName.{name_of, IsNameInside, inside_of, inside_of-name_of};
+
+    ghost Value = { List ℕ };
+
+    ghost view = { name_of };
+
+    ghost invariant = { IsNameInside };
+
+    ghost inverse = { inside_of };
+
+    ghost inverse_ok = { inside_of-name_of };
+}
+
+impl PartName {
+    /// The name of these bytes, if they are one.
+    pub fn new(bytes: &[u8]) -> Option<PartName>
+        ensures found { IfSome result (λ name. name ≡ bytes.now) }
+        ensures is_name { IfSome result IsPartName }
+        ensures only { IsPartName bytes.now → result ≡ Some bytes.now }
+    {
+        if !is_part_name(bytes) {
+            return None;
+        }
+        Some(PartName {
+            bytes: padded(bytes),
+            length: bytes.len(),
+        })
+    }
+
+    /// Its bytes.
+    pub fn as_bytes(&self) -> &[u8]
+        ensures bytes { result.now ≡ self.now }
+        ensures is_name { IsPartName self.now }
+    {
+        &self.bytes[..self.length]
+    }
+}
+
+fn is_part_name(bytes: &[u8]) -> bool
+    ensures { result ≡ is_name bytes.now }
+{
+    if bytes.is_empty() || bytes.len() > MAX_NAME {
+        return false;
+    }
+    are_name_bytes(bytes)
+}
+
+fn are_name_bytes(bytes: &[u8]) -> bool
+    ensures { result ≡ list_all is_letter bytes.now }
+{
+    bytes.iter().all(|byte| is_name_byte(*byte))
+}
+
+fn is_name_byte(byte: u8) -> bool
+    ensures { result ≡ is_letter byte }
+{
+    byte.is_ascii_alphanumeric() || matches!(byte, b'-' | b'_' | b'.' | b'/')
+}
+
+// The bytes, and zeros after them.
+fn padded(bytes: &[u8]) -> [u8; MAX_NAME]
+    requires { length bytes.now ≤ 64 }
+    ensures value { result ≡ with_zeros bytes.now }
+    ensures full { length result ≡ 64 }
+{
+    let mut all = [0u8; MAX_NAME];
+    all[..bytes.len()].copy_from_slice(bytes);
+    all
+}

@@ -1,0 +1,11 @@
+pub mod AddressLemmas
+pub mod Each
+pub mod FlowLemmas
+pub mod Fields
+pub mod InterfaceLemmas
+pub mod NameLemmas
+pub mod Parts
+pub mod ReadLemmas
+pub mod Whole
+pub mod Steps
+pub mod Tables

@@ -1,0 +1,253 @@
+-- A part of a section that is read stands for its value, and a part that stands for a value is read as that.
+use Rattle.std.proofs.Common.{◌≡◌, ℕ, ℤ, pos, negsuc, ◌+◌, ◌≤◌, ◌/◌, ◌^◌, Bool, true, not, List, [], ◌∷◌, ◌++◌, length, codes, Option, Some, None, Result, Ok, nat_le, ◌&&◌, le-leb, refl, sym, ap, subst, ◌∙◌, arith, append_assoc}
+use Rattle.std.specs.Option.{ok_or}
+use Rattle.std.proofs.lemmas.Bool.{leb-true, ltb-true, lt-ltb, and_parts, not-true, not-false, eqb-false, ne_eqb}
+use Rattle.std.proofs.lemmas.List.{append-nil}
+use Rattle.toml.specs.Data.{Data}
+use Rattle.mc_text.specs.Addr.{IsAddr, IsSource, IsForwardedGroup, dotted}
+use Rattle.mc_topology.specs.declared.fault.Section.{Section}
+use Rattle.mc_topology.specs.declared.fault.TopologyFaultKind.{TopologyFaultKind}
+use Rattle.mc_topology.specs.declared.fault.TopologyFaultKind.TheVariants.{BadAddress, BadTtl, BadName, UnknownName, RepeatedName, RepeatedInterface, RepeatedFlow}
+use Rattle.mc_topology.specs.declared.flow.Flow.{Flow}
+use Rattle.mc_topology.specs.declared.interface.Interface.{Interface}
+use Rattle.mc_topology.specs.declared.router.Router.{Router}
+use Rattle.mc_topology.specs.declared.source.Source.{Source}
+use Rattle.mc_topology.specs.Addresses.{address_of, is_source, is_forwarded_group, passing, source_address_of, group_address_of}
+use Rattle.mc_topology.specs.Answer.{place, each}
+use Rattle.mc_topology.specs.Document.{table_of, text_of, text_at, number_at, optional_text_at}
+use Rattle.mc_topology.specs.Names.{is_name, is_device, is_among, index_of}
+use Rattle.mc_topology.specs.Lans.{lan_of}
+use Rattle.mc_topology.specs.Routers.{router_keys, router_of, order_of, has_router, router_no_of}
+use Rattle.mc_topology.specs.Interfaces.{interface_keys, interface_of, has_interface}
+use Rattle.mc_topology.specs.Sources.{source_keys, source_of, has_source, lan_of_source}
+use Rattle.mc_topology.specs.Flows.{flow_keys, flow_of, ttl_of, has_flow}
+use Rattle.mc_topology.specs.Stands.{EachStands, IsLan, IsRouter, IsInterface, IsSourceRow, IsFlow}
+use Rattle.mc_topology.proofs.AddressLemmas.{address_of-found, address_of-dotted}
+use Rattle.mc_topology.proofs.Fields.{text_of-takes, text_at-takes, text_at-again, number_at-takes, number_at-again, table_of-takes, table_of-again, optional_order-takes, optional_order-again}
+use Rattle.mc_topology.proofs.Steps.{bind_ok, refusal_ok, test_ok, ok_or_ok, ok_is, place_ok}
+
+-- ---- addresses and times to live
+
+passing_ok : (p : ℕ → Bool) (o : Option ℕ) (a : ℕ) → passing p o ≡ Ok a → (o ≡ Some a) × (p a ≡ true)
+passing_ok p None a e = absurd cc
+passing_ok p (Some b) a e =
+    let t = test_ok (p b) BadAddress (Ok b) a e in
+    let same : b ≡ a = ok_is b a t.1 in
+    (ap Some same, ap p (sym same) ∙ t.0)
+
+is_source-tells : (a : ℕ) → is_source a ≡ true → IsSource a
+is_source-tells a e =
+    let (within, other) = and_parts _ _ e in
+    let (low, high) = and_parts _ _ within in
+    (leb-true _ _ low, leb-true _ _ high, λ same. let none = eqb-false _ _ (not-true _ other) in none same)
+
+is_source-from : (a : ℕ) → IsSource a → is_source a ≡ true
+is_source-from a is = rw (le-leb _ _ is.0, le-leb _ _ is.1, ne_eqb (a / 2 ^ 24) 127 is.2) refl
+
+is_forwarded_group-tells : (a : ℕ) → is_forwarded_group a ≡ true → IsForwardedGroup a
+is_forwarded_group-tells a e =
+    let (low, high) = and_parts _ _ e in
+    (leb-true _ _ low, ltb-true _ _ high)
+
+is_forwarded_group-from : (a : ℕ) → IsForwardedGroup a → is_forwarded_group a ≡ true
+is_forwarded_group-from a is = rw (le-leb _ _ is.0, lt-ltb _ _ is.1) refl
+
+source_takes : (text : List ℕ) (a : ℕ) → source_address_of text ≡ Ok a → (text ≡ dotted a) × IsAddr a × IsSource a
+unfolding source_address_of
+source_takes text a e =
+    let p = passing_ok is_source (address_of text) a e in
+    let at = address_of-found text a p.0 in
+    (at.1, at.0, is_source-tells a p.1)
+
+source_again : (a : ℕ) → IsAddr a → IsSource a → source_address_of (dotted a) ≡ Ok a
+unfolding source_address_of
+source_again a is may = rw (address_of-dotted (dotted a) a is refl) (rw (is_source-from a may) refl)
+
+group_takes : (text : List ℕ) (a : ℕ) → group_address_of text ≡ Ok a → (text ≡ dotted a) × IsForwardedGroup a
+unfolding group_address_of
+group_takes text a e =
+    let p = passing_ok is_forwarded_group (address_of text) a e in
+    ((address_of-found text a p.0).1, is_forwarded_group-tells a p.1)
+
+group_again : (a : ℕ) → IsForwardedGroup a → group_address_of (dotted a) ≡ Ok a
+unfolding group_address_of
+group_again a is = rw (address_of-dotted (dotted a) a (omega (arith, is.1)) refl) (rw (is_forwarded_group-from a is) refl)
+
+ttl_takes : (z : ℤ) (n : ℕ) → ttl_of z ≡ Ok n → (z ≡ pos n) × (1 ≤ n) × (n ≤ 255)
+unfolding ttl_of
+ttl_takes (pos m) n e =
+    let t = test_ok (nat_le 1 m && nat_le m 255) BadTtl (Ok m) n e in
+    let same : m ≡ n = ok_is m n t.1 in
+    let (low, high) = and_parts _ _ t.0 in
+    (ap pos same, subst (λ k. 1 ≤ k) same (leb-true _ _ low), subst (λ k. k ≤ 255) same (leb-true _ _ high))
+ttl_takes (negsuc m) n e = absurd cc
+
+ttl_again : (n : ℕ) → 1 ≤ n → n ≤ 255 → ttl_of (pos n) ≡ Ok n
+unfolding ttl_of
+ttl_again n low high = rw (le-leb 1 n low, le-leb n 255 high) refl
+
+-- ---- the parts of the sections
+
+pub lan_takes : (earlier : List (List ℕ)) (d : Data) (name : List ℕ) → lan_of earlier d ≡ Ok name → IsLan earlier d name
+unfolding lan_of
+lan_takes earlier d name e =
+    let a = bind_ok (text_of d) _ name e in
+    let fits = refusal_ok (not (is_name a.0)) BadName _ name a.2 in
+    let new = refusal_ok (is_among a.0 earlier) RepeatedName (Ok a.0) name fits.1 in
+    let same : a.0 ≡ name = ok_is a.0 name new.1 in
+    subst (λ (x : List ℕ). IsLan earlier d x) same (record { text = text_of-takes d a.0 a.1; fits = not-false _ fits.0; new = new.0 })
+
+pub lan_again : (earlier : List (List ℕ)) (d : Data) (name : List ℕ) → IsLan earlier d name → lan_of earlier d ≡ Ok name
+unfolding lan_of
+lan_again earlier d name is = rw (is.text, is.fits, is.new) refl
+
+pub router_takes : (earlier : List Router) (d : Data) (r : Router) → router_of earlier d ≡ Ok r → IsRouter earlier d r
+unfolding router_of
+router_takes earlier d r e =
+    let t = bind_ok (table_of router_keys d) _ r e in
+    let name = bind_ok (text_at (codes "name") t.0) _ r t.2 in
+    let text = bind_ok (optional_text_at (codes "order") t.0) _ r name.2 in
+    let fits = refusal_ok (not (is_name name.0)) BadName _ r text.2 in
+    let order = bind_ok (order_of text.0) _ r fits.1 in
+    let new = refusal_ok (has_router name.0 earlier) RepeatedName _ r order.2 in
+    let made : Router = record { name = name.0; order = order.0 } in
+    subst (λ (x : Router). IsRouter earlier d x) (ok_is made r new.1)
+    (record {
+      members = t.0;
+      is_table = table_of-takes router_keys d t.0 t.1;
+      name = text_at-takes (codes "name") t.0 name.0 name.1;
+      order = optional_order-takes (codes "order") t.0 text.0 order.0 text.1 order.1;
+      fits = not-false _ fits.0;
+      new = new.0;
+    })
+
+pub router_again : (earlier : List Router) (d : Data) (r : Router) → IsRouter earlier d r → router_of earlier d ≡ Ok r
+unfolding router_of
+router_again earlier d r is =
+    let text = optional_order-again (codes "order") is.members r.order is.order in
+    rw (table_of-again router_keys d is.members is.is_table, text_at-again (codes "name") is.members r.name is.name, text.1, is.fits, text.2, is.new) refl
+
+pub interface_takes : (lans : List (List ℕ)) (routers : List Router) (earlier : List Interface) (d : Data) (i : Interface) → interface_of lans routers earlier d ≡ Ok i → IsInterface lans routers earlier d i
+unfolding interface_of
+interface_takes lans routers earlier d i e =
+    let t = bind_ok (table_of interface_keys d) _ i e in
+    let router_name = bind_ok (text_at (codes "router") t.0) _ i t.2 in
+    let device = bind_ok (text_at (codes "device") t.0) _ i router_name.2 in
+    let lan_name = bind_ok (text_at (codes "lan") t.0) _ i device.2 in
+    let router = bind_ok (ok_or (router_no_of router_name.0 routers) UnknownName) _ i lan_name.2 in
+    let fits = refusal_ok (not (is_device device.0)) BadName _ i router.2 in
+    let lan = bind_ok (ok_or (index_of lan_name.0 lans) UnknownName) _ i fits.1 in
+    let new = refusal_ok (has_interface router.0 device.0 earlier) RepeatedInterface _ i lan.2 in
+    let made : Interface = record { router = router.0; device = device.0; lan = lan.0 } in
+    subst (λ (x : Interface). IsInterface lans routers earlier d x) (ok_is made i new.1)
+    (record {
+      members = t.0;
+      router_name = router_name.0;
+      lan_name = lan_name.0;
+      is_table = table_of-takes interface_keys d t.0 t.1;
+      router_text = text_at-takes (codes "router") t.0 router_name.0 router_name.1;
+      device = text_at-takes (codes "device") t.0 device.0 device.1;
+      lan_text = text_at-takes (codes "lan") t.0 lan_name.0 lan_name.1;
+      router = ok_or_ok (router_no_of router_name.0 routers) UnknownName router.0 router.1;
+      fits = not-false _ fits.0;
+      lan = ok_or_ok (index_of lan_name.0 lans) UnknownName lan.0 lan.1;
+      new = new.0;
+    })
+
+pub interface_again : (lans : List (List ℕ)) (routers : List Router) (earlier : List Interface) (d : Data) (i : Interface) → IsInterface lans routers earlier d i → interface_of lans routers earlier d ≡ Ok i
+unfolding interface_of
+interface_again lans routers earlier d i is =
+    rw
+    (table_of-again interface_keys d is.members is.is_table, text_at-again (codes "router") is.members is.router_name is.router_text, text_at-again (codes "device") is.members i.device is.device, text_at-again (codes "lan") is.members is.lan_name is.lan_text, is.router, is.fits, is.lan, is.new)
+    refl
+
+pub source_row_takes : (lans : List (List ℕ)) (earlier : List Source) (d : Data) (s : Source) → source_of lans earlier d ≡ Ok s → IsSourceRow lans earlier d s
+unfolding source_of
+source_row_takes lans earlier d s e =
+    let t = bind_ok (table_of source_keys d) _ s e in
+    let text = bind_ok (text_at (codes "address") t.0) _ s t.2 in
+    let lan_name = bind_ok (text_at (codes "lan") t.0) _ s text.2 in
+    let address = bind_ok (source_address_of text.0) _ s lan_name.2 in
+    let lan = bind_ok (ok_or (index_of lan_name.0 lans) UnknownName) _ s address.2 in
+    let new = refusal_ok (has_source address.0 earlier) RepeatedName _ s lan.2 in
+    let at = source_takes text.0 address.0 address.1 in
+    let made : Source = record { address = address.0; lan = lan.0 } in
+    subst (λ (x : Source). IsSourceRow lans earlier d x) (ok_is made s new.1)
+    (record {
+      members = t.0;
+      lan_name = lan_name.0;
+      is_table = table_of-takes source_keys d t.0 t.1;
+      address = text_at-takes (codes "address") t.0 (dotted address.0) (text.1 ∙ ap Ok at.0);
+      lan_text = text_at-takes (codes "lan") t.0 lan_name.0 lan_name.1;
+      is_address = at.1;
+      may_send = at.2;
+      lan = ok_or_ok (index_of lan_name.0 lans) UnknownName lan.0 lan.1;
+      new = new.0;
+    })
+
+pub source_row_again : (lans : List (List ℕ)) (earlier : List Source) (d : Data) (s : Source) → IsSourceRow lans earlier d s → source_of lans earlier d ≡ Ok s
+unfolding source_of
+source_row_again lans earlier d s is =
+    rw
+    (table_of-again source_keys d is.members is.is_table, text_at-again (codes "address") is.members (dotted s.address) is.address, text_at-again (codes "lan") is.members is.lan_name is.lan_text, source_again s.address is.is_address is.may_send, is.lan, is.new)
+    refl
+
+pub flow_takes : (sources : List Source) (earlier : List Flow) (d : Data) (f : Flow) → flow_of sources earlier d ≡ Ok f → IsFlow sources earlier d f
+unfolding flow_of
+flow_takes sources earlier d f e =
+    let t = bind_ok (table_of flow_keys d) _ f e in
+    let source_text = bind_ok (text_at (codes "source") t.0) _ f t.2 in
+    let group_text = bind_ok (text_at (codes "group") t.0) _ f source_text.2 in
+    let number = bind_ok (number_at (codes "ttl") t.0) _ f group_text.2 in
+    let source = bind_ok (source_address_of source_text.0) _ f number.2 in
+    let lan = bind_ok (ok_or (lan_of_source source.0 sources) UnknownName) _ f source.2 in
+    let group = bind_ok (group_address_of group_text.0) _ f lan.2 in
+    let ttl = bind_ok (ttl_of number.0) _ f group.2 in
+    let new = refusal_ok (has_flow source.0 group.0 earlier) RepeatedFlow _ f ttl.2 in
+    let from = source_takes source_text.0 source.0 source.1 in
+    let to = group_takes group_text.0 group.0 group.1 in
+    let within = ttl_takes number.0 ttl.0 ttl.1 in
+    let made : Flow = record { source = source.0; lan = lan.0; group = group.0; ttl = ttl.0 } in
+    subst (λ (x : Flow). IsFlow sources earlier d x) (ok_is made f new.1)
+    (record {
+      members = t.0;
+      is_table = table_of-takes flow_keys d t.0 t.1;
+      source = text_at-takes (codes "source") t.0 (dotted source.0) (source_text.1 ∙ ap Ok from.0);
+      group = text_at-takes (codes "group") t.0 (dotted group.0) (group_text.1 ∙ ap Ok to.0);
+      ttl = number_at-takes (codes "ttl") t.0 (pos ttl.0) (number.1 ∙ ap Ok within.0);
+      is_address = from.1;
+      may_send = from.2;
+      lan = ok_or_ok (lan_of_source source.0 sources) UnknownName lan.0 lan.1;
+      is_group = to.1;
+      ttl_from = within.1;
+      ttl_to = within.2;
+      new = new.0;
+    })
+
+pub flow_again : (sources : List Source) (earlier : List Flow) (d : Data) (f : Flow) → IsFlow sources earlier d f → flow_of sources earlier d ≡ Ok f
+unfolding flow_of
+flow_again sources earlier d f is =
+    rw
+    (table_of-again flow_keys d is.members is.is_table, text_at-again (codes "source") is.members (dotted f.source) is.source, text_at-again (codes "group") is.members (dotted f.group) is.group, number_at-again (codes "ttl") is.members (pos f.ttl) is.ttl, source_again f.source is.is_address is.may_send, is.lan, group_again f.group is.is_group, ttl_again f.ttl is.ttl_from is.ttl_to, is.new)
+    refl
+
+-- ---- all parts of a section
+
+module _ {X : Type 0} (section : Section) (one : List X → Data → Result X TopologyFaultKind) (Stands : List X → Data → X → Type 0) where
+  pub each_takes : ((earlier : List X) (d : Data) (x : X) → one earlier d ≡ Ok x → Stands earlier d x)
+      → (earlier : List X) (ds : List Data) (ys : List X) → each section one earlier ds ≡ Ok ys → (xs : List X) × (ys ≡ earlier ++ xs) × EachStands Stands earlier ds xs
+  unfolding each
+  each_takes takes earlier [] ys e = ([], sym (ok_is earlier ys e) ∙ sym (append-nil earlier), tt)
+  each_takes takes earlier (d ∷ ds) ys e =
+      let a = bind_ok (place section (length earlier + 1) (one earlier d)) (λ x. each section one (earlier ++ x ∷ []) ds) ys e in
+      let (xs, is, stand) = each_takes takes (earlier ++ a.0 ∷ []) ds ys a.2 in
+      (a.0 ∷ xs, is ∙ append_assoc earlier (a.0 ∷ []) xs, (takes earlier d a.0 (place_ok section (length earlier + 1) (one earlier d) a.0 a.1), stand))
+
+  pub each_again : ((earlier : List X) (d : Data) (x : X) → Stands earlier d x → one earlier d ≡ Ok x)
+      → (earlier : List X) (ds : List Data) (xs : List X) → EachStands Stands earlier ds xs → each section one earlier ds ≡ Ok (earlier ++ xs)
+  unfolding each
+  each_again again earlier [] [] stand = ap Ok (sym (append-nil earlier))
+  each_again again earlier [] (x ∷ xs) stand = absurd stand
+  each_again again earlier (d ∷ ds) [] stand = absurd stand
+  each_again again earlier (d ∷ ds) (x ∷ xs) stand =
+      rw (again earlier d x stand.0) (each_again again (earlier ++ x ∷ []) ds xs stand.1 ∙ ap Ok (append_assoc earlier (x ∷ []) xs))

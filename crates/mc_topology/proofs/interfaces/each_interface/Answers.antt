@@ -1,0 +1,24 @@
+use Rattle.std.proofs.Common.{sym, ◌∙◌, arith}
+use Rattle.std.proofs.lemmas.Result.{err_from_is_err_and}
+use Rattle.toml.specs.View.{view}
+use Rattle.mc_topology.specs.declared.fault.Section.TheVariants as section
+use Rattle.mc_topology.specs.Interfaces.{interface_of}
+use Rattle.mc_topology.proofs.Each.{each_next, each_refused, each_done}
+use Rattle.mc_topology.proofs.interfaces.each_interface.Goals as goal
+
+pub returns-in_err-router : goal.returns-in_err-router
+returns-in_err-router c =
+    let p = err_from_is_err_and c.from_residual.result c.from_residual.ensures.1 in
+    let refused = each_refused section.Interface (interface_of c.args.lans.now c.args.routers.now) view c.loop-row.interfaces.items c.args.rows.now c.loop-row.row-index c.row-item.result c.in_err-router.field-0.0 c.loop-row-test.true c.row-item.is (rw (← c.deref.ensures.value) (c.in_err-router.ensures)) in
+    rw (p.1, p.2) (λ _. sym c.loop-row.invariant.rows ∙ refused)
+
+pub loop-row-preserved : goal.loop-row-preserved
+loop-row-preserved c =
+    let next = each_next section.Interface (interface_of c.args.lans.now c.args.routers.now) view c.loop-row.interfaces.items c.args.rows.now c.loop-row.row-index c.row-item.result (record { router = c.in_ok-router.router; device = c.in_ok-router.device.now; lan = c.in_ok-router.lan }) c.loop-row-test.true c.row-item.is (rw (← c.deref.ensures.value) (c.in_ok-router.ensures)) in
+    record {
+      rows = rw (c.in_ok-push.ensures.items, c.in_ok-device.ensures) (sym next ∙ c.loop-row.invariant.rows);
+      count = omega (arith, c.in_ok-push.ensures.len);
+    }
+
+pub returns : goal.returns
+returns c = sym c.loop-row.invariant.rows ∙ each_done section.Interface (interface_of c.args.lans.now c.args.routers.now) view c.loop-row.interfaces.items c.args.rows.now c.loop-row.row-index c.loop-row-test.false

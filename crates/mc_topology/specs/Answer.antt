@@ -1,0 +1,31 @@
+-- Steps that may be refused, and how a call answers them.
+use Rattle.std.specs.Prelude.{◌≡◌, ◌≢◌, ℕ, ◌+◌, List, [], ◌∷◌, ◌++◌, length, Result, Ok, Err}
+use Rattle.mc_topology.specs.declared.fault.Section.{Section}
+use Rattle.mc_topology.specs.declared.fault.TopologyFaultKind.{TopologyFaultKind}
+use Rattle.mc_topology.specs.declared.fault.TopologyFaultKind.TheVariants.{Memory}
+use Rattle.mc_topology.specs.declared.fault.TopologyFault.{TopologyFault}
+
+infixl 10 ◌>>=◌
+abbrev pub ◌>>=◌ : {A B E : Type 0} → Result A E → (A → Result B E) → Result B E
+(Ok x) >>= f = f x
+(Err e) >>= f = Err e
+
+-- the fault of a step of this part of a section
+abbrev pub place : {A : Type 0} → Section → ℕ → Result A TopologyFaultKind → Result A TopologyFault
+place section number (Ok x) = Ok x
+place section number (Err kind) = Err (record { section = section; number = number; kind = kind })
+
+-- what a call that takes no memory answers, seen by view
+abbrev pub Answers : {X Y E : Type 0} → (X → Y) → Result X E → Result Y E → Type 0
+Answers view (Ok x) step = step ≡ Ok (view x)
+Answers view (Err e) step = step ≡ Err e
+
+-- what a call answers, seen by view, unless memory runs out
+abbrev pub Gives : {X Y : Type 0} → (X → Y) → Result X TopologyFault → Result Y TopologyFault → Type 0
+Gives view (Ok x) step = step ≡ Ok (view x)
+Gives view (Err fault) step = fault.kind ≢ Memory → step ≡ Err fault
+
+-- The values of the parts of a section, each read beside those before it, or the first fault.
+unfoldable pub each : {D X : Type 0} → Section → (List X → D → Result X TopologyFaultKind) → List X → List D → Result (List X) TopologyFault
+each section one earlier [] = Ok earlier
+each section one earlier (d ∷ ds) = place section (length earlier + 1) (one earlier d) >>= λ x. each section one (earlier ++ x ∷ []) ds

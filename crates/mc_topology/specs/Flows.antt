@@ -1,0 +1,50 @@
+-- The flows.
+use Rattle.std.specs.Prelude.{ℕ, ℤ, pos, negsuc, ◌==◌, ◌&&◌, nat_le, List, [], ◌∷◌, length, codes, Bool, Result, Ok, Err, ok_or, if◌then◌else◌}
+use Rattle.std.specs.List.{list_any}
+use Rattle.toml.specs.Data.{Data, Members}
+use Rattle.mc_topology.specs.declared.source.Source.{Source}
+use Rattle.mc_topology.specs.declared.flow.Flow.{Flow}
+use Rattle.mc_topology.specs.declared.fault.Section.TheVariants as section
+use Rattle.mc_topology.specs.declared.fault.TopologyFaultKind.{TopologyFaultKind}
+use Rattle.mc_topology.specs.declared.fault.TopologyFaultKind.TheVariants.{BadTtl, UnknownName, RepeatedFlow, NoFlow, TooMany}
+use Rattle.mc_topology.specs.declared.fault.TopologyFault.{TopologyFault}
+use Rattle.mc_topology.specs.Addresses.{source_address_of, group_address_of}
+use Rattle.mc_topology.specs.Answer.{◌>>=◌, place, each}
+use Rattle.mc_topology.specs.Document.{table_of, text_at, number_at, optional_list_at}
+use Rattle.mc_topology.specs.Sources.{lan_of_source}
+
+-- the keys of a flow
+abbrev pub flow_keys : List (List ℕ)
+flow_keys = codes "source" ∷ codes "group" ∷ codes "ttl" ∷ []
+
+-- a time to live is 1 to 255
+unfoldable pub ttl_of : ℤ → Result ℕ TopologyFaultKind
+ttl_of (pos n) = if nat_le 1 n && nat_le n 255 then Ok n else Err BadTtl
+ttl_of (negsuc n) = Err BadTtl
+
+-- a flow has the source and the group
+abbrev pub has_flow : ℕ → ℕ → List Flow → Bool
+has_flow source group flows = list_any (λ f. (f.source == source) && (f.group == group)) flows
+
+unfoldable pub flow_of : List Source → List Flow → Data → Result Flow TopologyFaultKind
+flow_of sources earlier d = do
+  table ← table_of flow_keys d
+  source_text ← text_at (codes "source") table
+  group_text ← text_at (codes "group") table
+  number ← number_at (codes "ttl") table
+  source ← source_address_of source_text
+  lan ← ok_or (lan_of_source source sources) UnknownName
+  group ← group_address_of group_text
+  ttl ← ttl_of number
+  if has_flow source group earlier then Err RepeatedFlow else Ok (record { source = source; lan = lan; group = group; ttl = ttl })
+
+-- one flow at least, and at most 4,096
+unfoldable pub flow_rows : Members → Result (List Data) TopologyFaultKind
+flow_rows ms = do
+  rows ← optional_list_at (codes "flow") ms
+  if length rows == 0 then Err NoFlow else if nat_le (length rows) 4096 then Ok rows else Err TooMany
+
+unfoldable pub flows_in : List Source → Members → Result (List Flow) TopologyFault
+flows_in sources ms = do
+  rows ← place section.Flow 0 (flow_rows ms)
+  each section.Flow (flow_of sources) [] rows

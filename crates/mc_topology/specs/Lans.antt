@@ -1,0 +1,27 @@
+-- The list of LANs.
+use Rattle.std.specs.Prelude.{ℕ, not, nat_le, List, [], length, codes, Result, Ok, Err, if◌then◌else◌}
+use Rattle.toml.specs.Data.{Data, Members}
+use Rattle.mc_topology.specs.declared.fault.Section.TheVariants.{Lans}
+use Rattle.mc_topology.specs.declared.fault.TopologyFaultKind.{TopologyFaultKind}
+use Rattle.mc_topology.specs.declared.fault.TopologyFaultKind.TheVariants.{BadName, RepeatedName, TooMany}
+use Rattle.mc_topology.specs.declared.fault.TopologyFault.{TopologyFault}
+use Rattle.mc_topology.specs.Answer.{◌>>=◌, place, each}
+use Rattle.mc_topology.specs.Document.{text_of, list_at}
+use Rattle.mc_topology.specs.Names.{is_name, is_among}
+
+-- a LAN's name
+unfoldable pub lan_of : List (List ℕ) → Data → Result (List ℕ) TopologyFaultKind
+lan_of earlier d = do
+  name ← text_of d
+  if not (is_name name) then Err BadName else if is_among name earlier then Err RepeatedName else Ok name
+
+-- at most 1,024 LANs
+unfoldable pub lan_rows : Members → Result (List Data) TopologyFaultKind
+lan_rows ms = do
+  rows ← list_at (codes "lans") ms
+  if nat_le (length rows) 1024 then Ok rows else Err TooMany
+
+unfoldable pub lans_in : Members → Result (List (List ℕ)) TopologyFault
+lans_in ms = do
+  rows ← place Lans 0 (lan_rows ms)
+  each Lans lan_of [] rows

@@ -1,0 +1,16 @@
+pub mod Addresses
+pub mod Answer
+pub mod Document
+pub mod Flows
+pub mod Interfaces
+pub mod Lans
+pub mod Names
+pub mod Routers
+pub mod Reading
+pub mod Sources
+pub mod Stands
+pub mod Topology
+pub use Rattle.mc_text.specs.Addr
+pub use Rattle.toml.specs.Data
+pub use Rattle.toml.specs.View
+pub use Rattle.toml.specs.Parse

@@ -1,0 +1,49 @@
+-- The topology that a text stands for, or its first fault, in the order in which a text is judged.
+use Rattle.std.specs.Prelude.{ℕ, pos, nat_le, List, [], ◌∷◌, length, codes, Result, Ok, Err, ok_or, if◌then◌else◌}
+use Rattle.std.specs.Ordering.{int_eq}
+use Rattle.std.specs.Str.{is_utf8}
+use Rattle.toml.specs.Data.{Members}
+use Rattle.toml.specs.Parse.{parse_document}
+use Rattle.mc_topology.specs.declared.fault.Section.TheVariants.{Top}
+use Rattle.mc_topology.specs.declared.fault.TopologyFaultKind.{TopologyFaultKind}
+use Rattle.mc_topology.specs.declared.fault.TopologyFaultKind.TheVariants.{NotToml, BadVersion, UnknownKey, TooMany}
+use Rattle.mc_topology.specs.declared.fault.TopologyFault.{TopologyFault}
+use Rattle.mc_topology.specs.Answer.{◌>>=◌, place}
+use Rattle.mc_topology.specs.Document.{has_only, number_at}
+use Rattle.mc_topology.specs.Lans.{lans_in}
+use Rattle.mc_topology.specs.Routers.{routers_in}
+use Rattle.mc_topology.specs.Interfaces.{interfaces_in}
+use Rattle.mc_topology.specs.Sources.{sources_in}
+use Rattle.mc_topology.specs.Flows.{flows_in}
+use Rattle.mc_topology.specs.Topology.{Sections, TopologyValue, topology_of}
+
+-- a text is UTF-8
+unfoldable pub utf8_text : List ℕ → Result (List ℕ) TopologyFaultKind
+utf8_text text = if is_utf8 text then Ok text else Err NotToml
+
+-- the table of a text of at most 16,777,216 bytes
+unfoldable pub document_of : List ℕ → Result Members TopologyFaultKind
+document_of text = if nat_le (length text) 16777216 then (utf8_text text >>= λ t. ok_or (parse_document t) NotToml) else Err TooMany
+
+-- the keys of a topology
+abbrev pub top_keys : List (List ℕ)
+top_keys = codes "version" ∷ codes "lans" ∷ codes "router" ∷ codes "interface" ∷ codes "source" ∷ codes "flow" ∷ []
+
+unfoldable pub version_in : Members → Result (Unit {0}) TopologyFaultKind
+version_in ms = if has_only top_keys ms then (number_at (codes "version") ms >>= λ version. if int_eq version (pos 1) then Ok tt else Err BadVersion) else Err UnknownKey
+
+unfoldable pub sections_in : Members → Result Sections TopologyFault
+sections_in ms = do
+  version ← place Top 0 (version_in ms)
+  lans ← lans_in ms
+  routers ← routers_in ms
+  interfaces ← interfaces_in lans routers ms
+  sources ← sources_in lans ms
+  flows ← flows_in sources ms
+  Ok (record { lans = lans; routers = routers; interfaces = interfaces; sources = sources; flows = flows })
+
+unfoldable pub topology_in : Members → Result TopologyValue TopologyFault
+topology_in ms = sections_in ms >>= λ sections. Ok (topology_of sections)
+
+unfoldable pub reading_of : List ℕ → Result TopologyValue TopologyFault
+reading_of text = place Top 0 (document_of text) >>= topology_in

@@ -1,0 +1,44 @@
+-- The routers.
+use Rattle.std.specs.Prelude.{ℕ, not, List, [], ◌∷◌, codes, position, Option, Some, None, Bool, Result, Ok, Err, if◌then◌else◌}
+use Rattle.std.specs.List.{list_any}
+use Rattle.std.specs.Str.{bytes_eq}
+use Rattle.toml.specs.Data.{Data, Members}
+use Rattle.mc_text.specs.declared.addr.Order.{Order}
+use Rattle.mc_text.specs.declared.addr.Order.TheVariants.{Little, Big}
+use Rattle.mc_topology.specs.declared.router.Router.{Router}
+use Rattle.mc_topology.specs.declared.fault.Section.TheVariants as section
+use Rattle.mc_topology.specs.declared.fault.TopologyFaultKind.{TopologyFaultKind}
+use Rattle.mc_topology.specs.declared.fault.TopologyFaultKind.TheVariants.{BadKind, BadName, RepeatedName}
+use Rattle.mc_topology.specs.declared.fault.TopologyFault.{TopologyFault}
+use Rattle.mc_topology.specs.Answer.{◌>>=◌, place, each}
+use Rattle.mc_topology.specs.Document.{table_of, text_at, optional_text_at, rows_at}
+use Rattle.mc_topology.specs.Names.{is_name}
+
+-- the keys of a router
+abbrev pub router_keys : List (List ℕ)
+router_keys = codes "name" ∷ codes "order" ∷ []
+
+-- a byte order by its text, which is `little` where there is none
+unfoldable pub order_of : Option (List ℕ) → Result Order TopologyFaultKind
+order_of None = Ok Little
+order_of (Some text) = if bytes_eq text (codes "little") then Ok Little else if bytes_eq text (codes "big") then Ok Big else Err BadKind
+
+-- a router has the name
+abbrev pub has_router : List ℕ → List Router → Bool
+has_router name routers = list_any (λ r. bytes_eq r.name name) routers
+
+-- the number of the router with the name
+abbrev pub router_no_of : List ℕ → List Router → Option ℕ
+router_no_of name routers = position (λ r. bytes_eq r.name name) routers
+
+unfoldable pub router_of : List Router → Data → Result Router TopologyFaultKind
+router_of earlier d = do
+  table ← table_of router_keys d
+  name ← text_at (codes "name") table
+  order_text ← optional_text_at (codes "order") table
+  if not (is_name name) then Err BadName else (order_of order_text >>= λ order. if has_router name earlier then Err RepeatedName else Ok (record { name = name; order = order }))
+
+unfoldable pub routers_in : Members → Result (List Router) TopologyFault
+routers_in ms = do
+  rows ← place section.Router 0 (rows_at (codes "router") 256 ms)
+  each section.Router router_of [] rows

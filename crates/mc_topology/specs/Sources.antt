@@ -1,0 +1,39 @@
+-- The sources.
+use Rattle.std.specs.Prelude.{ℕ, ◌==◌, List, [], ◌∷◌, codes, find, Bool, Option, option_map, Result, Ok, Err, ok_or, if◌then◌else◌}
+use Rattle.std.specs.List.{list_any}
+use Rattle.toml.specs.Data.{Data, Members}
+use Rattle.mc_topology.specs.declared.source.Source.{Source}
+use Rattle.mc_topology.specs.declared.fault.Section.TheVariants as section
+use Rattle.mc_topology.specs.declared.fault.TopologyFaultKind.{TopologyFaultKind}
+use Rattle.mc_topology.specs.declared.fault.TopologyFaultKind.TheVariants.{UnknownName, RepeatedName}
+use Rattle.mc_topology.specs.declared.fault.TopologyFault.{TopologyFault}
+use Rattle.mc_topology.specs.Addresses.{source_address_of}
+use Rattle.mc_topology.specs.Answer.{◌>>=◌, place, each}
+use Rattle.mc_topology.specs.Document.{table_of, text_at, rows_at}
+use Rattle.mc_topology.specs.Names.{index_of}
+
+-- the keys of a source
+abbrev pub source_keys : List (List ℕ)
+source_keys = codes "address" ∷ codes "lan" ∷ []
+
+-- a source has the address
+abbrev pub has_source : ℕ → List Source → Bool
+has_source address sources = list_any (λ s. s.address == address) sources
+
+-- the LAN of the source with the address
+abbrev pub lan_of_source : ℕ → List Source → Option ℕ
+lan_of_source address sources = option_map (λ s. s.lan) (find (λ s. s.address == address) sources)
+
+unfoldable pub source_of : List (List ℕ) → List Source → Data → Result Source TopologyFaultKind
+source_of lans earlier d = do
+  table ← table_of source_keys d
+  text ← text_at (codes "address") table
+  lan_name ← text_at (codes "lan") table
+  address ← source_address_of text
+  lan ← ok_or (index_of lan_name lans) UnknownName
+  if has_source address earlier then Err RepeatedName else Ok (record { address = address; lan = lan })
+
+unfoldable pub sources_in : List (List ℕ) → Members → Result (List Source) TopologyFault
+sources_in lans ms = do
+  rows ← place section.Source 0 (rows_at (codes "source") 4096 ms)
+  each section.Source (source_of lans) [] rows

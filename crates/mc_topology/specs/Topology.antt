@@ -1,0 +1,85 @@
+-- What a topology is.
+use Rattle.std.specs.Prelude.{◌≡◌, ℕ, ◌≤◌, Bool, true, false, List, ◌∷◌, length, map, refl}
+use Rattle.std.specs.Cmp.Lexicographic.{slice_cmp}
+use Rattle.std.specs.Coded.{Coded, code_by, coded×, coded_bool, coded_ℕ, coded_list}
+use Rattle.std.specs.FinMap as finite
+use Rattle.std.specs.Ordering.{nat_cmp}
+use Rattle.mc_text.specs.declared.addr.Order.{Order}
+use Rattle.mc_text.specs.declared.addr.Order.TheVariants.{Little, Big}
+use Rattle.mc_topology.specs.declared.flow.Flow.{Flow}
+use Rattle.mc_topology.specs.declared.interface.Interface.{Interface}
+use Rattle.mc_topology.specs.declared.router.Router.{Router}
+use Rattle.mc_topology.specs.declared.source.Source.{Source}
+
+-- the finite map from interfaces to the numbers of their LANs
+abbrev pub LanByInterface : Type 0
+LanByInterface = finite.FinMap (slice_cmp nat_cmp) ℕ
+
+-- the key of an interface: the number of its router before the bytes of its device
+abbrev pub interface_key : ℕ → List ℕ → List ℕ
+interface_key router device = router ∷ device
+
+-- The names of the LANs and the routers, each in order, the LAN of each interface, and the flows in order.
+pub record TopologyValue : Type 0 where
+  pub lans : List (List ℕ)
+  pub routers : List Router
+  pub interfaces : LanByInterface
+  pub flows : List Flow
+
+-- What the five sections of a text stand for.
+pub record Sections : Type 0 where
+  pub lans : List (List ℕ)
+  pub routers : List Router
+  pub interfaces : List Interface
+  pub sources : List Source
+  pub flows : List Flow
+
+abbrev pub interface_entry : Interface → List ℕ × ℕ
+interface_entry i = (interface_key i.router i.device, i.lan)
+
+abbrev pub lan_by_interface : List Interface → LanByInterface
+lan_by_interface interfaces = finite.from_entries (map interface_entry interfaces)
+
+-- the topology that the sections make
+abbrev pub topology_of : Sections → TopologyValue
+topology_of s = record { lans = s.lans; routers = s.routers; interfaces = lan_by_interface s.interfaces; flows = s.flows }
+
+-- the limits that a topology keeps
+pub record IsWithinLimits (lans : List (List ℕ)) (routers : List Router) (flows : List Flow) : Type 0 where
+  pub few_lans : length lans ≤ 1024
+  pub few_routers : length routers ≤ 256
+  pub few_flows : length flows ≤ 4096
+
+-- a topology is stored as the tuple of its fields, and so are a router and a flow
+abbrev pub is_big : Order → Bool
+is_big Little = false
+is_big Big = true
+
+abbrev pub order_of_big : Bool → Order
+order_of_big false = Little
+order_of_big true = Big
+
+pub order_of_big-is_big : (order : Order) → order_of_big (is_big order) ≡ order
+order_of_big-is_big Little = refl
+order_of_big-is_big Big = refl
+
+abbrev pub order_code : Coded Order
+order_code = code_by Bool coded_bool is_big order_of_big order_of_big-is_big
+
+abbrev pub router_code : Coded Router
+router_code = code_by (List ℕ × Order) (coded× (coded_list coded_ℕ) order_code) (λ r. (r.name, r.order)) (λ p. record { name = p.0; order = p.1 }) (λ _. refl)
+
+abbrev pub flow_code : Coded Flow
+flow_code =
+    code_by (ℕ × (ℕ × (ℕ × ℕ))) (coded× coded_ℕ (coded× coded_ℕ (coded× coded_ℕ coded_ℕ)))
+    (λ f. (f.source, (f.lan, (f.group, f.ttl))))
+    (λ p. record { source = p.0; lan = p.1.0; group = p.1.1.0; ttl = p.1.1.1 })
+    (λ _. refl)
+
+abbrev pub topology_code : Coded TopologyValue
+topology_code =
+    code_by (List (List ℕ) × (List Router × (LanByInterface × List Flow)))
+    (coded× (coded_list (coded_list coded_ℕ)) (coded× (coded_list router_code) (coded× (finite.code (coded_list coded_ℕ) coded_ℕ) (coded_list flow_code))))
+    (λ t. (t.lans, (t.routers, (t.interfaces, t.flows))))
+    (λ p. record { lans = p.0; routers = p.1.0; interfaces = p.1.1.0; flows = p.1.1.1 })
+    (λ _. refl)

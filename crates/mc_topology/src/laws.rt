@@ -1,0 +1,20 @@
+//! What follows from the definitions alone, for whoever builds on them.
+
+ghost use Rattle.std.specs.Prelude.{◌≡◌, ℕ, List, Some, option_map, slice_get};
+ghost use Rattle.mc_topology.specs.Names.{index_of};
+ghost use Rattle.mc_topology.specs.Routers.{router_no_of};
+ghost use Rattle.mc_topology.specs.Stands.{TopologyStands};
+ghost use Rattle.mc_topology.specs.Topology.{TopologyValue};
+
+/// The name of a LAN's number is that of the LAN, and the number of a LAN's name is that of the LAN:
+/// `lan_no` and `lan_name` undo each other.
+pub fn lan_numbers_and_names_undo_each_other()
+    ensures number_of_name { (text : List ℕ) (t : TopologyValue) (lan : ℕ) (name : List ℕ) → TopologyStands text t → slice_get t.lans lan ≡ Some name → index_of name t.lans ≡ Some lan }
+    ensures name_of_number { (t : TopologyValue) (lan : ℕ) (name : List ℕ) → index_of name t.lans ≡ Some lan → slice_get t.lans lan ≡ Some name }
+{}
+
+/// The same of routers: `router_no` and `router_name` undo each other.
+pub fn router_numbers_and_names_undo_each_other()
+    ensures number_of_name { (text : List ℕ) (t : TopologyValue) (router : ℕ) (name : List ℕ) → TopologyStands text t → option_map (λ r. r.name) (slice_get t.routers router) ≡ Some name → router_no_of name t.routers ≡ Some router }
+    ensures name_of_number { (t : TopologyValue) (router : ℕ) (name : List ℕ) → router_no_of name t.routers ≡ Some router → option_map (λ r. r.name) (slice_get t.routers router) ≡ Some name }
+{}

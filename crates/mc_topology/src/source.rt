@@ -1,0 +1,14 @@
+//! A source.
+
+use crate::number::LanNo;
+use mc_text::Addr;
+
+/// The greatest number of sources.
+pub(crate) const MAX_SOURCES: usize = 4096;
+
+/// A host that sends, and the LAN on which it is.
+#[derive(Clone, Copy, Debug)]
+pub(crate) struct Source {
+    pub(crate) address: Addr,
+    pub(crate) lan: LanNo,
+}

@@ -1,0 +1,133 @@
+//! Network N: LANs l0 to l2, r1 from l0 to l1, r2 from l1 to l2, and one flow.
+
+use crate::*;
+use mc_text::{Addr, Order};
+use std::alloc::{AllocError, Global};
+use std::test::Fail;
+
+pub(super) const NETWORK: &str = r#"version = 1
+lans = ["l0", "l1", "l2"]
+router = [{name = "r1"}, {name = "r2"}]
+interface = [
+{router = "r1", device = "eth0", lan = "l0"},
+{router = "r1", device = "eth1", lan = "l1"},
+{router = "r2", device = "eth0", lan = "l1"},
+{router = "r2", device = "eth1", lan = "l2"},
+]
+source = [{address = "10.0.0.5", lan = "l0"}]
+flow = [{source = "10.0.0.5", group = "239.1.2.3", ttl = 3}]
+"#;
+
+/// The network with one place changed.
+pub(super) fn changed(alloc: Global, from: &str, to: &str) -> Result<String, AllocError> {
+    let mut text = String::new(alloc);
+    if let Some((before, after)) = NETWORK.split_once(from) {
+        text.push_str(before)?;
+        text.push_str(to)?;
+        text.push_str(after)?;
+    }
+    Ok(text)
+}
+
+/// The fault of a text, or `read`.
+pub(super) fn answer(alloc: Global, text: &str) -> Result<String, AllocError> {
+    match Topology::read(alloc, text.as_bytes()) {
+        Ok(_) => String::from_str(alloc, "read"),
+        Err(fault) => fault.to_string(alloc),
+    }
+}
+
+#[test]
+fn look_ups(rt: HostRuntime) -> Result<(), Fail> {
+    let n = Topology::read(rt.alloc(), NETWORK.as_bytes())?;
+    assert_eq!(rt; (n.lans(), n.routers(), n.flows()), (3, 2, 1));
+    let r1 = n.router_no("r1").ok_or("r1")?;
+    let r2 = n.router_no("r2").ok_or("r2")?;
+    let l1 = n.lan_no("l1").ok_or("l1")?;
+    assert_eq!(rt; (r1, r2, l1), (RouterNo(0), RouterNo(1), LanNo(1)));
+    assert_eq!(rt; n.router_no("l1"), None);
+    assert_eq!(rt; n.lan_no("r1"), None);
+    for (router, device, lan) in [
+        (RouterNo(0), "eth0", Some(LanNo(0))),
+        (RouterNo(0), "eth1", Some(LanNo(1))),
+        (RouterNo(1), "eth0", Some(LanNo(1))),
+        (RouterNo(1), "eth1", Some(LanNo(2))),
+        (RouterNo(1), "eth2", None),
+        (RouterNo(2), "eth0", None),
+    ] {
+        assert_eq!(rt;
+            n.lan_of_device(router, device.as_bytes()),
+            lan,
+            "at {device}"
+        );
+    }
+    assert!(rt; n.routers() == 2 && n.lans() == 3 && n.flows() == 1);
+    assert_eq!(rt; n.order(RouterNo(1)), Order::Little);
+    assert_eq!(rt; n.router_name(RouterNo(1)), "r2");
+    assert_eq!(rt; n.lan_name(LanNo(2)), "l2");
+    let flow = Flow {
+        source: Addr::from_octets([10, 0, 0, 5]),
+        lan: LanNo(0),
+        group: Addr::from_octets([239, 1, 2, 3]),
+        ttl: 3,
+    };
+    assert_eq!(rt; *n.flow(0), flow);
+    let text = changed(
+        rt.alloc(),
+        r#"name = "r2""#,
+        r#"name = "r2", order = "big""#,
+    )?;
+    let big = Topology::read(rt.alloc(), text.as_bytes())?;
+    assert!(rt; big.routers() == 2);
+    assert_eq!(rt; big.order(RouterNo(0)), Order::Little);
+    assert_eq!(rt; big.order(RouterNo(1)), Order::Big);
+    Ok(())
+}
+
+#[test]
+fn spellings_of_one_table(rt: HostRuntime) -> Result<(), Fail> {
+    let plain = Topology::read(rt.alloc(), NETWORK.as_bytes())?;
+    let plain = format!(in rt.alloc(); "{plain:?}")?;
+    for text in [
+        // Tables under headers, and keys in another order.
+        r#"
+lans = ['l0', "l1",
+  """l2"""]
+version = 0x1
+[[flow]]
+ttl = +3
+group = "239.1.2.3"
+source = "10.0.0.5"
+[[router]]
+name = "r1"
+[[router]]
+name = "r2"
+order = "little"
+[[interface]]
+lan = "l0"
+device = "eth0"
+router = "r1"
+[[interface]]
+router = "r1"
+device = "eth1"
+lan = "l1"
+[[interface]]
+router = "r2"
+device = "eth0"
+lan = "l1"
+[[interface]]
+router = "r2"
+device = "\u0065th1"
+lan = "l2"
+[[source]]
+address = "10.0.0.5"
+lan = "l0"
+"#,
+        // Quoted keys, comments and carriage returns.
+        "\"version\" = 1 # the first\r\n'lans' = [\"l0\", \"l1\", \"l2\"]\r\nrouter = [{name = \"r1\"}, {\"name\" = \"r2\"}]\r\ninterface = [{router = \"r1\", device = \"eth0\", lan = \"l0\"}, {router = \"r1\", device = \"eth1\", lan = \"l1\"}, {router = \"r2\", device = \"eth0\", lan = \"l1\"}, {router = \"r2\", device = \"eth1\", lan = \"l2\"}]\r\nsource = [{address = \"10.0.0.5\", lan = \"l0\"}]\r\nflow = [{source = \"10.0.0.5\", group = \"239.1.2.3\", ttl = 3}]",
+    ] {
+        let other = Topology::read(rt.alloc(), text.as_bytes())?;
+        assert_eq!(rt; format!(in rt.alloc(); "{other:?}")?, plain, "at {text}");
+    }
+    Ok(())
+}

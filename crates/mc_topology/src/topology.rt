@@ -1,0 +1,175 @@
+//! A topology and what it answers.
+
+ghost use Rattle.std.specs.Prelude.{◌≡◌, ◌<◌, ◌≤◌, length, Some, option_map, slice_get};
+ghost use Rattle.std.specs.FinMap as finite;
+ghost use Rattle.std.specs.Str.{bytes_eq};
+ghost use Rattle.mc_topology.specs.Names.{index_of};
+ghost use Rattle.mc_topology.specs.Routers.{router_no_of};
+ghost use Rattle.mc_topology.specs.Topology.{interface_key, lan_by_interface, IsWithinLimits};
+
+use crate::fault::TopologyFault;
+use crate::flow::Flow;
+use crate::interface::Interface;
+use crate::lan::lan_no_of;
+use crate::name::Name;
+use crate::number::{LanNo, RouterNo};
+use crate::read::reading_of;
+use crate::router::Router;
+use crate::routers::router_no_of;
+use mc_text::Order;
+use std::alloc::Global;
+use std::marker::Model;
+
+/// The LANs and routers of a domain by name, the LAN of each interface, and the flows.
+#[derive(Debug, Drop)]
+pub struct Topology {
+    lans: Vec<Name>,
+    routers: Vec<Router>,
+    interfaces: Vec<Interface>,
+    flows: Vec<Flow>,
+}
+
+impl Model for Topology {
+    ghost use Rattle.mc_topology.specs.Topology.{TopologyValue, topology_code, lan_by_interface, IsWithinLimits};
+
+    ghost Value = { TopologyValue };
+
+    ghost coded = { topology_code };
+
+    ghost view = { λ s. record { lans = s.lans.items; routers = s.routers.items; interfaces = lan_by_interface s.interfaces.items; flows = s.flows.items } };
+
+    ghost invariant = { λ s. IsWithinLimits s.lans.items s.routers.items s.flows.items };
+}
+
+/// Whether the interface is that of a router and a device.
+fn is_at(interface: &Interface, router: RouterNo, device: &[u8]) -> bool
+    ensures { result ≡ bytes_eq (interface_key router device.now) (interface_key interface.now.router interface.now.device) }
+{
+    router == interface.router && device == interface.device.as_str().as_bytes()
+}
+
+/// The LAN of the interface of a router and a device.
+fn lan_at(interfaces: &[Interface], router: RouterNo, device: &[u8]) -> Option<LanNo>
+    ensures { result ≡ finite.get (lan_by_interface interfaces.now) (interface_key router device.now) }
+{
+    for interface in interfaces {
+        if is_at(interface, router, device) {
+            return Some(interface.lan);
+        }
+    }
+    None
+}
+
+impl Topology {
+    ghost use Rattle.std.specs.Prelude.{IfOk, Ok};
+    ghost use Rattle.mc_topology.specs.Answer.{Gives};
+    ghost use Rattle.mc_topology.specs.Reading.{reading_of};
+    ghost use Rattle.mc_topology.specs.Stands.{TopologyStands};
+    ghost use Rattle.mc_topology.specs.Topology.{TopologyValue};
+
+    /// The topology of its parts.
+    pub(crate) fn new(
+        lans: Vec<Name>,
+        routers: Vec<Router>,
+        interfaces: Vec<Interface>,
+        flows: Vec<Flow>,
+    ) -> Topology
+        requires { IsWithinLimits lans.items routers.items flows.items }
+        ensures { result ≡ record { lans = lans.items; routers = routers.items; interfaces = lan_by_interface interfaces.items; flows = flows.items } }
+    {
+        Topology {
+            lans,
+            routers,
+            interfaces,
+            flows,
+        }
+    }
+
+    /// Reads a topology. The sections are judged in the order of `Section`, the parts of a section from
+    /// the front, and the first rule that is broken is answered with its place. Of a table the keys are
+    /// judged first, and then the values.
+    pub fn read(alloc: Global, text: &[u8]) -> Result<Topology, TopologyFault>
+        // What is read is what the text stands for.
+        ensures found { IfOk result (TopologyStands text.now) }
+        // A text that stands for a topology is read as that, unless memory runs out.
+        ensures only { (t : TopologyValue) → TopologyStands text.now t → Gives (λ x. x) result (Ok t) }
+        // Which fault it is.
+        ensures exact { Gives (λ x. x) result (reading_of text.now) }
+    {
+        reading_of(alloc, text)
+    }
+
+    /// How many LANs there are.
+    pub fn lans(&self) -> u32
+        ensures { result ≡ length self.now.lans }
+    {
+        self.lans.len() as u32
+    }
+
+    /// How many routers there are.
+    pub fn routers(&self) -> u32
+        ensures { result ≡ length self.now.routers }
+    {
+        self.routers.len() as u32
+    }
+
+    /// How many flows there are.
+    pub fn flows(&self) -> u32
+        ensures { result ≡ length self.now.flows }
+    {
+        self.flows.len() as u32
+    }
+
+    /// The byte order of a router's machine.
+    pub fn order(&self, router: RouterNo) -> Order
+        requires { router < length self.now.routers }
+        ensures { option_map (λ r. r.order) (slice_get self.now.routers router) ≡ Some result }
+    {
+        self.routers[router.0 as usize].order
+    }
+
+    /// The LAN on which the interface of a router and a device lies, if the topology names it.
+    pub fn lan_of_device(&self, router: RouterNo, device: &[u8]) -> Option<LanNo>
+        ensures { result ≡ finite.get self.now.interfaces (interface_key router device.now) }
+    {
+        lan_at(&self.interfaces, router, device)
+    }
+
+    /// A flow by its number.
+    pub fn flow(&self, flow: u32) -> &Flow
+        requires { flow < length self.now.flows }
+        ensures { slice_get self.now.flows flow ≡ Some result.now }
+    {
+        &self.flows[flow as usize]
+    }
+
+    /// The name of a router.
+    pub fn router_name(&self, router: RouterNo) -> &str
+        requires { router < length self.now.routers }
+        ensures { option_map (λ r. r.name) (slice_get self.now.routers router) ≡ Some result.now }
+    {
+        self.routers[router.0 as usize].name.as_str()
+    }
+
+    /// The name of a LAN.
+    pub fn lan_name(&self, lan: LanNo) -> &str
+        requires { lan < length self.now.lans }
+        ensures { slice_get self.now.lans lan ≡ Some result.now }
+    {
+        self.lans[lan.0 as usize].as_str()
+    }
+
+    /// The number of the router with the name.
+    pub fn router_no(&self, name: &str) -> Option<RouterNo>
+        ensures { result ≡ router_no_of name.now self.now.routers }
+    {
+        router_no_of(&self.routers, name)
+    }
+
+    /// The number of the LAN with the name.
+    pub fn lan_no(&self, name: &str) -> Option<LanNo>
+        ensures { result ≡ index_of name.now self.now.lans }
+    {
+        lan_no_of(&self.lans, name)
+    }
+}

@@ -1,0 +1,58 @@
+-- A run reads one byte more than the greatest list, and so sees whether the input is too large.
+use Rattle.std.proofs.Common.{◌≡◌, ℕ, ◌<◌, ◌≤◌, Bool, true, false, ltb, List, length, take, ◌⊎◌, inl, inr, Option, Some, None, Result, Ok, Err, refl, sym, ap, subst, ◌∙◌, arith, length-take}
+use Rattle.std.specs.Prelude.{IfSome}
+use Rattle.std.proofs.lemmas.Bool.{cases_lt, lt-ltb}
+use Rattle.std.proofs.lemmas.List.{take_all}
+use Rattle.mc_igmp.specs.declared.record.Record.{Record}
+use Rattle.mc_igmp.specs.declared.fault.ListFault.{ListFault}
+use Rattle.mc_igmp.specs.declared.fault.ListFaultKind.{ListFaultKind}
+use Rattle.mc_igmp.specs.declared.fault.ListFaultKind.TheVariants as list
+use Rattle.mc_igmp.specs.Memory.{no_memory}
+use Rattle.mc_igmp.specs.ReadingList.{read_list, fault_at}
+use Rattle.mcaudit.specs.RunFault.{of_list, of_list_kind}
+use Rattle.mcaudit.specs.WantsRun.{Answers}
+
+too_large : (text : List ℕ) → 16777216 < length text → read_list text ≡ Err (fault_at 0 0 list.TooLarge)
+unfolding read_list
+too_large text more = rw (lt-ltb 16777216 (length text) more) refl
+
+-- what is read of the input's front, as many bytes as a run takes, is what is read of the whole
+pub read_list-take : (text : List ℕ) → read_list (take 16777217 text) ≡ read_list text
+read_list-take text =
+    elim (cases_lt 16777216 (length text)) [
+      | inl more ↦ too_large (take 16777217 text) (omega (arith, length-take 16777217 text)) ∙ sym (too_large text more)
+      | inr within ↦ ap read_list (take_all 16777217 text (omega arith))
+    ]
+
+refused_kind : (text : List ℕ) (group source : ℕ) (f : ListFault) → (read_list text ≡ Err f) ⊎ (f ≡ no_memory) → (k : ListFaultKind) → f.kind ≡ k → Answers text group source (Err (of_list_kind f k))
+refused_kind text group source f (inl read) list.BadHex e = read
+refused_kind text group source f (inl read) list.Short e = read
+refused_kind text group source f (inl read) list.BadChecksum e = read
+refused_kind text group source f (inl read) list.Truncated e = read
+refused_kind text group source f (inl read) list.StateChange e = read
+refused_kind text group source f (inl read) list.OlderReport e = read
+refused_kind text group source f (inl read) list.TooLarge e = read
+refused_kind text group source f (inl read) list.Unended e = read
+refused_kind text group source f (inl read) list.Memory e = tt
+refused_kind text group source f (inr none) list.BadHex e = let no-kind = ap (λ (x : ListFault). x.kind) none in absurd cc
+refused_kind text group source f (inr none) list.Short e = let no-kind = ap (λ (x : ListFault). x.kind) none in absurd cc
+refused_kind text group source f (inr none) list.BadChecksum e = let no-kind = ap (λ (x : ListFault). x.kind) none in absurd cc
+refused_kind text group source f (inr none) list.Truncated e = let no-kind = ap (λ (x : ListFault). x.kind) none in absurd cc
+refused_kind text group source f (inr none) list.StateChange e = let no-kind = ap (λ (x : ListFault). x.kind) none in absurd cc
+refused_kind text group source f (inr none) list.OlderReport e = let no-kind = ap (λ (x : ListFault). x.kind) none in absurd cc
+refused_kind text group source f (inr none) list.TooLarge e = let no-kind = ap (λ (x : ListFault). x.kind) none in absurd cc
+refused_kind text group source f (inr none) list.Unended e = let no-kind = ap (λ (x : ListFault). x.kind) none in absurd cc
+refused_kind text group source f (inr none) list.Memory e = tt
+
+-- a list that is refused, or for which there is no memory, gives the run's answer
+pub refused : (text : List ℕ) (group source : ℕ) (f : ListFault) → (read_list text ≡ Err f) ⊎ (f ≡ no_memory) → Answers text group source (Err (of_list f))
+refused text group source f why = refused_kind text group source f why f.kind refl
+
+abbrev refusal_of : ListFault → Result (List Record) ListFault
+refusal_of f = Err f
+
+-- the same, of what an input tells, with what was read of it
+pub refused_list : (told : Option (List ℕ)) (taken : List ℕ) (group source : ℕ) (f : ListFault) → IfSome told (λ text. taken ≡ take 16777217 text) → (refusal_of f ≡ read_list taken) ⊎ (refusal_of f ≡ Err no_memory) → IfSome told (λ text. Answers text group source (Err (of_list f)))
+refused_list None taken group source f read why = tt
+refused_list (Some text) taken group source f read (inl fault) = refused text group source f (inl (sym (read_list-take text) ∙ ap read_list (sym read) ∙ sym fault))
+refused_list (Some text) taken group source f read (inr none) = refused text group source f (inr (cc))

@@ -1,0 +1,9 @@
+pub mod RunFault
+pub mod Status
+pub mod Task
+pub mod WantsRun
+pub use Rattle.mc_text.specs.Addr
+pub use Rattle.mc_igmp.specs.Wants
+pub use Rattle.mc_igmp.specs.ReportList
+pub use Rattle.mc_igmp.specs.ReadingList
+pub use Rattle.mc_text.specs.Device

@@ -1,0 +1,18 @@
+-- The exit status that tells why the program gives no answer.
+use Rattle.std.specs.Prelude.{ℕ}
+use Rattle.mcaudit.specs.declared.command.WordsFault.TheVariants as words
+use Rattle.mcaudit.specs.declared.fault.RunFault.TheVariants as run
+use Rattle.mcaudit.specs.declared.failure.Failure.{Failure}
+use Rattle.mcaudit.specs.declared.failure.Failure.TheVariants.{Words, Run}
+
+abbrev pub status_of : Failure → ℕ
+-- the input is refused
+status_of (Run (run.Reports fault)) = 2
+-- a device failed
+status_of (Run run.Read) = 3
+status_of (Run run.Write) = 3
+-- memory ran out
+status_of (Run run.Memory) = 4
+status_of (Words words.Memory) = 4
+-- the words are wrong
+status_of (Words (words.Wrong text)) = 5

@@ -1,0 +1,191 @@
+//! The program's words: which task they ask for, and what is wrong with them.
+
+ghost use Rattle.std.specs.Prelude.{◌≡◌, ℕ, map, IfOk, IfSome, Ok, Some};
+ghost use Rattle.std.specs.String.{string_bytes};
+ghost use Rattle.mc_text.specs.Addr.{IsForwardedGroup, IsSource, dotted};
+ghost use Rattle.mcaudit.specs.declared.command.WordsFault.TheVariants.{Memory};
+ghost use Rattle.mcaudit.specs.Task.{AreWords, IsAllowed};
+
+use clap::error::ErrorKind;
+use clap::{Arg, ArgMatches, Command};
+use mc_text::Addr;
+use std::alloc::{AllocError, Global};
+use std::{env, io};
+use thiserror::Error;
+
+/// What the words ask for.
+#[derive(Clone, Copy, Debug, PartialEq, Eq)]
+pub enum Task {
+    /// Whether the LAN whose reports are read wants what the source sends to the group.
+    Wants {
+        /// 224.0.1.0 to 239.255.255.255.
+        group: Addr,
+        /// An address whose first octet is 1 to 223 and not 127.
+        source: Addr,
+    },
+}
+
+/// Why the words give no task.
+#[derive(Debug, Drop, Error)]
+pub enum WordsFault {
+    /// (1) The words are wrong, or they ask for help. The text tells how the program is used.
+    #[error("{0}")]
+    Wrong(String),
+    /// (2) Memory ran out.
+    #[error("no memory")]
+    Memory,
+}
+
+impl From<AllocError> for WordsFault {
+    ghost from_gives = { λ _ e. e ≡ Memory };
+
+    fn from(_refused: AllocError) -> WordsFault {
+        WordsFault::Memory
+    }
+}
+
+const EXAMPLES: &str = "\
+Example: does a LAN want what 10.0.0.5 sends to 239.1.2.3?
+  mcaudit wants 239.1.2.3 10.0.0.5 < reports
+
+Statuses: 0 yes, 1 no, 2 refused input, 3 read or write failed, 4 no memory, 5 wrong words";
+
+const GROUP_RULE: &str = "<group> is an address from 224.0.1.0 to 239.255.255.255, as 239.1.2.3";
+
+const SOURCE_RULE: &str =
+    "<source> is an address whose first number is 1 to 223 and not 127, as 10.0.0.5";
+
+/// The command `wants` and its arguments.
+fn wants_command<'a>(alloc: Global) -> Result<Command<'a>, AllocError> {
+    let group = Arg::new(alloc, "group")
+        .required(true)
+        .help("The group, 224.0.1.0 to 239.255.255.255");
+    let source = Arg::new(alloc, "source")
+        .required(true)
+        .help("The source's address");
+    Command::new(alloc, "wants")
+        .about("Tells from a LAN's IGMPv3 reports whether it wants what a source sends to a group")
+        .override_usage("mcaudit wants <group> <source>")
+        .arg(group)?
+        .arg(source)
+}
+
+/// The commands and the help.
+fn program<'a>(alloc: Global) -> Result<Command<'a>, AllocError> {
+    Command::new(alloc, "mcaudit")
+        .about("Audits the multicast forwarding state of a domain of Linux routers")
+        .override_usage("mcaudit <command>")
+        .after_help(EXAMPLES)
+        .subcommand_required(true)
+        .arg_required_else_help(true)
+        .disable_help_subcommand(true)
+        .subcommand(wants_command(alloc)?)
+}
+
+/// A refusal of the words, with the text that explains it.
+fn refusal(alloc: Global, error: &clap::Error) -> WordsFault {
+    let explained = error
+        .to_string(alloc)
+        .and_then(|text| text.trim_end().to_string(alloc));
+    match explained {
+        Ok(text) => WordsFault::Wrong(text),
+        Err(_) => WordsFault::Memory,
+    }
+}
+
+/// The text that explains which rule a value of `wants` breaks, with the usage.
+fn explained(alloc: Global, rule: &str) -> Result<clap::Error, AllocError> {
+    let mut wants = wants_command(alloc)?;
+    wants.error(ErrorKind::ValueValidation, rule)
+}
+
+/// A refusal of a value, with the rule that it breaks.
+fn wrong_value(alloc: Global, rule: &str) -> WordsFault {
+    match explained(alloc, rule) {
+        Ok(error) => refusal(alloc, &error),
+        Err(_) => WordsFault::Memory,
+    }
+}
+
+/// The group that the word writes, if routers forward it.
+fn group_of(word: &str) -> Option<Addr>
+    ensures found { IfSome result (λ group. IsForwardedGroup group × (word.now ≡ dotted group)) }
+    ensures only { (group : ℕ) → IsForwardedGroup group → word.now ≡ dotted group → result ≡ Some group }
+{
+    let group = Addr::parse_dotted(word.as_bytes())?;
+    if group.is_forwarded_group() {
+        Some(group)
+    } else {
+        None
+    }
+}
+
+/// The source that the word writes, if a host may send from it.
+fn source_of(word: &str) -> Option<Addr>
+    ensures found { IfSome result (λ source. IsSource source × (word.now ≡ dotted source)) }
+    ensures only { (source : ℕ) → IsSource source → word.now ≡ dotted source → result ≡ Some source }
+{
+    let source = Addr::parse_dotted(word.as_bytes())?;
+    if source.is_source() {
+        Some(source)
+    } else {
+        None
+    }
+}
+
+/// The task of the words after `wants`.
+fn wants_of(alloc: Global, group: &str, source: &str) -> Result<Task, WordsFault>
+    ensures allowed { IfOk result IsAllowed }
+    ensures found { IfOk result (AreWords group.now source.now) }
+    ensures only { (g s : ℕ) → IsForwardedGroup g → IsSource s → group.now ≡ dotted g → source.now ≡ dotted s
+        → result ≡ Ok (Task.Wants g s) }
+{
+    let Some(group) = group_of(group) else {
+        return Err(wrong_value(alloc, GROUP_RULE));
+    };
+    let Some(source) = source_of(source) else {
+        return Err(wrong_value(alloc, SOURCE_RULE));
+    };
+    Ok(Task::Wants { group, source })
+}
+
+/// The program's words, its own name first.
+pub fn words_of(rt: &HostRuntime) -> Result<Vec<String>, WordsFault> {
+    match env::args(rt) {
+        Ok(words) => Ok(words.collect(rt.alloc())?),
+        Err(error) if error.kind() == io::ErrorKind::OutOfMemory => Err(WordsFault::Memory),
+        Err(_) => Err(wrong_value(rt.alloc(), "a word is no text (UTF-8)")),
+    }
+}
+
+/// The words, borrowed.
+pub fn borrowed(alloc: Global, words: &[String]) -> Result<Vec<&str>, WordsFault>
+    ensures { IfOk result (λ all. map (λ word. word.now) all.items ≡ map string_bytes words.now) }
+{
+    Ok(words.iter().map(|word| word.as_str()).collect(alloc)?)
+}
+
+/// The word of a required argument.
+fn word_of<'a>(matches: &ArgMatches<'a>, argument: &str) -> &'a str {
+    matches.get_str(argument).unwrap_or("")
+}
+
+/// The task that the program's words ask for. The first word is the program's own name.
+pub fn command_of<'a>(alloc: Global, words: &'a [&'a str]) -> Result<Task, WordsFault>
+    // A task is given only with a group that routers forward and an address that a host may send from.
+    ensures allowed { IfOk result IsAllowed }
+{
+    let matches = match program(alloc)?.try_get_matches_from(words) {
+        Ok(matches) => matches,
+        Err(error) if error.kind() == ErrorKind::OutOfMemory => return Err(WordsFault::Memory),
+        Err(error) => return Err(refusal(alloc, &error)),
+    };
+    match matches.subcommand() {
+        Some(("wants", words)) => wants_of(
+            alloc,
+            word_of(words, "group"),
+            word_of(words, "source"),
+        ),
+        _ => Err(wrong_value(alloc, "no command is given")),
+    }
+}

@@ -1,0 +1,45 @@
+//! Why the program gives no answer, and the status that tells it.
+
+ghost use Rattle.std.specs.Prelude.{◌≡◌};
+ghost use Rattle.mcaudit.specs.Status.{status_of};
+
+use crate::command::WordsFault;
+use crate::fault::RunFault;
+use thiserror::Error;
+
+/// Why the program gives no answer. Its text is what standard error gets.
+#[derive(Debug, Drop, Error)]
+pub enum Failure {
+    /// The words give no task.
+    #[error("{0}")]
+    Words(WordsFault),
+    /// The task's run gives no answer.
+    #[error("{0}")]
+    Run(RunFault),
+}
+
+impl Failure {
+    /// 2 for a refused input, 3 for a device that failed, 4 for want of memory, 5 for wrong words.
+    pub fn status(&self) -> u8
+        ensures { result ≡ status_of self.now }
+    {
+        match self {
+            Failure::Words(WordsFault::Wrong(_)) => 5,
+            Failure::Run(RunFault::Reports(_)) => 2,
+            Failure::Run(RunFault::Read | RunFault::Write) => 3,
+            Failure::Words(WordsFault::Memory) | Failure::Run(RunFault::Memory) => 4,
+        }
+    }
+}
+
+impl From<WordsFault> for Failure {
+    fn from(fault: WordsFault) -> Failure {
+        Failure::Words(fault)
+    }
+}
+
+impl From<RunFault> for Failure {
+    fn from(fault: RunFault) -> Failure {
+        Failure::Run(fault)
+    }
+}

@@ -1,0 +1,40 @@
+//! mcaudit: an auditor of the multicast forwarding state of a domain of Linux routers.
+#![tactic(auto)]
+
+mod command;
+mod failure;
+mod fault;
+mod wants;
+
+use command::{Task, borrowed, command_of, words_of};
+use failure::Failure;
+use mc_text::{FromReader, ToWriter};
+use std::io;
+use std::process::ExitCode;
+use wants::run_wants;
+
+fn try_main(rt: &HostRuntime) -> Result<bool, Failure> {
+    let words = words_of(rt)?;
+    let words = borrowed(rt.alloc(), &words)?;
+    let mut input = FromReader::new(rt.reader());
+    let mut output = ToWriter::new(io::writer(rt));
+    match command_of(rt.alloc(), &words)? {
+        Task::Wants { group, source } => {
+            Ok(run_wants(rt.alloc(), group, source, &mut input, &mut output)?)
+        }
+    }
+}
+
+fn main(rt: HostRuntime) -> ExitCode {
+    match try_main(&rt) {
+        Ok(true) => ExitCode::SUCCESS,
+        Ok(false) => ExitCode::from(1),
+        Err(failure) => {
+            let _ = eprintln!(rt; "{failure}");
+            ExitCode::from(failure.status())
+        }
+    }
+}
+
+#[cfg(test)]
+mod tests;

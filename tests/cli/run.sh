@@ -1,0 +1,74 @@
+#!/bin/sh
+# Runs the built program on each folder of cases/ and compares what it does with what the folder's files
+# say. Usage: run.sh PROGRAM
+#
+#   args        its words, one a line
+#   stdin       its standard input (without it: empty); or stdin.sh, which writes it; or stdin.path, the
+#               path of what is opened as standard input
+#   stdout      its standard output (without it: empty); or stdout.path, where it goes and isn't compared
+#   stderr      its standard error (without it: empty); or stderr.has, of which it has each line's text
+#   status      its exit status (without it: 0)
+#
+# The last line counts the cases: N passed, M failed. The status is 0 if none failed and one was run.
+
+program=$1
+here=$(dirname "$0")
+scratch=$(mktemp -d) || exit 1
+trap 'rm -rf "$scratch"' EXIT
+: > "$scratch/empty"
+passed=0
+failed=0
+
+expected_of() {
+    if [ -f "$1" ]; then echo "$1"; else echo "$scratch/empty"; fi
+}
+
+run_case() {
+    folder=$1
+    set --
+    while IFS= read -r word || [ -n "$word" ]; do
+        set -- "$@" "$word"
+    done < "$folder/args"
+    input=$(expected_of "$folder/stdin")
+    if [ -f "$folder/stdin.sh" ]; then
+        sh "$folder/stdin.sh" > "$scratch/stdin"
+        input=$scratch/stdin
+    elif [ -f "$folder/stdin.path" ]; then
+        input=$(cat "$folder/stdin.path")
+    fi
+    output=$scratch/stdout
+    : > "$output"
+    if [ -f "$folder/stdout.path" ]; then
+        output=$(cat "$folder/stdout.path")
+    fi
+    "$program" "$@" < "$input" > "$output" 2> "$scratch/stderr"
+    status=$?
+    wanted=0
+    if [ -f "$folder/status" ]; then
+        wanted=$(cat "$folder/status")
+    fi
+    [ "$status" = "$wanted" ] || { echo "status $status, not $wanted"; return 1; }
+    if [ ! -f "$folder/stdout.path" ]; then
+        diff "$(expected_of "$folder/stdout")" "$scratch/stdout" || return 1
+    fi
+    if [ -f "$folder/stderr.has" ]; then
+        while IFS= read -r text; do
+            grep -qF -e "$text" "$scratch/stderr" || { echo "no '$text' on standard error"; return 1; }
+        done < "$folder/stderr.has"
+    else
+        diff "$(expected_of "$folder/stderr")" "$scratch/stderr"
+    fi
+}
+
+for folder in "$here"/cases/*/; do
+    name=$(basename "$folder")
+    if run_case "${folder%/}" > "$scratch/difference"; then
+        passed=$((passed + 1))
+    else
+        failed=$((failed + 1))
+        echo "$name: failed"
+        cat "$scratch/difference"
+    fi
+done
+echo "$passed passed, $failed failed"
+[ "$failed" -eq 0 ] && [ "$passed" -gt 0 ]

@@ -1,10 +1,10 @@
 -- Parts one after the other: what they take together, and the bundle that they make.
 use Rattle.std.proofs.Common.{arith, ◌≡◌, ℕ, zero, suc, ◌+◌, ◌<◌, ◌≤◌, List, [], ◌∷◌, ◌++◌, length, get_or, take, drop, refl, sym, ap, subst, ◌∙◌, append_assoc, add-one}
-use Rattle.std.specs.Prelude.{codes, map}
+use Rattle.std.specs.Prelude.{codes}
 use Rattle.std.specs.List.{AllByRecursion, flat_map}
 use Rattle.std.proofs.Math.Seq.{drop-cons}
 use Rattle.std.proofs.lemmas.Grind.{flat_map-append}
-use Rattle.std.proofs.lemmas.List.{append-nil, length-append, map-append, map_more, take_all, take-append-drop}
+use Rattle.std.proofs.lemmas.List.{append-nil, length-append, map-append, map_more, take-append-drop}
 use Rattle.mc_text.specs.declared.part.Part.{Part}
 use Rattle.mc_text.specs.Bundle.{PartText, IsPartName, part_spelling, bundle_spelling, AreWithinLimits}
 use Rattle.mc_text.specs.PartView.{part_text, part_texts}

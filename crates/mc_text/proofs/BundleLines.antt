@@ -1,24 +1,21 @@
 -- The lines of a bundle: what is read is written so, and what is written so is read.
-use Rattle.std.proofs.Common.{arith, add-one, ◌≡◌, ℕ, zero, suc, ◌+◌, ◌-◌, ◌^◌, ◌<◌, ◌≤◌, Bool, true, false, not, cond, eqb, ltb, leb, List, [], ◌∷◌, ◌++◌, length, get_or, take, drop, Option, Some, None, Result, Ok, Err, refl, sym, ap, subst, ◌∙◌, append_assoc}
+use Rattle.std.proofs.Common.{arith, add-one, ◌≡◌, ℕ, suc, ◌+◌, ◌-◌, ◌^◌, ◌<◌, Bool, true, false, cond, eqb, ltb, List, [], ◌∷◌, ◌++◌, length, get_or, take, drop, Option, Some, None, Result, Ok, Err, refl, sym, ap, subst, ◌∙◌}
 use Rattle.std.specs.Prelude.{position, codes, ◌&&◌}
 use Rattle.std.specs.Fmt.{decimal}
-use Rattle.std.specs.List.{before_first, after_first, position_or_len}
 use Rattle.std.specs.Str.{bytes_eq}
 use Rattle.std.specs.Str.Parse.{digits_value}
 use Rattle.std.proofs.Math.Seq.{take-append-add, drop-append-add}
-use Rattle.std.proofs.lemmas.Bool.{and_parts, and_from, eqb-true, lt-ltb, cond-true, cond-false}
-use Rattle.std.proofs.lemmas.Bool.Decides.{nat_tests}
+use Rattle.std.proofs.lemmas.Bool.{and_parts, and_from, eqb-true}
 use Rattle.std.proofs.lemmas.Fmt.{decimal_is_IsNumeral}
-use Rattle.std.proofs.lemmas.List.{take_at, drop_at, take-append-drop, length-append, length-take, length-drop, get_or-take}
+use Rattle.std.proofs.lemmas.List.{take_at, take-append-drop, length-take, get_or-take}
 use Rattle.std.proofs.lemmas.List.Quantifiers.{position-Some}
-use Rattle.std.proofs.lemmas.List.Sums.{split_at_first}
 use Rattle.std.proofs.lemmas.Slice.Eq.{bytes_eq-Decides}
 use Rattle.std.proofs.Math.Seq.{drop-cons}
 use Rattle.mc_text.specs.declared.bundle_fault.BundleFault.{BundleFault}
 use Rattle.mc_text.specs.declared.bundle_fault.BundleFault.TheVariants as faults
-use Rattle.mc_text.specs.Bundle.{is_name_byte, IsPartName, part_line}
+use Rattle.mc_text.specs.Bundle.{IsPartName, part_line}
 use Rattle.mc_text.specs.BundleReading.{is_part_name, is_length, cut_words, words_said, part_said, cut_line, line_at}
-use Rattle.mc_text.proofs.BundleWords.{Without, Without-append, Without-name, Without-decimal, position_after, position-Some_after, IsPartName-from_test, test-from_IsPartName, decimal-length_word, is_length-decimal, length_word_some}
+use Rattle.mc_text.proofs.BundleWords.{Without, Without-append, Without-name, Without-decimal, position-Some_after, IsPartName-from_test, test-from_IsPartName, decimal-length_word, is_length-decimal}
 
 -- ---- what a line says
 

@@ -1,19 +1,18 @@
 -- The places of a bundle: a part and the place after it, or the end.
-use Rattle.std.proofs.Common.{arith, ◌≡◌, ℕ, zero, suc, ◌+◌, ◌-◌, ◌^◌, ◌<◌, ◌≤◌, Bool, true, false, not, cond, eqb, ltb, leb, List, [], ◌∷◌, ◌++◌, length, get_or, take, drop, Option, Some, None, Result, Ok, Err, refl, sym, ap, subst, ◌∙◌, append_assoc, inl, inr}
+use Rattle.std.proofs.Common.{arith, ◌≡◌, ℕ, suc, ◌+◌, ◌-◌, ◌<◌, ◌≤◌, Bool, true, false, cond, eqb, ltb, leb, List, [], ◌∷◌, ◌++◌, length, get_or, take, drop, Option, Some, None, Result, Ok, Err, refl, sym, ap, subst, ◌∙◌, append_assoc, inl, inr}
 use Rattle.std.specs.Prelude.{codes, ◌||◌, ◌⊎◌}
 use Rattle.std.specs.Fmt.{decimal}
 use Rattle.std.specs.Str.{bytes_eq}
 use Rattle.std.proofs.Math.Seq.{drop-append-add, get_or-append_seam}
-use Rattle.std.proofs.lemmas.Bool.{eqb-true, eqb-false, ltb-false, le-ltb, lt-leb, leb-false, or_parts, or_from, ne_eqb, cond-true, cond-false}
-use Rattle.std.proofs.lemmas.Bool.Decides.{nat_tests}
+use Rattle.std.proofs.lemmas.Bool.{eqb-true, eqb-false, ltb-false, le-ltb, lt-leb, leb-false, or_parts, or_from, ne_eqb, cond-false}
 use Rattle.std.proofs.lemmas.Fmt.{length-decimal-le}
-use Rattle.std.proofs.lemmas.List.{take_at, drop_at, take-append-drop, length-append, length-take, length-drop, nil_from_length}
+use Rattle.std.proofs.lemmas.List.{take_at, take-append-drop, length-append, length-take, nil_from_length}
 use Rattle.std.proofs.lemmas.Slice.Eq.{bytes_eq-Decides}
 use Rattle.mc_text.specs.declared.bundle_fault.BundleFault.{BundleFault}
 use Rattle.mc_text.specs.declared.bundle_fault.BundleFault.TheVariants as faults
 use Rattle.mc_text.specs.Bundle.{PartText, IsPartName, part_line, part_spelling}
 use Rattle.mc_text.specs.BundleReading.{◌>>=◌, Place, line_at, part_said, part_bytes_at, part_room, is_too_large, part_place, end_place, place_of}
-use Rattle.mc_text.proofs.BundleLines.{IsLine, IsPartLine, line_takes, line_again, said_take, said_again, Without-part_line, from_place}
+use Rattle.mc_text.proofs.BundleLines.{IsLine, line_takes, line_again, said_take, said_again, Without-part_line, from_place}
 
 -- ---- steps that did not fail
 

@@ -13,3 +13,4 @@ pub mod BundleLoop
 pub mod DecimalDigits
 pub mod BundleWritten
 pub mod BundleLimits
+pub mod ReadingOn

@@ -1,5 +1,4 @@
 -- A place of a bundle as contracts see it.
-use Rattle.std.specs.Prelude.{Option, option_map}
 use Rattle.mc_text.specs.declared.part.Part.{Part}
 use Rattle.mc_text.specs.declared.bundle.Place.{Place}
 use Rattle.mc_text.specs.Bundle.{PartText}

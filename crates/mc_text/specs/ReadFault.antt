@@ -1,5 +1,5 @@
 -- What a call that reads many times does.
-use Rattle.std.specs.Prelude.{◌≡◌, ℕ, ◌+◌, List, ◌++◌, Option, Result, Ok, Err}
+use Rattle.std.specs.Prelude.{◌≡◌, ℕ, ◌+◌, ◌≤◌, List, ◌++◌, length, Option, Result, Ok, Err}
 use Rattle.std.specs.Io.KnownBytes.{Consumes}
 use Rattle.mc_text.specs.declared.input_bytes.ReadFault.{ReadFault}
 use Rattle.mc_text.specs.declared.input_bytes.ReadFault.TheVariants.{Read, Memory}
@@ -13,3 +13,7 @@ failed_by_reading (Err Memory) before = before
 -- the bytes that stand after the old ones were read
 abbrev pub ReadsMore : Option (List ℕ) → Option (List ℕ) → List ℕ → List ℕ → Type 0
 ReadsMore told left old new = (bytes : List ℕ) × Consumes told left bytes × (new ≡ old ++ bytes)
+
+-- so many bytes were read at most
+abbrev pub ConsumesUpTo : ℕ → Option (List ℕ) → Option (List ℕ) → Type 0
+ConsumesUpTo limit told left = (bytes : List ℕ) × (length bytes ≤ limit) × Consumes told left bytes

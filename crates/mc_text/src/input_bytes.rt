@@ -1,8 +1,8 @@
 //! Reading a whole input, up to a limit.
 
-ghost use Rattle.std.specs.Prelude.{◌≡◌, ◌<◌, ◌≤◌, ◌++◌, length, vec_len, take, IfOk, IfSome, OnOk};
+ghost use Rattle.std.specs.Prelude.{◌≡◌, ◌<◌, ◌≤◌, ◌-◌, ◌++◌, length, vec_len, take, IfOk, IfSome, OnOk};
 ghost use Rattle.std.specs.Io.KnownBytes.{Consumes, IsAtEnd};
-ghost use Rattle.mc_text.specs.ReadFault.{failed_by_reading, ReadsMore};
+ghost use Rattle.mc_text.specs.ReadFault.{ConsumesUpTo, failed_by_reading, ReadsMore};
 
 use crate::device::Input;
 use std::alloc::Global;
@@ -38,6 +38,8 @@ pub fn read_to_limit<R: Input>(
     ensures bytes { IfOk result (λ bytes. IfSome (R.told input.old) (λ text. bytes.items ≡ take limit text)) }
     // The rest is left in the input, and where less than the limit was read there is none.
     ensures rest { IfOk result (λ bytes. Consumes (R.told input.old) (R.told input.new) bytes.items) }
+    // Whatever the answer, no more than the limit was read.
+    ensures consumed { ConsumesUpTo limit (R.told input.old) (R.told input.new) }
     ensures end { IfOk result (λ bytes. vec_len bytes < limit → IsAtEnd (R.told input.new)) }
     ensures failures { R.failed input.new ≡ failed_by_reading result (R.failed input.old) }
 {
@@ -60,6 +62,7 @@ fn fill_to_limit<R: Input>(
     ensures same { R.names input.new ≡ R.names input.old }
     ensures bound { OnOk result (vec_len bytes.new ≤ limit) }
     ensures bytes { OnOk result (ReadsMore (R.told input.old) (R.told input.new) bytes.old.items bytes.new.items) }
+    ensures consumed { ConsumesUpTo (limit - length bytes.old.items) (R.told input.old) (R.told input.new) }
     ensures end { OnOk result (vec_len bytes.new < limit → IsAtEnd (R.told input.new)) }
     ensures failures { R.failed input.new ≡ failed_by_reading result (R.failed input.old) }
 {

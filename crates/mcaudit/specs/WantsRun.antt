@@ -1,6 +1,5 @@
 -- What `mcaudit wants` answers and writes.
-use Rattle.std.specs.Prelude.{◌≡◌, ℕ, ◌+◌, ◌<◌, ◌≤◌, ◌↔◌, Bool, true, false, IsTrue, List, [], ◌∷◌, ◌++◌, length, codes, Option, IfSome, Result, Ok, Err}
-use Rattle.std.specs.Io.KnownBytes.{Consumes}
+use Rattle.std.specs.Prelude.{◌≡◌, ℕ, ◌+◌, ◌↔◌, Bool, true, false, IsTrue, List, [], ◌∷◌, ◌++◌, codes, Option, IfSome, Result, Ok, Err}
 use Rattle.mc_igmp.specs.declared.record.Record.{Record}
 use Rattle.mc_igmp.specs.ReportList.{IsReportList}
 use Rattle.mc_igmp.specs.ReadingList.{read_list}
@@ -30,10 +29,6 @@ Answers text group source (Err Memory) = Unit {0}
 -- a proper part of the right answer's line was written, from its front
 abbrev pub WritesPart : Option (List ℕ) → ℕ → ℕ → Option (List ℕ) → Option (List ℕ) → Type 0
 WritesPart told group source old new = (wanted : Bool) × IfSome told (λ text. IsAnswer text group source wanted) × AppendsPart old new (answer_line wanted)
-
--- so many bytes of the input were read at most
-abbrev pub ConsumesUpTo : ℕ → Option (List ℕ) → Option (List ℕ) → Type 0
-ConsumesUpTo limit old new = (bytes : List ℕ) × (length bytes ≤ limit) × Consumes old new bytes
 
 -- the input failed once in a run that answers Read, and the output once in one that answers Write
 abbrev pub failed_reads : Result Bool RunFault → ℕ → ℕ

@@ -3,7 +3,8 @@
 ghost use Rattle.std.specs.Prelude.{◌≡◌, ◌≢◌, ◌<◌, ◌↔◌, IsTrue, IfOk, IfErr, IfSome, Err};
 ghost use Rattle.std.specs.Io.KnownBytes.{Appends};
 ghost use Rattle.mc_igmp.specs.Wants.{Wants};
-ghost use Rattle.mcaudit.specs.WantsRun.{answer_line, Answers, ConsumesUpTo, WritesPart, failed_reads, failed_writes};
+ghost use Rattle.mc_text.specs.ReadFault.{ConsumesUpTo};
+ghost use Rattle.mcaudit.specs.WantsRun.{answer_line, Answers, WritesPart, failed_reads, failed_writes};
 
 use crate::fault::RunFault;
 use mc_filter::wants_of;
@@ -40,8 +41,8 @@ pub fn run_wants<R: Input, W: Output>(
     ensures output_same { W.names output.new ≡ W.names output.old }
     // The answer is that of the definition, or the list's first fault.
     ensures answer { IfSome (R.told input.old) (λ text. Answers text group source result) }
-    // No more is read than the greatest list and one byte.
-    ensures consumed { IfOk result (λ _. ConsumesUpTo 16777217 (R.told input.old) (R.told input.new)) }
+    // No more is read than the greatest list and one byte, whatever the answer.
+    ensures consumed { ConsumesUpTo 16777217 (R.told input.old) (R.told input.new) }
     // The answer's line is written whole, or a part of it where the output failed, or else nothing.
     ensures written { IfOk result (λ wanted. Appends (W.took output.old) (W.took output.new) (answer_line wanted)) }
     ensures part { result ≡ Err RunFault.Write

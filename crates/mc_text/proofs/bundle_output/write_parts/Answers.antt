@@ -1,7 +1,6 @@
-use Rattle.std.proofs.Common.{arith, ◌≡◌, ◌≤◌, ◌+◌, List, ℕ, length, take, ap, sym, subst, ◌∙◌, refl, ◌++◌}
+use Rattle.std.proofs.Common.{◌≡◌, ◌+◌, List, take, ap, sym, subst, ◌∙◌, refl, ◌++◌}
 use Rattle.std.specs.Prelude.{codes}
 use Rattle.std.specs.Io.KnownBytes.{Appends}
-use Rattle.std.specs.List.{flat_map}
 use Rattle.std.proofs.KnownBytes.{Appends-trans}
 use Rattle.std.proofs.lemmas.List.{take_all}
 use Rattle.mc_text.specs.declared.part.Part.{Part}

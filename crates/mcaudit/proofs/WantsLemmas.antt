@@ -1,6 +1,6 @@
 -- A run reads one byte more than the greatest list, and so sees whether the input is too large.
-use Rattle.std.proofs.Common.{◌≡◌, ℕ, ◌<◌, ◌≤◌, Bool, true, false, ltb, List, length, take, ◌⊎◌, inl, inr, Option, Some, None, Result, Ok, Err, refl, sym, ap, subst, ◌∙◌, arith, length-take}
-use Rattle.std.specs.Prelude.{IfSome}
+use Rattle.std.proofs.Common.{◌≡◌, ℕ, ◌<◌, ◌≤◌, Bool, List, length, take, ◌⊎◌, inl, inr, Option, Some, None, Result, Err, refl, sym, ap, subst, ◌∙◌, arith, length-take}
+use Rattle.std.specs.Prelude.{IfSome, IsTrue, ◌↔◌}
 use Rattle.std.proofs.lemmas.Bool.{cases_lt, lt-ltb}
 use Rattle.std.proofs.lemmas.List.{take_all}
 use Rattle.mc_igmp.specs.declared.record.Record.{Record}
@@ -9,8 +9,10 @@ use Rattle.mc_igmp.specs.declared.fault.ListFaultKind.{ListFaultKind}
 use Rattle.mc_igmp.specs.declared.fault.ListFaultKind.TheVariants as list
 use Rattle.mc_igmp.specs.Memory.{no_memory}
 use Rattle.mc_igmp.specs.ReadingList.{read_list, fault_at}
+use Rattle.mc_igmp.specs.ReportList.{IsReportList}
+use Rattle.mc_igmp.specs.Wants.{Wants}
 use Rattle.mcaudit.specs.RunFault.{of_list, of_list_kind}
-use Rattle.mcaudit.specs.WantsRun.{Answers}
+use Rattle.mcaudit.specs.WantsRun.{Answers, IsAnswer}
 
 too_large : (text : List ℕ) → 16777216 < length text → read_list text ≡ Err (fault_at 0 0 list.TooLarge)
 unfolding read_list
@@ -56,3 +58,10 @@ pub refused_list : (told : Option (List ℕ)) (taken : List ℕ) (group source :
 refused_list None taken group source f read why = tt
 refused_list (Some text) taken group source f read (inl fault) = refused text group source f (inl (sym (read_list-take text) ∙ ap read_list (sym read) ∙ sym fault))
 refused_list (Some text) taken group source f read (inr none) = refused text group source f (inr (cc))
+
+-- a report list leaves a byte to read, so that what was read of an input is all that it tells
+pub answer_of_all : (told : Option (List ℕ)) (taken : List ℕ) (group source : ℕ) (records : List Record) (wanted : Bool) → IfSome told (λ text. taken ≡ take 16777217 text) → IsReportList taken records → (IsTrue wanted ↔ Wants records group source) → IfSome told (λ text. IsAnswer text group source wanted)
+answer_of_all None taken group source records wanted read list right = tt
+answer_of_all (Some text) taken group source records wanted read list right =
+    let within : length text ≤ 16777217 = omega (arith, list.size, ap (λ (bytes : List ℕ). length bytes) read, length-take 16777217 text) in
+    (records, subst (λ bytes. IsReportList bytes records) (read ∙ take_all 16777217 text within) list, right)

@@ -89,7 +89,7 @@ impl Filter {
     }
 
     /// Merges in a filter of this mode with these sources, in whatever order they stand.
-    pub fn merge_list(&mut self, mode: Mode, listed: Vec<Addr>) -> Result<(), Memory>
+    pub(crate) fn merge_list(&mut self, mode: Mode, mut listed: Vec<Addr>) -> Result<(), Memory>
         ensures admits { OnOk result ((source : ℕ) →
             admits self.new source ≡ (admits self.old source || admits_by mode (has listed.items source))) }
         ensures mode { OnOk result ((self.new.mode ≡ Mode.Exclude) ↔
@@ -97,7 +97,6 @@ impl Filter {
         ensures err { OnErr result (self.new ≡ self.old) }
         ensures ascending { IsStrictlyIncreasing self.new.sources }
     {
-        let mut listed = listed;
         make_ascending(&mut listed);
         let (mode, parts) = merged(self.mode, mode);
         let alloc = *self.sources.allocator();

@@ -1,6 +1,7 @@
 -- A run reads one byte more than the greatest list, and so sees whether the input is too large.
-use Rattle.std.proofs.Common.{◌≡◌, ℕ, ◌<◌, ◌≤◌, Bool, List, length, take, ◌⊎◌, inl, inr, Option, Some, None, Result, Err, refl, sym, ap, subst, ◌∙◌, arith, length-take}
-use Rattle.std.specs.Prelude.{IfSome, IsTrue, ◌↔◌}
+use Rattle.std.proofs.Common.{◌≡◌, ℕ, ◌<◌, ◌≤◌, Bool, List, length, take, ◌⊎◌, inl, inr, Option, Some, None, Result, Ok, Err, refl, sym, ap, subst, ◌∙◌, arith, length-take}
+use Rattle.std.specs.Prelude.{IfSome, IsTrue, ◌↔◌, IsErrAnd}
+use Rattle.mcaudit.specs.declared.fault.RunFault.{RunFault}
 use Rattle.std.proofs.lemmas.Bool.{cases_lt, lt-ltb}
 use Rattle.std.proofs.lemmas.List.{take_all}
 use Rattle.mc_igmp.specs.declared.record.Record.{Record}
@@ -65,3 +66,8 @@ answer_of_all None taken group source records wanted read list right = tt
 answer_of_all (Some text) taken group source records wanted read list right =
     let within : length text ≤ 16777217 = omega (arith, list.size, ap (λ (bytes : List ℕ). length bytes) read, length-take 16777217 text) in
     (records, subst (λ bytes. IsReportList bytes records) (read ∙ take_all 16777217 text within) list, right)
+
+-- the same, of a run that answers that fault
+pub refused_run : (told : Option (List ℕ)) (taken : List ℕ) (group source : ℕ) (f : ListFault) (r : Result Bool RunFault) → IsErrAnd r (λ fault. fault ≡ of_list f) → IfSome told (λ text. taken ≡ take 16777217 text) → (refusal_of f ≡ read_list taken) ⊎ (refusal_of f ≡ Err no_memory) → IfSome told (λ text. Answers text group source r)
+refused_run told taken group source f (Ok wanted) is read why = absurd is
+refused_run told taken group source f (Err fault) is read why = rw is (refused_list told taken group source f read why)

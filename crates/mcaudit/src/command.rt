@@ -10,7 +10,8 @@ use clap::error::ErrorKind;
 use clap::{Arg, ArgMatches, Command};
 use mc_text::Addr;
 use std::alloc::{AllocError, Global};
-use std::{env, io};
+use std::env::{self, Env};
+use std::io;
 use thiserror::Error;
 
 /// What the words ask for.
@@ -134,7 +135,7 @@ fn source_of(word: &str) -> Option<Addr>
 }
 
 /// The task of the words after `wants`.
-fn wants_of(alloc: Global, group: &str, source: &str) -> Result<Task, WordsFault>
+fn wants_task(alloc: Global, group: &str, source: &str) -> Result<Task, WordsFault>
     ensures allowed { IfOk result IsAllowed }
     ensures found { IfOk result (AreWords group.now source.now) }
     ensures only { (g s : ℕ) → IsForwardedGroup g → IsSource s → group.now ≡ dotted g → source.now ≡ dotted s
@@ -150,7 +151,7 @@ fn wants_of(alloc: Global, group: &str, source: &str) -> Result<Task, WordsFault
 }
 
 /// The program's words, its own name first.
-pub fn words_of(rt: &HostRuntime) -> Result<Vec<String>, WordsFault> {
+pub fn words_of(rt: &(impl Env + AllocGlobal)) -> Result<Vec<String>, WordsFault> {
     match env::args(rt) {
         Ok(words) => Ok(words.collect(rt.alloc())?),
         Err(error) if error.kind() == io::ErrorKind::OutOfMemory => Err(WordsFault::Memory),
@@ -181,7 +182,7 @@ pub fn command_of<'a>(alloc: Global, words: &'a [&'a str]) -> Result<Task, Words
         Err(error) => return Err(refusal(alloc, &error)),
     };
     match matches.subcommand() {
-        Some(("wants", words)) => wants_of(
+        Some(("wants", words)) => wants_task(
             alloc,
             word_of(words, "group"),
             word_of(words, "source"),

@@ -1,6 +1,7 @@
 //! Why the program gives no answer, and the status that tells it.
 
 ghost use Rattle.std.specs.Prelude.{◌≡◌};
+ghost use Rattle.mcaudit.specs.declared.failure.Failure.TheVariants.{Words, Run};
 ghost use Rattle.mcaudit.specs.Status.{status_of};
 
 use crate::command::WordsFault;
@@ -33,12 +34,16 @@ impl Failure {
 }
 
 impl From<WordsFault> for Failure {
+    ghost from_gives = { λ fault failure. failure ≡ Words fault };
+
     fn from(fault: WordsFault) -> Failure {
         Failure::Words(fault)
     }
 }
 
 impl From<RunFault> for Failure {
+    ghost from_gives = { λ fault failure. failure ≡ Run fault };
+
     fn from(fault: RunFault) -> Failure {
         Failure::Run(fault)
     }

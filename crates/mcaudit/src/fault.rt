@@ -25,11 +25,11 @@ pub enum RunFault {
     Memory,
 }
 
-impl RunFault {
-    /// The fault of a run whose report list is refused. Want of memory is the run's own.
-    pub fn of_list(fault: ListFault) -> RunFault
-        ensures { result ≡ of_list fault }
-    {
+/// A report list is refused. Want of memory is the run's own.
+impl From<ListFault> for RunFault {
+    ghost from_gives = { λ list fault. fault ≡ of_list list };
+
+    fn from(fault: ListFault) -> RunFault {
         match fault.kind {
             ListFaultKind::Memory => RunFault::Memory,
             _ => RunFault::Reports(fault),

@@ -9,11 +9,12 @@ mod wants;
 use command::{Task, borrowed, command_of, words_of};
 use failure::Failure;
 use mc_text::{FromReader, ToWriter};
-use std::io;
+use std::env::Env;
+use std::io::{self, Input};
 use std::process::ExitCode;
 use wants::run_wants;
 
-fn try_main(rt: &HostRuntime) -> Result<bool, Failure> {
+fn try_main(rt: &(impl Env + AllocGlobal + Input + Print)) -> Result<bool, Failure> {
     let words = words_of(rt)?;
     let words = borrowed(rt.alloc(), &words)?;
     let mut input = FromReader::new(rt.reader());

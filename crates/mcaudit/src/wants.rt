@@ -1,6 +1,6 @@
 //! `mcaudit wants`: whether the LAN whose reports are read wants what a source sends to a group.
 
-ghost use Rattle.std.specs.Prelude.{◌≡◌, ◌≢◌, ◌<◌, ◌↔◌, IsTrue, IfOk, IfErr, IfSome, Err};
+ghost use Rattle.std.specs.Prelude.{◌≡◌, ◌≢◌, ◌+◌, ◌<◌, ◌↔◌, IsTrue, IfOk, IfErr, IfSome, Err};
 ghost use Rattle.std.specs.Io.KnownBytes.{Appends};
 ghost use Rattle.mc_igmp.specs.Wants.{Wants};
 ghost use Rattle.mc_text.specs.ReadFault.{ConsumesUpTo};
@@ -42,7 +42,7 @@ pub fn run_wants<R: Input, W: Output>(
     // The answer is that of the definition, or the list's first fault.
     ensures answer { IfSome (R.told input.old) (λ text. Answers text group source result) }
     // No more is read than the greatest list and one byte, whatever the answer.
-    ensures consumed { ConsumesUpTo 16777217 (R.told input.old) (R.told input.new) }
+    ensures consumed { ConsumesUpTo (MAX_TEXT + 1) (R.told input.old) (R.told input.new) }
     // The answer's line is written whole, or a part of it where the output failed, or else nothing.
     ensures written { IfOk result (λ wanted. Appends (W.took output.old) (W.took output.new) (answer_line wanted)) }
     ensures part { result ≡ Err RunFault.Write
@@ -53,10 +53,7 @@ pub fn run_wants<R: Input, W: Output>(
     ensures write_failures { W.failed output.new ≡ failed_writes result (W.failed output.old) }
 {
     let text = read_to_limit(alloc, input, MAX_TEXT + 1)?;
-    let reports = match ReportList::read(alloc, &text) {
-        Ok(reports) => reports,
-        Err(fault) => return Err(RunFault::of_list(fault)),
-    };
+    let reports = ReportList::read(alloc, &text)?;
     let wanted = is_wanted(alloc, &reports, group, source)?;
     let line = if wanted { "wanted\n" } else { "not wanted\n" };
     match write_all(output, line.as_bytes()) {

@@ -10,7 +10,7 @@ use Rattle.mc_filter.specs.SourceFilter.{SourceFilter}
 
 -- the record is for the group, and of this kind
 abbrev pub IsFor : ℕ → Kind → Record → Type 0
-IsFor group told r = (r.group ≡ group) × (r.kind ≡ told)
+IsFor group of_kind r = (r.group ≡ group) × (r.kind ≡ of_kind)
 
 -- some record for the group is an EXCLUDE record
 abbrev pub HasExclude : List Record → ℕ → Type 0
@@ -28,9 +28,12 @@ InEachExclude records group source = All (λ r. IsFor group kind.Exclude r → C
 -- INCLUDE of the union of the INCLUDE lists.
 abbrev pub IsMergedIn : Mode → List ℕ → List Record → ℕ → Type 0
 IsMergedIn Exclude sources records group =
-    HasExclude records group × ((source : ℕ) → Contains sources source ↔ (InEachExclude records group source × ¬ (InSomeInclude records group source)))
+    HasExclude records group
+    × ((source : ℕ) → Contains sources source ↔
+    (InEachExclude records group source × ¬ (InSomeInclude records group source)))
 IsMergedIn Include sources records group =
-    ¬ (HasExclude records group) × ((source : ℕ) → Contains sources source ↔ InSomeInclude records group source)
+    ¬ (HasExclude records group)
+    × ((source : ℕ) → Contains sources source ↔ InSomeInclude records group source)
 
 -- the filter is what the records for the group merge to, its list ascending with no address twice
 pub record IsMergedValue (records : List Record) (group : ℕ) (filter : SourceFilter) : Type 0 where

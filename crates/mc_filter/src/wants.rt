@@ -11,7 +11,8 @@ use mc_igmp::{Kind, ReportList};
 use mc_text::{Addr, Memory};
 use std::alloc::Global;
 
-/// The filter that the records for a group merge to.
+/// The filter that all records for a group merge to (RFC 3376, section 3.2). It admits a source exactly if
+/// one of them does.
 pub fn wants_of(alloc: Global, reports: &ReportList, group: Addr) -> Result<Filter, Memory>
     ensures merged { IfOk result (IsMergedValue reports.now group) }
     ensures wants { IfOk result (λ filter. (source : ℕ) →
@@ -21,11 +22,11 @@ pub fn wants_of(alloc: Global, reports: &ReportList, group: Addr) -> Result<Filt
     // An EXCLUDE list shrinks what is merged, but INCLUDE lists grow: they are merged as one, so that
     // no pass goes over the sources of all earlier records.
     let mut included = Vec::new(alloc);
-    for told in reports.records() {
-        if told.group == group {
-            match told.kind {
-                Kind::Include => append(&mut included, &told.sources)?,
-                _ => filter.merge(&told)?,
+    for group_record in reports.records() {
+        if group_record.group == group {
+            match group_record.kind {
+                Kind::Include => append(&mut included, &group_record.sources)?,
+                _ => filter.merge(&group_record)?,
             }
         }
     }

@@ -9,6 +9,7 @@ word_sum [] = 0
 word_sum (last ∷ []) = 256 * last
 word_sum (high ∷ low ∷ rest) = 256 * high + low + word_sum rest
 
+-- at least the 8 bytes that every IGMP message has (RFC 2236, section 2), with a right checksum
 pub record IsWellFormed (bytes : List ℕ) : Type 0 where
   pub long_enough : 8 ≤ length bytes
   pub positive : 0 < word_sum bytes

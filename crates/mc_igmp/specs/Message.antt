@@ -6,12 +6,12 @@ use Rattle.mc_igmp.specs.declared.message.Message.TheVariants.{Report, Other}
 use Rattle.mc_igmp.specs.Checksum.{IsWellFormed}
 use Rattle.mc_igmp.specs.Records.{AreRecords}
 
--- the number of group records that a report tells in its bytes 6 and 7
+-- the number of group records that a report tells in its bytes 6 and 7 (section 4.2.3)
 abbrev pub record_count : List ℕ → ℕ
 record_count bytes = 256 * slice_index bytes 6 + slice_index bytes 7
 
 -- A Version 3 report's records follow one another from byte 8, as many as it tells. Bytes after the last
--- record say nothing.
+-- record count for the checksum and say nothing (section 4.2.11).
 pub record IsReport (bytes : List ℕ) (records : List Record) : Type 0 where
   pub own : List ℕ
   pub ignored : List ℕ

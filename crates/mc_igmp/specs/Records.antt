@@ -1,4 +1,4 @@
--- Group records one after another.
+-- Group records one after another, as a report has them (RFC 3376, sections 4.2.3 and 4.2.4).
 use Rattle.std.specs.Prelude.{◌≡◌, ℕ, zero, suc, ◌+◌, List, [], ◌∷◌, ◌++◌, Option, Some, None, Result, Ok, Err}
 use Rattle.mc_igmp.specs.declared.record.Record.{Record}
 use Rattle.mc_igmp.specs.Record.{IsRecord, read_record}

@@ -9,13 +9,16 @@ use Rattle.mc_igmp.specs.declared.message.Message.TheVariants.{Report, Other}
 use Rattle.mc_igmp.specs.Kind.{is_change}
 use Rattle.mc_igmp.specs.Message.{IsMessage, records_of}
 
--- reports of versions 1 and 2 (0x12 and 0x16) are not taken
+-- The messages that a list takes. No record of a Version 3 report tells of a change (types 3 to 6, RFC 3376,
+-- section 4.2.12), since its meaning hangs on what was reported before. Reports of versions 1 and 2 (0x12 and
+-- 0x16, section 4) are not taken.
 abbrev pub IsTaken : Message → Type 0
 IsTaken (Report records) = AllByRecursion (λ r. is_change r.kind ≡ false) records
 IsTaken (Other type) = (type ≢ 0x12) × (type ≢ 0x16)
 
--- The line is the hexadecimal of this message, and nothing else. A message is the payload of one IP packet,
--- of at most 65,515 bytes, and a list has at most 65,536 lines.
+-- The line is the hexadecimal of this message, and nothing else. A message is the payload of one IP packet, of
+-- at most 65,535 bytes less 20 of its header (RFC 791, section 3.1), each of two digits. A list has at most
+-- 65,536 lines.
 pub record IsMessageLine (line : LineText) (message : Message) : Type 0 where
   pub bytes : List ℕ
   pub ended : line.ended ≡ true

@@ -1,6 +1,7 @@
 //! A report list: what the hosts of one LAN answer to one General Query, a message on each line.
 
-ghost use Rattle.std.specs.Prelude.{◌≡◌, ◌≢◌, ◌++◌, ◌<◌, ◌^◌, ◌⊎◌, List, [], length, unwrap_or, IfOk, IfErr, OnOk, OnErr, MatchResult};
+ghost use Rattle.std.specs.Prelude.{◌≡◌, ◌≢◌, ◌++◌, ◌<◌, ◌^◌, ◌⊎◌, List, [], length, unwrap_or};
+ghost use Rattle.std.specs.Prelude.{IfOk, IfErr, OnOk, OnErr, MatchResult};
 ghost use Rattle.mc_text.specs.LineView.{line_text};
 ghost use Rattle.mc_igmp.specs.declared.record.Record.{Record};
 ghost use Rattle.mc_igmp.specs.declared.fault.ListFaultKind.TheVariants.{BadHex};
@@ -32,13 +33,13 @@ const VERSION_1_REPORT: u8 = 0x12;
 const VERSION_2_REPORT: u8 = 0x16;
 
 /// Why the digits of a line could not be decoded.
-fn fault_of_digits(line: u32, error: FromHexError) -> ListFault
+fn fault_of_digits(line_number: u32, error: FromHexError) -> ListFault
     ensures memory { error ≡ FromHexError.OutOfMemory → IsMemory result }
-    ensures digits { error ≢ FromHexError.OutOfMemory → result ≡ fault_at line 0 BadHex }
+    ensures digits { error ≢ FromHexError.OutOfMemory → result ≡ fault_at line_number 0 BadHex }
 {
     match error {
         FromHexError::OutOfMemory => ListFaultKind::Memory.at(0, 0),
-        _ => ListFaultKind::BadHex.at(line, 0),
+        _ => ListFaultKind::BadHex.at(line_number, 0),
     }
 }
 
@@ -76,23 +77,26 @@ fn first_change_of(records: &Records<'_>) -> Option<u32>
 }
 
 /// The records of the message on a line, none if the list takes it and it is no report.
-fn records_taken(line: u32, bytes: &[u8]) -> Result<Option<Records<'_>>, ListFault>
+fn records_taken(line_number: u32, bytes: &[u8]) -> Result<Option<Records<'_>>, ListFault>
     ensures { MatchResult result
-        (λ records. taken_records line (read_message bytes.now) ≡ Ok (unwrap_or records []))
-        (λ fault. taken_records line (read_message bytes.now) ≡ Err fault) }
+        (λ records. taken_records line_number (read_message bytes.now) ≡ Ok (unwrap_or records []))
+        (λ fault. taken_records line_number (read_message bytes.now) ≡ Err fault) }
 {
     match Message::parse(bytes) {
         Ok(Message::Report(records)) => match first_change_of(&records) {
-            Some(number) => Err(ListFaultKind::StateChange.at(line, number)),
+            Some(number) => Err(ListFaultKind::StateChange.at(line_number, number)),
             None => Ok(Some(records)),
         },
         Ok(Message::Other(VERSION_1_REPORT | VERSION_2_REPORT)) => {
-            Err(ListFaultKind::OlderReport.at(line, 0))
+            Err(ListFaultKind::OlderReport.at(line_number, 0))
         }
         Ok(Message::Other(_)) => Ok(None),
-        Err(MessageFault::Short) => Err(ListFaultKind::Short.at(line, 0)),
-        Err(MessageFault::BadChecksum) => Err(ListFaultKind::BadChecksum.at(line, 0)),
-        Err(MessageFault::Truncated(number)) => Err(ListFaultKind::Truncated.at(line, number)),
+        Err(MessageFault::Short) => Err(ListFaultKind::Short.at(line_number, 0)),
+        Err(MessageFault::BadChecksum) => Err(ListFaultKind::BadChecksum.at(line_number, 0)),
+        Err(MessageFault::Truncated(number)) => Err(ListFaultKind::Truncated.at(
+            line_number,
+            number,
+        )),
     }
 }
 
@@ -120,8 +124,13 @@ impl Model for ReportList {
 
 impl ReportList {
     /// Reads a report list: a message in hexadecimal on each line, with nothing else on it. The empty
-    /// text is a list without a record, and so is one of messages that are no reports. Reports of
-    /// versions 1 and 2, and records that tell of a change, are refused.
+    /// text is a list without a record, and so is one of messages that are no reports.
+    ///
+    /// # Errors
+    /// `TooLarge` at line 0 for a text of more than 16,777,216 bytes. Else the first line that has a fault
+    /// is refused, for the first of `Unended`, `TooLarge` (line 65,537, or more than 131,030 bytes on the
+    /// line), `BadHex`, `Short`, `BadChecksum`, `Truncated`, `OlderReport` and `StateChange`. `Memory`
+    /// where a growth was refused.
     pub fn read(alloc: Global, text: &[u8]) -> Result<ReportList, ListFault>
         // What is read are the records of the text's messages.
         ensures found { IfOk result (λ records. IsReportList text.now records) }
@@ -146,14 +155,14 @@ impl ReportList {
 
     // Appends the records of the message on a line.
     fn push_line(&mut self, alloc: Global, line: &Line<'_>) -> Result<(), ListFault>
-        ensures ok { OnOk result
-            ((records : List Record) × (read_line (line_text line.now) ≡ Ok records) × (self.new ≡ self.old ++ records)) }
-        ensures err { IfErr result (λ fault. IsMemory fault ⊎ (read_line (line_text line.now) ≡ Err fault)) }
+        ensures ok { OnOk result ((records : List Record) ×
+            (read_line (line_text line.now) ≡ Ok records) × (self.new ≡ self.old ++ records)) }
+        ensures err { IfErr result (λ fault.
+            IsMemory fault ⊎ (read_line (line_text line.now) ≡ Err fault)) }
     {
         let bytes = bytes_of_digits(alloc, line)?;
-        match records_taken(line.number, &bytes)? {
-            Some(records) => self.append(&records)?,
-            None => {}
+        if let Some(records) = records_taken(line.number, &bytes)? {
+            self.append(&records)?;
         }
         Ok(())
     }

@@ -47,7 +47,8 @@ impl<'a> Records<'a> {
     /// end within them.
     pub(crate) fn read(count: u16, bytes: &'a [u8]) -> Result<Records<'a>, u32>
         ensures { MatchResult result
-            (λ records. (ignored : List ℕ) × (after_records 1 count bytes.now ≡ Ok ignored) × (records ≡ records_in count bytes.now))
+            (λ records. (ignored : List ℕ) ×
+            (after_records 1 count bytes.now ≡ Ok ignored) × (records ≡ records_in count bytes.now))
             (λ number. after_records 1 count bytes.now ≡ Err number) }
     {
         let ignored = after_records_of(count, bytes)?;

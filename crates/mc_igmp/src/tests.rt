@@ -154,6 +154,9 @@ fn faults_of_lists(rt: HostRuntime) -> Result<(), Fail> {
         ("1600f8faef010203\n", "0: OlderReport"),
         ("1200fcfaef010203\n", "0: OlderReport"),
         ("2200e9f90000000103000000ef010203\n", "1: StateChange"),
+        ("2200e8f90000000104000000ef010203\n", "1: StateChange"),
+        ("2200e7f90000000105000000ef010203\n", "1: StateChange"),
+        ("2200e6f90000000106000000ef010203\n", "1: StateChange"),
         (
             "2200f6f30000000202000000ef01020303000000ef010203\n",
             "2: StateChange",
@@ -161,6 +164,7 @@ fn faults_of_lists(rt: HostRuntime) -> Result<(), Fail> {
         // Two faults on a line.
         ("2200e9f80000000203000000ef010203\n", "2: Truncated"),
         ("1600f8fbef010203\n", "0: BadChecksum"),
+        ("2200ddfd0000ffff\n", "0: BadChecksum"),
         ("220\n", "0: BadHex"),
         ("zz", "0: Unended"),
         // A fault on the next line too.
@@ -195,6 +199,11 @@ fn limits_of_lists(rt: HostRuntime) -> Result<(), Fail> {
     assert_eq!(rt;
         list_shown(rt.alloc(), longer.as_str())?.as_str(),
         "line 2 record 0: TooLarge"
+    );
+    let unended = format!(in rt.alloc(); "{QUERY}{zeros}00")?;
+    assert_eq!(rt;
+        list_shown(rt.alloc(), unended.as_str())?.as_str(),
+        "line 1 record 0: Unended"
     );
     // 65,536 lines, and one more.
     let mut lines = repeated(rt.alloc(), "1164ee9b00000000\n", 65_536)?;

@@ -6,7 +6,7 @@ use Rattle.mc_text.specs.LineView.{line_text}
 use Rattle.mc_igmp.specs.declared.record.Record.{Record}
 use Rattle.mc_igmp.proofs.LineLemmas.{read_line-refused, read_line-is}
 use Rattle.mc_igmp.proofs.list.ReportList.push_line.Goals as goal
-use Rattle.mc_igmp.proofs.list.ReportList.push_line.Goals.{in-Some+in_ok-append-in-Some, in-None}
+use Rattle.mc_igmp.proofs.list.ReportList.push_line.Goals.{in-Some+in_ok-append, in_default}
 
 pub returns-in_err-bytes-clause-err : goal.returns-in_err-bytes-clause-err
 returns-in_err-bytes-clause-err c =
@@ -23,6 +23,6 @@ pub returns-clause-ok : goal.returns-clause-ok
 returns-clause-ok c =
     let read = read_line-is (line_text c.args.line.now) c.deref.result.now (c.in_ok-bytes.ensures ∙ ap (λ (bytes : List ℕ). Ok bytes) (sym c.deref.ensures.value)) in
     elim c.match-branch-3.branch [
-      | in-Some+in_ok-append-in-Some w ↦ (w.in-Some.records, read ∙ c.in_ok-records.ensures ∙ ap (λ (o : Option (List Record)). Ok (unwrap_or o [])) w.in-Some.is, w.self-is ∙ w.in_ok-append-in-Some.ensures.ok)
-      | in-None w ↦ ([], read ∙ c.in_ok-records.ensures ∙ ap (λ (o : Option (List Record)). Ok (unwrap_or o [])) w.in-None.is, w.self-is ∙ sym (append-nil c.args.self.now))
+      | in-Some+in_ok-append w ↦ (w.in-Some.records, read ∙ c.in_ok-records.ensures ∙ ap (λ (o : Option (List Record)). Ok (unwrap_or o [])) w.in-Some.is, w.self-is ∙ w.in_ok-append.ensures.ok)
+      | in_default w ↦ ([], read ∙ c.in_ok-records.ensures ∙ ap (λ (o : Option (List Record)). Ok (unwrap_or o [])) w.in_default.is, w.self-is ∙ sym (append-nil c.args.self.now))
     ]

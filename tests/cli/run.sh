@@ -4,15 +4,15 @@
 #
 #   args        its words, one a line
 #   stdin       its standard input (without it: empty); or stdin.sh, which writes it; or stdin.path, the
-#               path of what is opened as standard input
+#               path of what is opened as standard input, from the top of the repository
 #   stdout      its standard output (without it: empty); or stdout.path, where it goes and isn't compared
 #   stderr      its standard error (without it: empty); or stderr.has, of which it has each line's text
 #   status      its exit status (without it: 0)
 #
 # The last line counts the cases: N passed, M failed. The status is 0 if none failed and one was run.
 
-program=$1
-here=$(dirname "$0")
+program=$(cd "$(dirname "$1")" && pwd)/$(basename "$1")
+cd "$(dirname "$0")/../.." || exit 1
 scratch=$(mktemp -d) || exit 1
 trap 'rm -rf "$scratch"' EXIT
 : > "$scratch/empty"
@@ -52,7 +52,8 @@ run_case() {
         diff "$(expected_of "$folder/stdout")" "$scratch/stdout" || return 1
     fi
     if [ -f "$folder/stderr.has" ]; then
-        while IFS= read -r text; do
+        [ -s "$folder/stderr.has" ] || { echo "stderr.has is empty"; return 1; }
+        while IFS= read -r text || [ -n "$text" ]; do
             grep -qF -e "$text" "$scratch/stderr" || { echo "no '$text' on standard error"; return 1; }
         done < "$folder/stderr.has"
     else
@@ -60,7 +61,7 @@ run_case() {
     fi
 }
 
-for folder in "$here"/cases/*/; do
+for folder in tests/cli/cases/*/; do
     name=$(basename "$folder")
     if run_case "${folder%/}" > "$scratch/difference"; then
         passed=$((passed + 1))

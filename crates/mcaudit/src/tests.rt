@@ -6,6 +6,7 @@ use crate::command::{Task, WordsFault, command_of};
 use crate::fault::RunFault;
 use crate::wants::run_wants;
 use mc_text::{Addr, DeviceFault, FromReader, Input, Output, ToWriter};
+use std::alloc::Global;
 use std::test::Fail;
 
 const GROUP: [u8; 4] = [239, 1, 2, 3];
@@ -77,92 +78,95 @@ impl Output for Full {
     }
 }
 
-#[test]
-fn report_lists(rt: HostRuntime) -> Result<(), Fail> {
-    for (text, answer) in [
-        ("", "not wanted\n"),
-        (EXCLUDE_NONE, "wanted\n"),
-        ("2200EAF90000000102000000EF010203\n", "wanted\n"),
-        (EXCLUDE_SOURCE, "not wanted\n"),
-        ("2200ebf80000000102000000ef010203ff\n", "wanted\n"),
-        ("2200e5f90000000107000000ef010203\n", "not wanted\n"),
-        ("1164ee9b00000000\n", "not wanted\n"),
-        ("1700f7faef010203\n", "not wanted\n"),
-        (
-            "2200eaf80000000102000000ef010203\n",
-            "refused: igmp: line 1 record 0: BadChecksum",
-        ),
-        (
-            "2200e0f20000000102000002ef0102030a000005\n",
-            "refused: igmp: line 1 record 1: Truncated",
-        ),
-        (
-            "2200eaf90000000102000000ef010203",
-            "refused: igmp: line 1 record 0: Unended",
-        ),
-        ("\n", "refused: igmp: line 1 record 0: Short"),
-        ("zz\n", "refused: igmp: line 1 record 0: BadHex"),
-        (
-            "1600f8faef010203\n",
-            "refused: igmp: line 1 record 0: OlderReport",
-        ),
-        (
-            "2200e9f90000000103000000ef010203\n",
-            "refused: igmp: line 1 record 1: StateChange",
-        ),
-    ] {
-        let mut input = FromReader::new(text.as_bytes());
-        let mut output = ToWriter::new(Vec::new(rt.alloc()));
-        let group = Addr::from_octets(GROUP);
-        let source = Addr::from_octets(SOURCE);
-        let result = run_wants(rt.alloc(), group, source, &mut input, &mut output);
-        let written = output.into_inner();
-        match result {
-            Ok(wanted) => {
-                assert_eq!(rt; written.as_slice(), answer.as_bytes());
-                assert_eq!(rt; wanted, answer == "wanted\n");
-            }
-            Err(fault) => {
-                assert_eq!(rt; fault.to_string(rt.alloc())?.as_str(), answer);
-                assert!(rt; written.is_empty());
-            }
-        }
-    }
-    Ok(())
-}
-
-#[test]
-fn any_report_may_want_it(rt: HostRuntime) -> Result<(), Fail> {
-    for (first, second) in [
-        (EXCLUDE_SOURCE, INCLUDE_SOURCE),
-        (INCLUDE_SOURCE, EXCLUDE_SOURCE),
-    ] {
-        let text = format!(in rt.alloc(); "{first}{second}")?;
-        let mut input = FromReader::new(text.as_bytes());
-        let mut output = ToWriter::new(Vec::new(rt.alloc()));
-        let group = Addr::from_octets(GROUP);
-        let source = Addr::from_octets(SOURCE);
-        let result = run_wants(rt.alloc(), group, source, &mut input, &mut output);
-        assert_eq!(rt; result, Ok(true));
-        assert_eq!(rt; output.into_inner().as_slice(), b"wanted\n".as_slice());
-    }
-    Ok(())
-}
-
-#[test]
-fn an_input_past_the_limit(rt: HostRuntime) -> Result<(), Fail> {
-    let bytes = vec![in rt.alloc(); 0u8; 16_777_217]?;
-    let mut input = FromReader::new(bytes.as_slice());
-    let mut output = ToWriter::new(Vec::new(rt.alloc()));
+// What the run answers for a list of reports, and what it writes.
+fn run(alloc: Global, reports: &[u8]) -> (Result<bool, RunFault>, Vec<u8>) {
+    let mut input = FromReader::new(reports);
+    let mut output = ToWriter::new(Vec::new(alloc));
     let group = Addr::from_octets(GROUP);
     let source = Addr::from_octets(SOURCE);
-    let result = run_wants(rt.alloc(), group, source, &mut input, &mut output);
-    let fault = result.err().ok_or("a refusal")?;
+    let result = run_wants(alloc, group, source, &mut input, &mut output);
+    (result, output.into_inner())
+}
+
+#[test]
+fn report_lists(rt: HostRuntime) -> Result<(), Fail> {
+    let mut first = String::new(rt.alloc());
+    first.push_str(EXCLUDE_SOURCE)?;
+    first.push_str(INCLUDE_SOURCE)?;
+    let mut last = String::new(rt.alloc());
+    last.push_str(INCLUDE_SOURCE)?;
+    last.push_str(EXCLUDE_SOURCE)?;
+    for (reports, wanted) in [
+        ("", false),
+        (EXCLUDE_NONE, true),
+        ("2200EAF90000000102000000EF010203\n", true),
+        (EXCLUDE_SOURCE, false),
+        (first.as_str(), true),
+        (last.as_str(), true),
+        ("2200ebf80000000102000000ef010203ff\n", true),
+        ("2200e5f90000000107000000ef010203\n", false),
+        ("1164ee9b00000000\n", false),
+        ("1700f7faef010203\n", false),
+    ] {
+        let (result, written) = run(rt.alloc(), reports.as_bytes());
+        assert_eq!(rt; result, Ok(wanted), "{reports}");
+        let line = if wanted { "wanted\n" } else { "not wanted\n" };
+        assert_eq!(rt; written.as_slice(), line.as_bytes(), "{reports}");
+    }
+    Ok(())
+}
+
+#[test]
+fn refused_lists(rt: HostRuntime) -> Result<(), Fail> {
+    let past_the_limit = vec![in rt.alloc(); 0u8; 16_777_217]?;
+    for (reports, place) in [
+        (
+            b"2200eaf80000000102000000ef010203\n".as_slice(),
+            "line 1 record 0: BadChecksum",
+        ),
+        (
+            b"2200e0f20000000102000002ef0102030a000005\n".as_slice(),
+            "line 1 record 1: Truncated",
+        ),
+        (
+            b"2200eaf90000000102000000ef010203".as_slice(),
+            "line 1 record 0: Unended",
+        ),
+        (b"\n".as_slice(), "line 1 record 0: Short"),
+        (b"zz\n".as_slice(), "line 1 record 0: BadHex"),
+        (
+            b"1600f8faef010203\n".as_slice(),
+            "line 1 record 0: OlderReport",
+        ),
+        (
+            b"2200e9f90000000103000000ef010203\n".as_slice(),
+            "line 1 record 1: StateChange",
+        ),
+        (past_the_limit.as_slice(), "line 0 record 0: TooLarge"),
+    ] {
+        let (result, written) = run(rt.alloc(), reports);
+        let fault = result.err().ok_or("a refusal")?;
+        let told = format!(in rt.alloc(); "refused: igmp: {place}")?;
+        assert_eq!(rt; fault.to_string(rt.alloc())?.as_str(), told.as_str());
+        assert!(rt; written.is_empty());
+    }
+    Ok(())
+}
+
+// The texts of faults that no list of reports brings.
+#[test]
+fn texts_of_faults(rt: HostRuntime) -> Result<(), Fail> {
+    for (fault, text) in [
+        (RunFault::Read, "failed: read"),
+        (RunFault::Write, "failed: write"),
+        (RunFault::Memory, "no memory"),
+    ] {
+        assert_eq!(rt; fault.to_string(rt.alloc())?.as_str(), text);
+    }
     assert_eq!(rt;
-        fault.to_string(rt.alloc())?.as_str(),
-        "refused: igmp: line 0 record 0: TooLarge"
+        WordsFault::Memory.to_string(rt.alloc())?.as_str(),
+        "no memory"
     );
-    assert!(rt; output.into_inner().is_empty());
     Ok(())
 }
 

@@ -1,7 +1,8 @@
 //! The greatest topology, and one past each limit.
 
-use super::network::{INTERFACES, NETWORK, answer, changed};
+use super::network::{FLOWS, INTERFACES, LANS, NETWORK, ROUTERS, SOURCES, answer, changed};
 use std::alloc::{AllocError, Global};
+use std::process::Abort;
 use std::test::Fail;
 
 /// How many parts each section has.
@@ -49,10 +50,8 @@ fn write_interfaces(text: &mut String, count: u32) -> Result<(), AllocError> {
         let router = interface % 256;
         let device = interface / 256;
         let lan = interface % 1024;
-        write!(
-            text,
-            "{{router = \"r{router}\", device = \"eth{device}\", lan = \"a-name-of-a-lan-of-32-bytes-{lan:04}\"}},"
-        )?;
+        write!(text, "{{router = \"r{router}\", device = \"eth{device}\", ")?;
+        write!(text, "lan = \"a-name-of-a-lan-of-32-bytes-{lan:04}\"}},")?;
     }
     Ok(())
 }
@@ -152,40 +151,16 @@ fn ones(alloc: Global, count: u32) -> Result<String, AllocError> {
 #[test]
 fn counts_before_parts(rt: HostRuntime) -> Result<(), Fail> {
     for (place, count, wanted) in [
-        (r#"["l0", "l1", "l2"]"#, 1024, "lans 1: BadKind"),
-        (r#"["l0", "l1", "l2"]"#, 1025, "lans 0: TooMany"),
-        (
-            r#"[{name = "r1"}, {name = "r2"}]"#,
-            256,
-            "router 1: BadKind",
-        ),
-        (
-            r#"[{name = "r1"}, {name = "r2"}]"#,
-            257,
-            "router 0: TooMany",
-        ),
+        (LANS, 1024, "lans 1: BadKind"),
+        (LANS, 1025, "lans 0: TooMany"),
+        (ROUTERS, 256, "router 1: BadKind"),
+        (ROUTERS, 257, "router 0: TooMany"),
         (INTERFACES, 8192, "interface 1: BadKind"),
         (INTERFACES, 8193, "interface 0: TooMany"),
-        (
-            r#"[{address = "10.0.0.5", lan = "l0"}]"#,
-            4096,
-            "source 1: BadKind",
-        ),
-        (
-            r#"[{address = "10.0.0.5", lan = "l0"}]"#,
-            4097,
-            "source 0: TooMany",
-        ),
-        (
-            r#"[{source = "10.0.0.5", group = "239.1.2.3", ttl = 3}]"#,
-            4096,
-            "flow 1: BadKind",
-        ),
-        (
-            r#"[{source = "10.0.0.5", group = "239.1.2.3", ttl = 3}]"#,
-            4097,
-            "flow 0: TooMany",
-        ),
+        (SOURCES, 4096, "source 1: BadKind"),
+        (SOURCES, 4097, "source 0: TooMany"),
+        (FLOWS, 4096, "flow 1: BadKind"),
+        (FLOWS, 4097, "flow 0: TooMany"),
     ] {
         let list = ones(rt.alloc(), count)?;
         let text = changed(rt.alloc(), place, list.as_str())?;
@@ -205,29 +180,37 @@ fn greatest_of(alloc: Global, byte: &str) -> Result<String, AllocError> {
     Ok(text)
 }
 
-/// A comment alone, and what is no TOML.
+/// Reads a text of so many bytes, and then with one more.
+fn check_size(
+    rt: &impl Abort,
+    alloc: Global,
+    text: &mut String,
+    wanted: &str,
+) -> Result<(), AllocError> {
+    assert_eq!(rt; text.len(), 16_777_216);
+    let found = answer(alloc, text.as_bytes())?;
+    assert_eq!(rt; found.as_str(), wanted);
+    text.push_str("#")?;
+    let found = answer(alloc, text.as_bytes())?;
+    assert_eq!(rt; found.as_str(), "top 0: TooMany");
+    Ok(())
+}
+
 #[test]
 fn sizes(rt: HostRuntime) -> Result<(), Fail> {
-    for (byte, wanted) in [("#", "top 0: MissingKey"), ("=", "top 0: NotToml")] {
-        let mut text = greatest_of(rt.alloc(), byte)?;
-        assert_eq!(rt; text.len(), 16_777_216);
-        assert_eq!(rt; answer(rt.alloc(), text.as_bytes())?.as_str(), wanted);
-        text.push_str(byte)?;
-        assert_eq!(rt;
-            answer(rt.alloc(), text.as_bytes())?.as_str(),
-            "top 0: TooMany"
-        );
-    }
-    let comment = greatest_of(rt.alloc(), "#")?;
-    let comment = comment.as_str().get(NETWORK.len()..).ok_or("too short")?;
-    let mut text = String::from_str(rt.alloc(), NETWORK)?;
-    text.push_str(comment)?;
-    assert_eq!(rt; text.len(), 16_777_216);
-    assert_eq!(rt; answer(rt.alloc(), text.as_bytes())?.as_str(), "read");
-    text.push_str("#")?;
-    assert_eq!(rt;
-        answer(rt.alloc(), text.as_bytes())?.as_str(),
-        "top 0: TooMany"
-    );
+    let alloc = rt.alloc();
+    let mut comment = greatest_of(alloc, "#")?;
+    let mut padded = String::from_str(alloc, NETWORK)?;
+    padded.push_str(comment.as_str().get(NETWORK.len()..).ok_or("too short")?)?;
+    check_size(&rt, alloc, &mut padded, "read")?;
+    check_size(&rt, alloc, &mut comment, "top 0: MissingKey")?;
+    let mut no_toml = greatest_of(alloc, "=")?;
+    check_size(&rt, alloc, &mut no_toml, "top 0: NotToml")?;
+
+    // Too many bytes come before bytes that are no text.
+    let mut no_text = no_toml.into_bytes();
+    no_text.push(0xFF)?;
+    let found = answer(alloc, no_text.as_slice())?;
+    assert_eq!(rt; found.as_str(), "top 0: TooMany");
     Ok(())
 }

@@ -18,13 +18,25 @@ source = [{address = "10.0.0.5", lan = "l0"}]
 flow = [{source = "10.0.0.5", group = "239.1.2.3", ttl = 3}]
 "#;
 
-/// The list of its interfaces.
+/// Its list of LANs.
+pub(super) const LANS: &str = r#"["l0", "l1", "l2"]"#;
+
+/// Its list of routers.
+pub(super) const ROUTERS: &str = r#"[{name = "r1"}, {name = "r2"}]"#;
+
+/// Its list of interfaces.
 pub(super) const INTERFACES: &str = r#"[
 {router = "r1", device = "eth0", lan = "l0"},
 {router = "r1", device = "eth1", lan = "l1"},
 {router = "r2", device = "eth0", lan = "l1"},
 {router = "r2", device = "eth1", lan = "l2"},
 ]"#;
+
+/// Its list of sources.
+pub(super) const SOURCES: &str = r#"[{address = "10.0.0.5", lan = "l0"}]"#;
+
+/// Its list of flows.
+pub(super) const FLOWS: &str = r#"[{source = "10.0.0.5", group = "239.1.2.3", ttl = 3}]"#;
 
 /// The network with one place changed.
 pub(super) fn changed(alloc: Global, from: &str, to: &str) -> Result<String, AllocError> {

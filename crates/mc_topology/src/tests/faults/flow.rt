@@ -1,11 +1,12 @@
 //! The flows.
 
 use super::Case;
+use crate::tests::network::FLOWS;
 
+/// Key and list.
 const LINE: &str = "flow = [{source = \"10.0.0.5\", group = \"239.1.2.3\", ttl = 3}]\n";
 
-const LIST: &str = r#"[{source = "10.0.0.5", group = "239.1.2.3", ttl = 3}]"#;
-
+/// What stands in the only table.
 const FIRST: &str = r#"source = "10.0.0.5", group = "239.1.2.3", ttl = 3"#;
 
 const GROUP: &str = "239.1.2.3";
@@ -17,7 +18,7 @@ const END: &str = "ttl = 3}]";
 
 pub(super) const CASES: &[Case] = &[
     Case {
-        place: LIST,
+        place: FLOWS,
         instead: &[
             "3",
             r#""10.0.0.5""#,
@@ -27,11 +28,16 @@ pub(super) const CASES: &[Case] = &[
     },
     Case {
         place: LINE,
+        instead: &["flow.ttl = 3\n"],
+        answer: "flow 0: BadKind",
+    },
+    Case {
+        place: LINE,
         instead: &["", "flow = []\n"],
         answer: "flow 0: NoFlow",
     },
     Case {
-        place: LIST,
+        place: FLOWS,
         instead: &["[3]", "[[]]", r#"["10.0.0.5"]"#],
         answer: "flow 1: BadKind",
     },
@@ -48,7 +54,7 @@ pub(super) const CASES: &[Case] = &[
         ],
         answer: "flow 1: UnknownKey",
     },
-    // The source comes before the group and the time to live, and the group before the latter.
+    // The source comes before the other two, and the group before the time to live.
     Case {
         place: FIRST,
         instead: &[

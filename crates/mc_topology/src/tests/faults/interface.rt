@@ -3,8 +3,10 @@
 use super::Case;
 use crate::tests::network::INTERFACES;
 
+/// The second interface.
 const SECOND_TABLE: &str = r#"{router = "r1", device = "eth1", lan = "l1"}"#;
 
+/// What stands in its table.
 const SECOND: &str = r#"router = "r1", device = "eth1", lan = "l1""#;
 
 pub(super) const CASES: &[Case] = &[

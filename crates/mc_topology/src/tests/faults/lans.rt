@@ -1,11 +1,12 @@
 //! The list of LANs.
 
 use super::Case;
+use crate::tests::network::LANS;
 
+/// Key and list.
 const LINE: &str = "lans = [\"l0\", \"l1\", \"l2\"]\n";
 
-const LIST: &str = r#"["l0", "l1", "l2"]"#;
-
+/// What stands in the list.
 const NAMES: &str = r#""l0", "l1", "l2""#;
 
 pub(super) const CASES: &[Case] = &[
@@ -15,13 +16,18 @@ pub(super) const CASES: &[Case] = &[
         answer: "lans 0: MissingKey",
     },
     Case {
-        place: LIST,
+        place: LANS,
         instead: &[r#""l0""#, "1", "{}", r#"{l0 = "l0"}"#],
+        answer: "lans 0: BadKind",
+    },
+    Case {
+        place: LINE,
+        instead: &["lans.l0 = 0\n"],
         answer: "lans 0: BadKind",
     },
     // The list may be empty: then the first interface's LAN isn't there.
     Case {
-        place: LIST,
+        place: LANS,
         instead: &["[]"],
         answer: "interface 1: UnknownName",
     },

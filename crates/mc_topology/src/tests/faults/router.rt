@@ -1,16 +1,17 @@
 //! The routers.
 
 use super::Case;
+use crate::tests::network::ROUTERS;
 
+/// Key and list.
 const LINE: &str = "router = [{name = \"r1\"}, {name = \"r2\"}]\n";
 
-const LIST: &str = r#"[{name = "r1"}, {name = "r2"}]"#;
-
+/// The second router.
 const SECOND: &str = r#"{name = "r2"}"#;
 
 pub(super) const CASES: &[Case] = &[
     Case {
-        place: LIST,
+        place: ROUTERS,
         instead: &[r#"{name = "r1"}"#, r#""r1""#, "1"],
         answer: "router 0: BadKind",
     },
@@ -110,7 +111,7 @@ pub(super) const CASES: &[Case] = &[
     },
     // A router is judged wholly before the next one.
     Case {
-        place: LIST,
+        place: ROUTERS,
         instead: &[r#"[{name = ""}, 2]"#],
         answer: "router 1: BadName",
     },

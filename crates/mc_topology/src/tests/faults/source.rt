@@ -1,11 +1,12 @@
 //! The sources.
 
 use super::Case;
+use crate::tests::network::SOURCES;
 
+/// Key and list.
 const LINE: &str = "source = [{address = \"10.0.0.5\", lan = \"l0\"}]\n";
 
-const LIST: &str = r#"[{address = "10.0.0.5", lan = "l0"}]"#;
-
+/// What stands in the only table.
 const FIRST: &str = r#"address = "10.0.0.5", lan = "l0""#;
 
 /// The end of the list.
@@ -13,12 +14,17 @@ const END: &str = "lan = \"l0\"}]";
 
 pub(super) const CASES: &[Case] = &[
     Case {
-        place: LIST,
+        place: SOURCES,
         instead: &[
             r#""10.0.0.5""#,
             "1",
             r#"{address = "10.0.0.5", lan = "l0"}"#,
         ],
+        answer: "source 0: BadKind",
+    },
+    Case {
+        place: LINE,
+        instead: &["source.lan = \"l0\"\n"],
         answer: "source 0: BadKind",
     },
     // The list may be missing or empty: then the first flow's source isn't there.
@@ -28,7 +34,7 @@ pub(super) const CASES: &[Case] = &[
         answer: "flow 1: UnknownName",
     },
     Case {
-        place: LIST,
+        place: SOURCES,
         instead: &["[1]", "[[]]", r#"["10.0.0.5"]"#],
         answer: "source 1: BadKind",
     },

@@ -8,6 +8,20 @@ pub(super) const TEXTS: &[Text] = &[
     ("", "top 0: MissingKey"),
     ("version = 1\n", "lans 0: MissingKey"),
     ("version = 1\nlans = []\n", "flow 0: NoFlow"),
+    ("version = 1\nlans = 1\nrouter = 1\n", "lans 0: BadKind"),
+    (
+        "version = 1\nlans = []\nrouter = 1\ninterface = 1\n",
+        "router 0: BadKind",
+    ),
+    (
+        "version = 1\nlans = []\ninterface = 1\nsource = 1\n",
+        "interface 0: BadKind",
+    ),
+    (
+        "version = 1\nlans = []\nsource = 1\nflow = 1\n",
+        "source 0: BadKind",
+    ),
+    ("version = 1\nlans = []\nsource = 1\n", "source 0: BadKind"),
     // Headers make tables and lists of tables.
     ("[version]\n", "top 0: BadKind"),
     ("version = 1\n[x]\n", "top 0: UnknownKey"),

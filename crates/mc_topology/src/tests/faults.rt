@@ -41,6 +41,24 @@ fn check_each(rt: &impl Abort, alloc: Global, cases: &[Case]) -> Result<(), Allo
     Ok(())
 }
 
+/// Reads the whole texts.
+fn check_texts(rt: &impl Abort, alloc: Global) -> Result<(), AllocError> {
+    for (text, wanted) in whole::TEXTS {
+        let found = answer(alloc, text.as_bytes())?;
+        assert_eq!(rt; found.as_str(), *wanted, "at {text}");
+    }
+    Ok(())
+}
+
+/// Reads the bytes that are no text.
+fn check_no_texts(rt: &impl Abort, alloc: Global) -> Result<(), AllocError> {
+    for bytes in whole::NO_TEXTS {
+        let found = answer(alloc, bytes)?;
+        assert_eq!(rt; found.as_str(), "top 0: NotToml", "at {bytes:?}");
+    }
+    Ok(())
+}
+
 #[test]
 fn faults(rt: HostRuntime) -> Result<(), Fail> {
     for cases in [
@@ -53,13 +71,7 @@ fn faults(rt: HostRuntime) -> Result<(), Fail> {
     ] {
         check_each(&rt, rt.alloc(), cases)?;
     }
-    for (text, wanted) in whole::TEXTS {
-        let found = answer(rt.alloc(), text.as_bytes())?;
-        assert_eq!(rt; found.as_str(), *wanted, "at {text}");
-    }
-    for bytes in whole::NO_TEXTS {
-        let found = answer(rt.alloc(), bytes)?;
-        assert_eq!(rt; found.as_str(), "top 0: NotToml", "at {bytes:?}");
-    }
+    check_texts(&rt, rt.alloc())?;
+    check_no_texts(&rt, rt.alloc())?;
     Ok(())
 }

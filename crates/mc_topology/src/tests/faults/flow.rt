@@ -47,6 +47,8 @@ pub(super) const CASES: &[Case] = &[
         instead: &[
             "x = 1",
             "source = 1, x = 1",
+            "x = 1, ttl = 3",
+            "source = 1, x = 1, ttl = 3",
             r#"source = "10.0.0.5", group = 1, x = 1"#,
             r#"source = "10.0.0.5", group = "239.1.2.3", ttl = "3", x = 1"#,
             r#"source = "10", group = "", ttl = 0, x = 1"#,

@@ -1,3 +1,6 @@
+//! What no clause says: which of two broken rules is answered, other spellings, limits and look-ups.
+
 mod faults;
 mod limits;
 mod network;
+mod spellings;

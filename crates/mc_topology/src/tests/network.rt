@@ -1,4 +1,4 @@
-//! Network N: LANs l0 to l2, r1 from l0 to l1, r2 from l1 to l2, and one flow.
+//! A small network: LANs l0 to l2, r1 from l0 to l1, r2 from l1 to l2, and one flow.
 
 use crate::*;
 use mc_text::{Addr, Order};
@@ -18,6 +18,26 @@ source = [{address = "10.0.0.5", lan = "l0"}]
 flow = [{source = "10.0.0.5", group = "239.1.2.3", ttl = 3}]
 "#;
 
+/// Its list of LANs.
+pub(super) const LANS: &str = r#"["l0", "l1", "l2"]"#;
+
+/// Its list of routers.
+pub(super) const ROUTERS: &str = r#"[{name = "r1"}, {name = "r2"}]"#;
+
+/// Its list of interfaces.
+pub(super) const INTERFACES: &str = r#"[
+{router = "r1", device = "eth0", lan = "l0"},
+{router = "r1", device = "eth1", lan = "l1"},
+{router = "r2", device = "eth0", lan = "l1"},
+{router = "r2", device = "eth1", lan = "l2"},
+]"#;
+
+/// Its list of sources.
+pub(super) const SOURCES: &str = r#"[{address = "10.0.0.5", lan = "l0"}]"#;
+
+/// Its list of flows.
+pub(super) const FLOWS: &str = r#"[{source = "10.0.0.5", group = "239.1.2.3", ttl = 3}]"#;
+
 /// The network with one place changed.
 pub(super) fn changed(alloc: Global, from: &str, to: &str) -> Result<String, AllocError> {
     let mut text = String::new(alloc);
@@ -30,8 +50,8 @@ pub(super) fn changed(alloc: Global, from: &str, to: &str) -> Result<String, All
 }
 
 /// The fault of a text, or `read`.
-pub(super) fn answer(alloc: Global, text: &str) -> Result<String, AllocError> {
-    match Topology::read(alloc, text.as_bytes()) {
+pub(super) fn answer(alloc: Global, text: &[u8]) -> Result<String, AllocError> {
+    match Topology::read(alloc, text) {
         Ok(_) => String::from_str(alloc, "read"),
         Err(fault) => fault.to_string(alloc),
     }
@@ -84,50 +104,16 @@ fn look_ups(rt: HostRuntime) -> Result<(), Fail> {
     Ok(())
 }
 
+/// A router and a LAN of one name.
 #[test]
-fn spellings_of_one_table(rt: HostRuntime) -> Result<(), Fail> {
-    let plain = Topology::read(rt.alloc(), NETWORK.as_bytes())?;
-    let plain = format!(in rt.alloc(); "{plain:?}")?;
-    for text in [
-        // Tables under headers, and keys in another order.
-        r#"
-lans = ['l0', "l1",
-  """l2"""]
-version = 0x1
-[[flow]]
-ttl = +3
-group = "239.1.2.3"
-source = "10.0.0.5"
-[[router]]
-name = "r1"
-[[router]]
-name = "r2"
-order = "little"
-[[interface]]
-lan = "l0"
-device = "eth0"
-router = "r1"
-[[interface]]
-router = "r1"
-device = "eth1"
-lan = "l1"
-[[interface]]
-router = "r2"
-device = "eth0"
-lan = "l1"
-[[interface]]
-router = "r2"
-device = "\u0065th1"
-lan = "l2"
-[[source]]
-address = "10.0.0.5"
-lan = "l0"
-"#,
-        // Quoted keys, comments and carriage returns.
-        "\"version\" = 1 # the first\r\n'lans' = [\"l0\", \"l1\", \"l2\"]\r\nrouter = [{name = \"r1\"}, {\"name\" = \"r2\"}]\r\ninterface = [{router = \"r1\", device = \"eth0\", lan = \"l0\"}, {router = \"r1\", device = \"eth1\", lan = \"l1\"}, {router = \"r2\", device = \"eth0\", lan = \"l1\"}, {router = \"r2\", device = \"eth1\", lan = \"l2\"}]\r\nsource = [{address = \"10.0.0.5\", lan = \"l0\"}]\r\nflow = [{source = \"10.0.0.5\", group = \"239.1.2.3\", ttl = 3}]",
-    ] {
-        let other = Topology::read(rt.alloc(), text.as_bytes())?;
-        assert_eq!(rt; format!(in rt.alloc(); "{other:?}")?, plain, "at {text}");
-    }
+fn one_name(rt: HostRuntime) -> Result<(), Fail> {
+    let text = changed(
+        rt.alloc(),
+        r#"{name = "r2"}"#,
+        r#"{name = "r2"}, {name = "l0"}"#,
+    )?;
+    let n = Topology::read(rt.alloc(), text.as_bytes())?;
+    assert_eq!(rt; n.router_no("l0"), Some(RouterNo(2)));
+    assert_eq!(rt; n.lan_no("l0"), Some(LanNo(0)));
     Ok(())
 }

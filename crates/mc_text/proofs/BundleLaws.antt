@@ -1,5 +1,5 @@
 -- A bundle as a whole: what is read is written so, and what is written so is read.
-use Rattle.std.proofs.Common.{arith, ◌≡◌, ℕ, zero, suc, ◌+◌, ◌-◌, ◌≤◌, Bool, true, false, cond, List, [], ◌∷◌, ◌++◌, length, take, drop, Option, Some, None, Result, Ok, Err, refl, sym, ap, subst, ◌∙◌, append_assoc}
+use Rattle.std.proofs.Common.{arith, ◌≡◌, ◌≢◌, ℕ, zero, suc, ◌+◌, ◌-◌, ◌≤◌, Bool, true, false, cond, List, [], ◌∷◌, ◌++◌, length, take, drop, Option, Some, None, Result, Ok, Err, refl, sym, ap, subst, ◌∙◌, append_assoc}
 use Rattle.std.specs.Prelude.{codes, IfOk}
 use Rattle.std.specs.List.{AllByRecursion, flat_map}
 use Rattle.std.specs.Str.{bytes_eq}
@@ -8,7 +8,7 @@ use Rattle.std.proofs.lemmas.Slice.Eq.{bytes_eq-Decides}
 use Rattle.mc_text.specs.declared.bundle_fault.BundleFault.{BundleFault}
 use Rattle.mc_text.specs.declared.bundle_fault.BundleFault.TheVariants as faults
 use Rattle.mc_text.specs.Bundle.{PartText, IsPartName, part_spelling, bundle_spelling, AreWithinLimits, IsBundle}
-use Rattle.mc_text.specs.BundleReading.{◌>>=◌, Gives, Place, place_of, with_next, parts_from, bundle_of}
+use Rattle.mc_text.specs.BundleReading.{◌>>=◌, Fails, Gives, Place, place_of, with_next, parts_from, bundle_of}
 use Rattle.mc_text.proofs.BundlePlaces.{bind_ok, ok_is, HasPart, IsEnd, IsFound, place_takes, end_again, part_again}
 
 -- these parts and the line `end` stand here, within what may still come
@@ -123,3 +123,17 @@ one_list ps qs p q small-p small-q e = same_parts (bundle_spelling ps) ps qs (re
 pub found_bundle : (text : List ℕ) (r : Result (List PartText) BundleFault) → Gives (λ parts. parts) r (bundle_of text) → IfOk r (IsBundle text)
 found_bundle text (Ok parts) h = bundle_takes text parts h
 found_bundle text (Err fault) h = tt
+
+-- what is given is the very result, unless memory ran out
+failed_is : (fault : BundleFault) (read : Result (List PartText) BundleFault) → Fails fault read → fault ≢ faults.Memory → Err fault ≡ read
+failed_is faults.Memory read h other = absurd (other refl)
+failed_is fault read h other = sym h
+
+pub given_is : (r read : Result (List PartText) BundleFault) → Gives (λ parts. parts) r read → r ≢ Err faults.Memory → r ≡ read
+given_is (Ok parts) read h other = sym h
+given_is (Err fault) read h other = failed_is fault read h (λ e. other (ap (λ (f : BundleFault). Err f) e))
+
+-- a bundle's parts are what such a reader answers
+pub only_bundle : (text : List ℕ) (r : Result (List PartText) BundleFault) → Gives (λ parts. parts) r (bundle_of text)
+    → (parts : List PartText) → IsBundle text parts → r ≢ Err faults.Memory → r ≡ Ok parts
+only_bundle text r h parts stands other = given_is r (bundle_of text) h other ∙ bundle_again text parts stands

@@ -80,6 +80,7 @@ impl Addr {
     pub fn from_octets(octets: [u8; 4]) -> Addr
         ensures value { result ≡ from_be_bytes w32 octets }
         ensures octets { octets_of result ≡ octets }
+        ensures in_range { IsAddr result }
     {
         Addr {
             bits: u32::from_be_bytes(octets),
@@ -105,7 +106,9 @@ impl Addr {
 
     /// The four octets, the most significant first.
     pub fn octets(self) -> [u8; 4]
-        ensures { result ≡ octets_of self }
+        ensures octets { result ≡ octets_of self }
+        // Every address in hand is a number of 32 bits.
+        ensures in_range { IsAddr self }
     {
         self.bits.to_be_bytes()
     }

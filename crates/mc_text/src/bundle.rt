@@ -1,6 +1,6 @@
 //! Reading a bundle.
 
-ghost use Rattle.std.specs.Prelude.{◌≡◌, ◌-◌, ◌<◌, ◌≤◌, List, length, min, IfOk, Ok, Some, slice_get, option_map, None};
+ghost use Rattle.std.specs.Prelude.{◌≡◌, ◌≢◌, ◌-◌, ◌<◌, ◌≤◌, List, length, min, IfOk, Ok, Err, Some, slice_get, option_map, None};
 ghost use Rattle.mc_text.specs.Bundle.{PartText, IsBundle};
 ghost use Rattle.mc_text.specs.BundleReading.{Gives, part_bytes_at as part_bytes_of, part_place, end_place, place_of, parts_from, bundle_of};
 ghost use Rattle.mc_text.specs.PartView.{part_text, part_texts};
@@ -155,11 +155,24 @@ impl<'a> Bundle<'a> {
         // What is read stands there.
         ensures found { IfOk result (IsBundle text.now) }
         // A bundle of these parts is read as them, unless memory runs out.
-        ensures only { (parts : List PartText) → IsBundle text.now parts → Gives (λ bundle. bundle) result (Ok parts) }
-        // Else the fault is the first one from the front.
-        ensures fault { Gives (λ bundle. bundle) result (bundle_of text.now) }
+        ensures only { (parts : List PartText) → IsBundle text.now parts
+            → result ≢ Err BundleFault.Memory → result ≡ Ok parts }
+        // Else the fault is the first one from the front, unless memory runs out.
+        ensures fault { result ≢ Err BundleFault.Memory → result ≡ bundle_of text.now }
     {
-        all(alloc, text)
+        Bundle::from_text(alloc, text)
+    }
+
+    // The same, with all three said at once.
+    #[tactic(auto, unfolding(crate::specs::BundleReading::bundle_of))]
+    fn from_text(alloc: Global, text: &'a [u8]) -> Result<Bundle<'a>, BundleFault>
+        ensures { Gives (λ bundle. bundle) result (bundle_of text.now) }
+    {
+        let Some(rest) = text.strip_prefix(MAGIC) else {
+            return Err(BundleFault::NoMagic);
+        };
+        let parts = parts_of(alloc, rest)?;
+        Ok(Bundle { parts })
     }
 
     /// How many parts it has.
@@ -179,18 +192,5 @@ impl<'a> Bundle<'a> {
             name: part.name,
             bytes: part.bytes,
         }
-    }
-}
-
-#[tactic(auto, unfolding(crate::specs::BundleReading::bundle_of))]
-fn all(alloc: Global, text: &[u8]) -> Result<Bundle<'_>, BundleFault>
-    ensures { Gives (λ bundle. bundle) result (bundle_of text.now) }
-{
-    match text.strip_prefix(MAGIC) {
-        Some(rest) => {
-            let parts = parts_of(alloc, rest)?;
-            Ok(Bundle { parts })
-        }
-        None => Err(BundleFault::NoMagic),
     }
 }

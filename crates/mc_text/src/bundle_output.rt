@@ -31,6 +31,7 @@ pub fn write_bundle<W: Output>(parts: &[Part<'_>], output: &mut W) -> Result<(),
     ensures unwritten { IfErr result (λ fault. fault ≢ BundleFault.Write → output.new ≡ output.old) }
     ensures cut { IsErrOf result BundleFault.Write
         → AppendsPart (W.took output.old) (W.took output.new) (bundle_spelling (part_texts parts.now)) }
+    ensures cut_within { IsErrOf result BundleFault.Write → AreWithinLimits (part_texts parts.now) }
     ensures failures { W.failed output.new ≡ failed_by_writing result (W.failed output.old) }
 {
     if !are_within_limits(parts) {

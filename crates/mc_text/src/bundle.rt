@@ -16,8 +16,8 @@ use std::marker::Model;
 /// The first line of a bundle.
 pub(crate) const MAGIC: &[u8] = b"mcaudit bundle 1\n";
 
-// The last line.
-pub(crate) const END: &[u8] = b"end";
+/// The last line of a bundle.
+pub(crate) const END_LINE: &[u8] = b"end\n";
 
 /// The greatest length of a part, in bytes.
 pub(crate) const MAX_PART: usize = 16_777_216;
@@ -81,7 +81,7 @@ fn part_at<'a>(
 fn end_at(place: &Place<'_>, after: &[u8]) -> Result<(), BundleFault>
     ensures { Gives (λ _. None) result (end_place (place_text place.now) after.now) }
 {
-    if place.room < 4 {
+    if place.room < END_LINE.len() {
         return Err(BundleFault::TooLarge);
     }
     if !after.is_empty() {
@@ -96,7 +96,7 @@ fn place_at<'a>(place: &Place<'a>) -> Result<Option<(Part<'a>, Place<'a>)>, Bund
     ensures { Gives (option_map found_text) result (place_of (place_text place.now)) }
 {
     let (line, after) = line_at(place.rest)?;
-    if line == END {
+    if line == b"end".as_slice() {
         end_at(place, after)?;
         return Ok(None);
     }

@@ -1,9 +1,5 @@
 //! Why a bundle could not be read or written.
 
-ghost use Rattle.std.specs.Prelude.{◌≡◌};
-ghost use Rattle.mc_text.specs.declared.bundle_fault.BundleFault.TheVariants.{Memory};
-
-use std::alloc::{AllocError, AllocFailed};
 use thiserror::Error;
 
 /// The first fault of a bundle, as it is met from the front.
@@ -40,20 +36,4 @@ pub enum BundleFault {
     /// (10) A call was made after a fault.
     #[error("Failed")]
     Failed,
-}
-
-impl From<AllocError> for BundleFault {
-    ghost from_gives = { λ _ e. e ≡ Memory };
-
-    fn from(_refused: AllocError) -> BundleFault {
-        BundleFault::Memory
-    }
-}
-
-impl<T: Drop> From<AllocFailed<T>> for BundleFault {
-    ghost from_gives = { λ _ e. e ≡ Memory };
-
-    fn from(_refused: AllocFailed<T>) -> BundleFault {
-        BundleFault::Memory
-    }
 }

@@ -9,12 +9,12 @@ ghost use Rattle.mc_text.specs.BundleWriting.{failed_by_writing, AppendsBundle};
 ghost use Rattle.mc_text.specs.Device.{failed_by_write_all, AppendsPart};
 ghost use Rattle.mc_text.specs.PartView.{part_text, part_texts};
 
-use crate::bundle::{END, MAGIC, MAX_BUNDLE, MAX_PART, MAX_PARTS};
+use crate::bundle::{END_LINE, MAGIC, MAX_BUNDLE, MAX_PART, MAX_PARTS};
 use crate::bundle_fault::BundleFault;
 use crate::device::{DeviceFault, Output};
-use crate::digits::{MAX_DIGITS, decimal_digits};
 use crate::output_bytes::write_all;
 use crate::part::Part;
+use itoa::Buffer;
 
 /// Writes the bundle of the parts, if they are within a bundle's limits. It takes no memory.
 ///
@@ -52,7 +52,7 @@ fn are_within_limits(parts: &[Part<'_>]) -> bool
     if parts.len() > MAX_PARTS {
         return false;
     }
-    let mut size = MAGIC.len() + END.len() + 1;
+    let mut size = MAGIC.len() + END_LINE.len();
     for part in parts {
         if part.bytes.len() > MAX_PART {
             return false;
@@ -69,8 +69,8 @@ fn size_of_part(part: &Part<'_>) -> usize
     ensures bound { result ≤ MAX_PART + 92 }
     ensures named { IsPartName part.now.name }
 {
-    let mut buffer = [0u8; MAX_DIGITS];
-    let digits = decimal_digits(part.bytes.len(), &mut buffer);
+    let mut buffer = Buffer::new();
+    let digits = buffer.format(part.bytes.len()).as_bytes();
     let line = 5 + part.name.as_bytes().len() + 1 + digits.len();
     line + 1 + part.bytes.len() + 1
 }
@@ -86,7 +86,7 @@ fn write_parts<W: Output>(output: &mut W, parts: &[Part<'_>]) -> Result<(), Devi
     for part in parts {
         write_part(output, part)?;
     }
-    write_all(output, b"end\n")
+    write_all(output, END_LINE)
 }
 
 fn write_part<W: Output>(output: &mut W, part: &Part<'_>) -> Result<(), DeviceFault>
@@ -96,8 +96,8 @@ fn write_part<W: Output>(output: &mut W, part: &Part<'_>) -> Result<(), DeviceFa
     ensures err { OnErr result (AppendsPart (W.took output.old) (W.took output.new) (part_spelling (part_text part.now))) }
     ensures failures { W.failed output.new ≡ failed_by_write_all result (W.failed output.old) }
 {
-    let mut buffer = [0u8; MAX_DIGITS];
-    let digits = decimal_digits(part.bytes.len(), &mut buffer);
+    let mut buffer = Buffer::new();
+    let digits = buffer.format(part.bytes.len()).as_bytes();
     write_all(output, b"part ")?;
     write_all(output, part.name.as_bytes())?;
     write_all(output, b" ")?;

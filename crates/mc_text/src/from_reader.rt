@@ -7,7 +7,7 @@ use std::io::Read;
 use std::marker::Model;
 
 /// An input over a reader. Every error of the reader is a failure, also an interrupted call.
-#[derive(Drop)]
+#[derive(Debug, Drop)]
 pub struct FromReader<R: Read> {
     reader: R,
     failures: u64,

@@ -8,7 +8,7 @@ mod bundle_fault;
 mod bundle_laws;
 mod bundle_output;
 mod device;
-mod digits;
+mod first_place;
 mod from_reader;
 mod input_bytes;
 mod laws;

@@ -2,7 +2,7 @@
 
 ghost use Rattle.std.specs.Prelude.{◌≡◌, ◌≤◌, length, IfSome, Some};
 ghost use Rattle.std.specs.List.{list_all};
-ghost use Rattle.mc_text.specs.Bundle.{IsPartName, is_name_byte as is_letter};
+ghost use Rattle.mc_text.specs.Bundle.{IsPartName, is_name_byte as is_byte_of_name};
 ghost use Rattle.mc_text.specs.BundleReading.{is_part_name as is_name};
 ghost use Rattle.mc_text.specs.PaddedName.{padded as with_zeros};
 
@@ -68,13 +68,13 @@ fn is_part_name(bytes: &[u8]) -> bool
 }
 
 fn are_name_bytes(bytes: &[u8]) -> bool
-    ensures { result ≡ list_all is_letter bytes.now }
+    ensures { result ≡ list_all is_byte_of_name bytes.now }
 {
     bytes.iter().all(|byte| is_name_byte(*byte))
 }
 
 fn is_name_byte(byte: u8) -> bool
-    ensures { result ≡ is_letter byte }
+    ensures { result ≡ is_byte_of_name byte }
 {
     byte.is_ascii_alphanumeric() || matches!(byte, b'-' | b'_' | b'.' | b'/')
 }

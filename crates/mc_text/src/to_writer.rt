@@ -7,7 +7,7 @@ use std::io::Write;
 use std::marker::Model;
 
 /// An output over a writer. Every error of the writer is a failure, also an interrupted call.
-#[derive(Drop)]
+#[derive(Debug, Drop)]
 pub struct ToWriter<W: Write> {
     writer: W,
     failures: u64,

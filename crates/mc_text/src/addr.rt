@@ -36,7 +36,8 @@ pub enum Order {
 /// The four bytes of a word of eight hexadecimal digits.
 fn four_bytes(word: &[u8]) -> Option<[u8; 4]>
     ensures found { IfSome result (λ bytes. decode_of word.now ≡ Ok bytes) }
-    ensures only { (bytes : List ℕ) → length bytes ≡ 4 → decode_of word.now ≡ Ok bytes → result ≡ Some bytes }
+    ensures only { (bytes : List ℕ) → length bytes ≡ 4
+        → decode_of word.now ≡ Ok bytes → result ≡ Some bytes }
 {
     let mut bytes = [0u8; 4];
     hex::decode_to_slice(word, &mut bytes).ok()?;
@@ -104,7 +105,7 @@ impl Addr {
         (1..=223).contains(&first) && first != 127
     }
 
-    /// The four octets, the most significant first.
+    /// The four octets, the most significant first: each is 0 to 255.
     pub fn octets(self) -> [u8; 4]
         ensures octets { result ≡ octets_of self }
         // Every address in hand is a number of 32 bits.

@@ -22,7 +22,7 @@ impl<R: Read> Model for FromReader<R> {
 }
 
 impl<R: Read> FromReader<R> {
-    /// The bytes of the reader.
+    /// An input over the reader, with no failure yet.
     pub fn new(reader: R) -> FromReader<R>
         ensures { result ≡ record { told = R.remaining reader; failed = 0 } }
     {

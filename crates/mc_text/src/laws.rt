@@ -20,7 +20,7 @@ pub fn lines_end_at_line_feeds()
     ensures ended { (text : List ℕ) → OnlyLastMayBeUnended (lines_of text) }
 {}
 
-/// Addresses are ordered by their octets, of which the first counts most, as `cmp` and as the numbers are.
+/// Addresses are ordered by their octets, of which the first counts most. Their numbers are ordered so too.
 pub fn addresses_are_ordered_by_octets()
     ensures order { (a b : ℕ) → IsAddr a → IsAddr b
         → ⟦<Addr as Ord>⟧.cmp a b ≡ slice_cmp nat_cmp (octets_of a) (octets_of b) }

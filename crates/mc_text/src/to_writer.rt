@@ -22,7 +22,7 @@ impl<W: Write> Model for ToWriter<W> {
 }
 
 impl<W: Write> ToWriter<W> {
-    /// An output that writes to the writer.
+    /// An output over the writer, with no failure yet.
     pub fn new(writer: W) -> ToWriter<W>
         ensures { result ≡ record { took = W.contents writer; failed = 0 } }
     {

@@ -1,5 +1,5 @@
 -- A bundle as a whole: what is read is written so, and what is written so is read.
-use Rattle.std.proofs.Common.{arith, ◌≡◌, ℕ, zero, suc, ◌+◌, ◌-◌, ◌≤◌, Bool, true, false, cond, List, [], ◌∷◌, ◌++◌, length, take, drop, Option, Some, None, Result, Ok, Err, refl, sym, ap, subst, ◌∙◌, append_assoc}
+use Rattle.std.proofs.Common.{arith, ◌≡◌, ◌≢◌, ℕ, zero, suc, ◌+◌, ◌-◌, ◌≤◌, Bool, true, false, cond, List, [], ◌∷◌, ◌++◌, length, take, drop, Option, Some, None, Result, Ok, Err, refl, sym, ap, subst, ◌∙◌, append_assoc}
 use Rattle.std.specs.Prelude.{codes, IfOk}
 use Rattle.std.specs.List.{AllByRecursion, flat_map}
 use Rattle.std.specs.Str.{bytes_eq}
@@ -7,14 +7,14 @@ use Rattle.std.proofs.lemmas.List.{take-append-drop, length-append}
 use Rattle.std.proofs.lemmas.Slice.Eq.{bytes_eq-Decides}
 use Rattle.mc_text.specs.declared.bundle_fault.BundleFault.{BundleFault}
 use Rattle.mc_text.specs.declared.bundle_fault.BundleFault.TheVariants as faults
-use Rattle.mc_text.specs.Bundle.{PartText, IsPartName, part_spelling, bundle_spelling, AreWithinLimits, IsBundle}
-use Rattle.mc_text.specs.BundleReading.{◌>>=◌, Gives, Place, place_of, with_next, parts_from, bundle_of}
+use Rattle.mc_text.specs.Bundle.{PartText, IsPartName, part_spelling, bundle_spelling, AreWithinLimits, IsBundle, max_part, max_bundle, max_parts}
+use Rattle.mc_text.specs.BundleReading.{◌>>=◌, Fails, Gives, Place, place_of, with_next, parts_from, bundle_of}
 use Rattle.mc_text.proofs.BundlePlaces.{bind_ok, ok_is, HasPart, IsEnd, IsFound, place_takes, end_again, part_again}
 
 -- these parts and the line `end` stand here, within what may still come
 pub record AreParts (n room : ℕ) (rest : List ℕ) (parts : List PartText) : Type 0 where
   pub names : AllByRecursion (λ part. IsPartName part.name) parts
-  pub sizes : AllByRecursion (λ part. length part.bytes ≤ 16777216) parts
+  pub sizes : AllByRecursion (λ part. length part.bytes ≤ max_part) parts
   pub count : length parts ≤ n
   pub size : length (flat_map part_spelling parts ++ codes "end\n") ≤ room
   pub spelled : rest ≡ flat_map part_spelling parts ++ codes "end\n"
@@ -89,9 +89,9 @@ let_through false r d y e = absurd cc
 pub bundle_takes : (text : List ℕ) (parts : List PartText) → bundle_of text ≡ Ok parts → IsBundle text parts
 unfolding bundle_of
 bundle_takes text parts e =
-    let magic = let_through (bytes_eq (take 17 text) (codes "mcaudit bundle 1\n")) (parts_from 1538 (268435456 - 17) (drop 17 text)) faults.NoMagic parts e in
+    let magic = let_through (bytes_eq (take 17 text) (codes "mcaudit bundle 1\n")) (parts_from max_parts (max_bundle - 17) (drop 17 text)) faults.NoMagic parts e in
     let front : take 17 text ≡ codes "mcaudit bundle 1\n" = (bytes_eq-Decides (take 17 text) (codes "mcaudit bundle 1\n")).0 magic.0 in
-    let all = parts_take 1538 (268435456 - 17) (drop 17 text) parts magic.1 in
+    let all = parts_take max_parts (max_bundle - 17) (drop 17 text) parts magic.1 in
     record {
       names = all.names;
       limits = record { sizes = all.sizes; count = all.count; size = omega (arith, all.size, length-append (codes "mcaudit bundle 1\n") (flat_map part_spelling parts ++ codes "end\n")) };
@@ -101,14 +101,14 @@ bundle_takes text parts e =
 pub bundle_again : (text : List ℕ) (parts : List PartText) → IsBundle text parts → bundle_of text ≡ Ok parts
 unfolding bundle_of
 bundle_again text parts h =
-    let all : AreParts 1538 (268435456 - 17) (flat_map part_spelling parts ++ codes "end\n") parts = record {
+    let all : AreParts max_parts (max_bundle - 17) (flat_map part_spelling parts ++ codes "end\n") parts = record {
       names = h.names;
       sizes = h.limits.sizes;
       count = h.limits.count;
       size = omega (arith, h.limits.size, length-append (codes "mcaudit bundle 1\n") (flat_map part_spelling parts ++ codes "end\n"));
       spelled = refl;
     } in
-    ap bundle_of h.spelled ∙ parts_again 1538 (268435456 - 17) (flat_map part_spelling parts ++ codes "end\n") parts all
+    ap bundle_of h.spelled ∙ parts_again max_parts (max_bundle - 17) (flat_map part_spelling parts ++ codes "end\n") parts all
 
 -- a text is the bundle of one list of parts at most
 pub same_parts : (text : List ℕ) (ps qs : List PartText) → IsBundle text ps → IsBundle text qs → ps ≡ qs
@@ -123,3 +123,17 @@ one_list ps qs p q small-p small-q e = same_parts (bundle_spelling ps) ps qs (re
 pub found_bundle : (text : List ℕ) (r : Result (List PartText) BundleFault) → Gives (λ parts. parts) r (bundle_of text) → IfOk r (IsBundle text)
 found_bundle text (Ok parts) h = bundle_takes text parts h
 found_bundle text (Err fault) h = tt
+
+-- what is given is the very result, unless memory ran out
+failed_is : (fault : BundleFault) (read : Result (List PartText) BundleFault) → Fails fault read → fault ≢ faults.Memory → Err fault ≡ read
+failed_is faults.Memory read h other = absurd (other refl)
+failed_is fault read h other = sym h
+
+pub given_is : (r read : Result (List PartText) BundleFault) → Gives (λ parts. parts) r read → r ≢ Err faults.Memory → r ≡ read
+given_is (Ok parts) read h other = sym h
+given_is (Err fault) read h other = failed_is fault read h (λ e. other (ap (λ (f : BundleFault). Err f) e))
+
+-- a bundle's parts are what such a reader answers
+pub only_bundle : (text : List ℕ) (r : Result (List PartText) BundleFault) → Gives (λ parts. parts) r (bundle_of text)
+    → (parts : List PartText) → IsBundle text parts → r ≢ Err faults.Memory → r ≡ Ok parts
+only_bundle text r h parts stands other = given_is r (bundle_of text) h other ∙ bundle_again text parts stands

@@ -6,7 +6,7 @@ use Rattle.std.proofs.Math.Seq.{drop-cons}
 use Rattle.std.proofs.lemmas.Grind.{flat_map-append}
 use Rattle.std.proofs.lemmas.List.{append-nil, length-append, map-append, map_more, take-append-drop}
 use Rattle.mc_text.specs.declared.part.Part.{Part}
-use Rattle.mc_text.specs.Bundle.{PartText, IsPartName, part_spelling, bundle_spelling, AreWithinLimits}
+use Rattle.mc_text.specs.Bundle.{PartText, IsPartName, part_spelling, bundle_spelling, AreWithinLimits, max_part, max_bundle, max_parts}
 use Rattle.mc_text.specs.PartView.{part_text, part_texts}
 
 -- ---- all of them
@@ -32,10 +32,10 @@ one_more_text parts i part within is = map_more part_text parts i part within �
 -- the parts are small and named, and the bundle of them has this size
 pub record AreSmall (texts : List PartText) (total : ℕ) : Type 0 where
   pub size : total ≡ 21 + length (flat_map part_spelling texts)
-  pub sizes : AllByRecursion (λ part. length part.bytes ≤ 16777216) texts
+  pub sizes : AllByRecursion (λ part. length part.bytes ≤ max_part) texts
   pub names : AllByRecursion (λ part. IsPartName part.name) texts
 
-pub AreSmall-push : (texts : List PartText) (text : PartText) (total more : ℕ) → AreSmall texts total → more ≡ length (part_spelling text) → length text.bytes ≤ 16777216 → IsPartName text.name
+pub AreSmall-push : (texts : List PartText) (text : PartText) (total more : ℕ) → AreSmall texts total → more ≡ length (part_spelling text) → length text.bytes ≤ max_part → IsPartName text.name
     → AreSmall (texts ++ text ∷ []) (total + more)
 AreSmall-push texts text total more h long small named = record {
   size = omega (arith, h.size, long, ap length (flat_map_push texts text), length-append (flat_map part_spelling texts) (part_spelling text));
@@ -46,16 +46,16 @@ AreSmall-push texts text total more h long small named = record {
 length-bundle_spelling : (texts : List PartText) → length (bundle_spelling texts) ≡ 21 + length (flat_map part_spelling texts)
 length-bundle_spelling texts = omega (arith, length-append (codes "mcaudit bundle 1\n") (flat_map part_spelling texts ++ codes "end\n"), length-append (flat_map part_spelling texts) (codes "end\n"))
 
-pub limits_kept : (texts : List PartText) (total : ℕ) → AreSmall texts total → length texts ≤ 1538 → total ≤ 268435456 → AreWithinLimits texts
+pub limits_kept : (texts : List PartText) (total : ℕ) → AreSmall texts total → length texts ≤ max_parts → total ≤ max_bundle → AreWithinLimits texts
 limits_kept texts total h few fits = record { sizes = h.sizes; count = few; size = omega (arith, h.size, length-bundle_spelling texts) }
 
-pub size_passed : (texts : List PartText) (total : ℕ) → AreSmall texts total → 268435456 < total → AreWithinLimits texts → ⊥
+pub size_passed : (texts : List PartText) (total : ℕ) → AreSmall texts total → max_bundle < total → AreWithinLimits texts → ⊥
 size_passed texts total h wide limits = omega (arith, h.size, length-bundle_spelling texts, limits.size)
 
-pub part_passed : (parts : List Part) (i : ℕ) (part : Part) → i < length parts → part ≡ get_or parts i part → 16777216 < length part.bytes.now → AreWithinLimits (part_texts parts) → ⊥
+pub part_passed : (parts : List Part) (i : ℕ) (part : Part) → i < length parts → part ≡ get_or parts i part → max_part < length part.bytes.now → AreWithinLimits (part_texts parts) → ⊥
 part_passed parts i part within is wide limits =
-    let small = all_at (λ text. length text.bytes ≤ 16777216) parts i part limits.sizes within in
-    omega (arith, subst (λ (p : Part). length p.bytes.now ≤ 16777216) (sym is) small)
+    let small = all_at (λ text. length text.bytes ≤ max_part) parts i part limits.sizes within in
+    omega (arith, subst (λ (p : Part). length p.bytes.now ≤ max_part) (sym is) small)
 
 -- ---- the bundle that they make
 

@@ -13,7 +13,7 @@ use Rattle.std.proofs.lemmas.Slice.Eq.{bytes_eq-Decides}
 use Rattle.std.proofs.Math.Seq.{drop-cons}
 use Rattle.mc_text.specs.declared.bundle_fault.BundleFault.{BundleFault}
 use Rattle.mc_text.specs.declared.bundle_fault.BundleFault.TheVariants as faults
-use Rattle.mc_text.specs.Bundle.{IsPartName, part_line}
+use Rattle.mc_text.specs.Bundle.{IsPartName, part_line, max_line}
 use Rattle.mc_text.specs.BundleReading.{is_part_name, is_length, cut_words, words_said, part_said, cut_line, line_at}
 use Rattle.mc_text.proofs.BundleWords.{Without, Without-append, Without-name, Without-decimal, position-Some_after, IsPartName-from_test, test-from_IsPartName, decimal-length_word, is_length-decimal}
 
@@ -87,7 +87,7 @@ said_again name size h small = words_again name size h small
 
 pub record IsLine (rest line after : List ℕ) : Type 0 where
   pub parts : rest ≡ line ++ (codes "\n" ++ after)
-  pub short : length line < 96
+  pub short : length line < max_line
 
 neither : {A : Type 0} (b : Bool) (x y : BundleFault) (z : A) → cond b (Err x) (Err y) ≡ Ok z → ⊥
 neither true x y z e = cc
@@ -113,7 +113,7 @@ line_takes rest line after e =
       short = subst (λ (l : List ℕ). length l < 96) cut.2 (omega (arith, length-take n rest));
     }
 
-pub line_again : (line after : List ℕ) → Without 10 line → length line < 96 → line_at (line ++ (codes "\n" ++ after)) ≡ Ok (line, after)
+pub line_again : (line after : List ℕ) → Without 10 line → length line < max_line → line_at (line ++ (codes "\n" ++ after)) ≡ Ok (line, after)
 unfolding line_at
 line_again line after h short =
     let k : 96 ≡ length line + suc (95 - length line) = omega arith in

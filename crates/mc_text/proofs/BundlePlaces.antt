@@ -10,7 +10,7 @@ use Rattle.std.proofs.lemmas.List.{take_at, take-append-drop, length-append, len
 use Rattle.std.proofs.lemmas.Slice.Eq.{bytes_eq-Decides}
 use Rattle.mc_text.specs.declared.bundle_fault.BundleFault.{BundleFault}
 use Rattle.mc_text.specs.declared.bundle_fault.BundleFault.TheVariants as faults
-use Rattle.mc_text.specs.Bundle.{PartText, IsPartName, part_line, part_spelling}
+use Rattle.mc_text.specs.Bundle.{PartText, IsPartName, part_line, part_spelling, max_line, max_part}
 use Rattle.mc_text.specs.BundleReading.{◌>>=◌, Place, line_at, part_said, part_bytes_at, part_room, is_too_large, part_place, end_place, place_of}
 use Rattle.mc_text.proofs.BundleLines.{IsLine, line_takes, line_again, said_take, said_again, Without-part_line, from_place}
 
@@ -70,7 +70,7 @@ part_bytes_again bytes after =
 -- a place, the part at it, and the place after it
 pub record HasPart (place : Place) (part : PartText) (next : Place) : Type 0 where
   pub named : IsPartName part.name
-  pub small : length part.bytes ≤ 16777216
+  pub small : length part.bytes ≤ max_part
   pub counted : place.parts ≡ suc next.parts
   pub room : place.room ≡ length (part_spelling part) + next.room
   pub rest : place.rest ≡ part_spelling part ++ next.rest
@@ -94,13 +94,13 @@ length-part_spelling part =
 -- what is_too_large rules out
 record Fit (place : Place) (line : List ℕ) (size : ℕ) : Type 0 where
   some : place.parts ≡ suc (place.parts - 1)
-  small : size ≤ 16777216
+  small : size ≤ max_part
   room : part_room line size ≤ place.room
 
 fits : (place : Place) (line : List ℕ) (size : ℕ) → is_too_large place line size ≡ false → Fit place line size
 fits place line size h =
-    let all = or_parts (eqb place.parts 0 || ltb 16777216 size) (ltb place.room (part_room line size)) h in
-    let both = or_parts (eqb place.parts 0) (ltb 16777216 size) all.0 in
+    let all = or_parts (eqb place.parts 0 || ltb max_part size) (ltb place.room (part_room line size)) h in
+    let both = or_parts (eqb place.parts 0) (ltb max_part size) all.0 in
     let parts : place.parts ≡ 0 → ⊥ = eqb-false _ _ both.0 in
     record { some = omega (arith, parts); small = ltb-false _ _ both.1; room = ltb-false _ _ all.1 }
 
@@ -156,7 +156,7 @@ end_again place h =
     let after-cut : Result (List ℕ × List ℕ) BundleFault → Result (Option (PartText × Place)) BundleFault = λ r. r >>= λ cut. cond (bytes_eq cut.0 (codes "end")) (end_place place cut.1) (part_place place cut.0 cut.1 (part_said cut.0)) in
     ap (λ (l : List ℕ). after-cut (line_at l)) h.rest ∙ cond-false (ltb place.room 4) (Err faults.TooLarge) (Ok None) (le-ltb _ _ h.room)
 
-length-part_line : (name : List ℕ) (size : ℕ) → IsPartName name → size ≤ 16777216 → length (part_line name size) < 96
+length-part_line : (name : List ℕ) (size : ℕ) → IsPartName name → size ≤ max_part → length (part_line name size) < max_line
 length-part_line name size h small =
     let digits : length (decimal size) ≤ 8 = length-decimal-le 8 size (omega arith) (omega arith) (omega arith) in
     omega (arith, h.short, digits, length-append name (codes " " ++ decimal size))

@@ -10,7 +10,6 @@ pub mod BundlePlaces
 pub mod BundleLaws
 pub mod BundleCode
 pub mod BundleLoop
-pub mod DecimalDigits
 pub mod BundleWritten
 pub mod BundleLimits
 pub mod ReadingOn

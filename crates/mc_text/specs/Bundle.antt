@@ -10,6 +10,26 @@ use Rattle.std.specs.Char.{is_ascii_alphanumeric}
 use Rattle.std.specs.Fmt.{decimal}
 use Rattle.std.specs.List.{AllByRecursion, AllPass, flat_map}
 
+-- the greatest length of a part's name, in bytes
+abbrev pub max_name : ℕ
+max_name = 64
+
+-- the greatest length of a line with its line feed, in bytes
+abbrev pub max_line : ℕ
+max_line = 96
+
+-- the greatest length of a part, in bytes
+abbrev pub max_part : ℕ
+max_part = 16777216
+
+-- the greatest length of a bundle, in bytes
+abbrev pub max_bundle : ℕ
+max_bundle = 268435456
+
+-- the greatest number of parts
+abbrev pub max_parts : ℕ
+max_parts = 1538
+
 -- a part without where it lies in memory
 pub record PartText : Type 0 where
   pub name : List ℕ
@@ -22,25 +42,26 @@ is_name_byte b = is_ascii_alphanumeric b || (b == 45) || (b == 95) || (b == 46) 
 -- 1 to 64 of them
 pub record IsPartName (name : List ℕ) : Type 0 where
   pub some : 1 ≤ length name
-  pub short : length name ≤ 64
+  pub short : length name ≤ max_name
   pub bytes : AllPass is_name_byte name
 
--- the length is in decimal without a needless leading zero
+-- The line of a part, without its line feed. The length is in decimal without a needless leading zero.
 abbrev pub part_line : List ℕ → ℕ → List ℕ
 part_line name size = codes "part " ++ (name ++ (codes " " ++ decimal size))
 
--- The line, and the part's bytes, each followed by a line feed.
+-- the part's line and its bytes, each followed by a line feed
 abbrev pub part_spelling : PartText → List ℕ
 part_spelling part = (part_line part.name (length part.bytes) ++ codes "\n") ++ (part.bytes ++ codes "\n")
 
+-- the first line, the parts in order, and the last line
 abbrev pub bundle_spelling : List PartText → List ℕ
 bundle_spelling parts = codes "mcaudit bundle 1\n" ++ (flat_map part_spelling parts ++ codes "end\n")
 
--- A part has at most 16,777,216 bytes, a bundle 268,435,456 bytes and 1,538 parts.
+-- A part has at most 16,777,216 bytes, and a bundle 268,435,456 bytes and 1,538 parts.
 pub record AreWithinLimits (parts : List PartText) : Type 0 where
-  pub sizes : AllByRecursion (λ part. length part.bytes ≤ 16777216) parts
-  pub count : length parts ≤ 1538
-  pub size : length (bundle_spelling parts) ≤ 268435456
+  pub sizes : AllByRecursion (λ part. length part.bytes ≤ max_part) parts
+  pub count : length parts ≤ max_parts
+  pub size : length (bundle_spelling parts) ≤ max_bundle
 
 -- the text is a bundle of these parts
 pub record IsBundle (text : List ℕ) (parts : List PartText) : Type 0 where

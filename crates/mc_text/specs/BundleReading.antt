@@ -6,48 +6,62 @@ use Rattle.std.specs.Str.{bytes_eq}
 use Rattle.std.specs.Str.Parse.{digits_value}
 use Rattle.mc_text.specs.declared.bundle_fault.BundleFault.{BundleFault}
 use Rattle.mc_text.specs.declared.bundle_fault.BundleFault.TheVariants as faults
-use Rattle.mc_text.specs.Bundle.{PartText, is_name_byte}
+use Rattle.mc_text.specs.Bundle.{PartText, is_name_byte, max_name, max_line, max_part, max_bundle, max_parts}
 
+-- a step, and what follows it unless it has a fault
 infixl 10 ◌>>=◌
 abbrev pub ◌>>=◌ : {A B : Type 0} → Result A BundleFault → (A → Result B BundleFault) → Result B BundleFault
 (Ok x) >>= f = f x
 (Err e) >>= f = Err e
 
--- What a function answered, seen by view, is what reading gives, unless memory ran out.
+-- A function's fault is the one that reading gives. Want of memory says nothing of reading.
 abbrev pub Fails : {Y : Type 0} → BundleFault → Result Y BundleFault → Type 0
 Fails faults.Memory read = Unit {0}
 Fails fault read = read ≡ Err fault
 
+-- What a function answered, seen by view, is what reading gives, unless memory ran out.
 abbrev pub Gives : {X Y : Type 0} → (X → Y) → Result X BundleFault → Result Y BundleFault → Type 0
 Gives view (Ok x) read = read ≡ Ok (view x)
 Gives view (Err fault) read = Fails fault read
 
 -- ---- lines
 
--- The bytes before the line feed, and those after it. A line has at most 96 bytes with its line feed.
+-- The bytes before the line feed, which stands here, and those after it. With none in sight it is decided
+-- by whether the input has a whole line's bytes left.
 abbrev pub cut_line : List ℕ → Option ℕ → Result (List ℕ × List ℕ) BundleFault
 cut_line rest (Some n) = Ok (take n rest, drop (n + 1) rest)
-cut_line rest None = if nat_lt (length rest) 96 then Err faults.NoEnd else Err faults.BadPartLine
+cut_line rest None = if nat_lt (length rest) max_line then Err faults.NoEnd else Err faults.BadPartLine
 
+-- the line at the front, whose line feed is the first one, and the bytes after it
 unfoldable pub line_at : List ℕ → Result (List ℕ × List ℕ) BundleFault
-line_at rest = cut_line rest (position (λ b. b == 10) (take 96 rest))
+line_at rest = cut_line rest (position (λ b. b == 10) (take max_line rest))
 
+-- whether the bytes are a part's name: 1 to 64 letters, digits, `-`, `_`, `.` and `/`
 abbrev pub is_part_name : List ℕ → Bool
-is_part_name name = nat_le 1 (length name) && nat_le (length name) 64 && list_all is_name_byte name
+is_part_name name =
+    nat_le 1 (length name) && nat_le (length name) max_name && list_all is_name_byte name
 
 -- one digit or more, and no needless leading zero
 abbrev pub is_length : List ℕ → Bool
-is_length word = nat_le 1 (length word) && list_all is_ascii_digit word && ((length word == 1) || not (slice_index word 0 == 48))
+is_length word =
+    nat_le 1 (length word) && list_all is_ascii_digit word
+    && ((length word == 1) || not (slice_index word 0 == 48))
 
--- the name and the length of a part line, whose words are these without `part `, and whose first space is here
+-- the name and the length that two words say, if they are a name and a length
+abbrev pub name_and_length : List ℕ → List ℕ → Option (List ℕ × ℕ)
+name_and_length name word =
+    if is_part_name name && is_length word then Some (name, digits_value 10 word) else None
+
+-- the same of the words before and after a space, which stands here
 abbrev pub cut_words : List ℕ → Option ℕ → Option (List ℕ × ℕ)
 cut_words words None = None
-cut_words words (Some n) =
-    if is_part_name (take n words) && is_length (drop (n + 1) words) then Some (take n words, digits_value 10 (drop (n + 1) words)) else None
+cut_words words (Some n) = name_and_length (take n words) (drop (n + 1) words)
 
+-- the name and the length that a part line says after its `part `, parted by its first space
 unfoldable pub words_said : List ℕ → Option (List ℕ × ℕ)
 words_said words = cut_words words (position (λ b. b == 32) words)
 
+-- the name and the length that a line says, if it is a part line
 unfoldable pub part_said : List ℕ → Option (List ℕ × ℕ)
 part_said line = if bytes_eq (take 5 line) (codes "part ") then words_said (drop 5 line) else None
 
@@ -70,15 +84,27 @@ part_bytes_at size rest =
 abbrev pub part_room : List ℕ → ℕ → ℕ
 part_room line size = length line + 1 + (size + 1)
 
+-- whether no part may come, or none of this size with this line
 abbrev pub is_too_large : Place → List ℕ → ℕ → Bool
-is_too_large place line size = (place.parts == 0) || nat_lt 16777216 size || nat_lt place.room (part_room line size)
+is_too_large place line size =
+    (place.parts == 0) || nat_lt max_part size || nat_lt place.room (part_room line size)
 
-abbrev pub part_place : Place → List ℕ → List ℕ → Option (List ℕ × ℕ) → Result (Option (PartText × Place)) BundleFault
+-- the place after a part that takes this room, where these bytes come
+abbrev pub place_after : Place → ℕ → List ℕ → Place
+place_after place taken rest =
+    record { parts = place.parts - 1; room = place.room - taken; rest = rest }
+
+-- the part whose line says this name and length, and the place after it
+abbrev pub part_place : Place → List ℕ → List ℕ → Option (List ℕ × ℕ)
+    → Result (Option (PartText × Place)) BundleFault
 part_place place line after None = Err faults.BadPartLine
 part_place place line after (Some said) =
     if is_too_large place line said.1 then Err faults.TooLarge
-    else (part_bytes_at said.1 after >>= λ found. Ok (Some (record { name = said.0; bytes = found.0 }, record { parts = place.parts - 1; room = place.room - part_room line said.1; rest = found.1 })))
+    else (part_bytes_at said.1 after >>= λ found.
+    let part : PartText = record { name = said.0; bytes = found.0 } in
+    Ok (Some (part, place_after place (part_room line said.1) found.1)))
 
+-- the end, whose line takes four bytes and is the last
 abbrev pub end_place : Place → List ℕ → Result (Option (PartText × Place)) BundleFault
 end_place place after =
     if nat_lt place.room 4 then Err faults.TooLarge
@@ -93,19 +119,21 @@ place_of place =
     else part_place place cut.0 cut.1 (part_said cut.0)
 
 -- the part at a place, and those after it
-abbrev pub with_next : Option (PartText × Place) → (Place → Result (List PartText) BundleFault) → Result (List PartText) BundleFault
+abbrev pub with_next : Option (PartText × Place) → (Place → Result (List PartText) BundleFault)
+    → Result (List PartText) BundleFault
 with_next None next = Ok []
 with_next (Some found) next = next found.1 >>= λ parts. Ok (found.0 ∷ parts)
 
--- the parts from a place on, where so many may come
+-- the parts from a place on, where so many parts and so many bytes may come
 unfoldable pub parts_from : ℕ → ℕ → List ℕ → Result (List PartText) BundleFault
 parts_from zero room rest = place_of (record { parts = 0; room = room; rest = rest }) >>= λ _. Ok []
 parts_from (suc n) room rest =
     place_of (record { parts = suc n; room = room; rest = rest }) >>= λ found.
     with_next found (λ place. parts_from n place.room place.rest)
 
--- all the parts of a bundle
+-- the parts of a bundle, which begins with a line of 17 bytes
 unfoldable pub bundle_of : List ℕ → Result (List PartText) BundleFault
 bundle_of text =
-    if bytes_eq (take 17 text) (codes "mcaudit bundle 1\n") then parts_from 1538 (268435456 - 17) (drop 17 text)
+    if bytes_eq (take 17 text) (codes "mcaudit bundle 1\n")
+    then parts_from max_parts (max_bundle - 17) (drop 17 text)
     else Err faults.NoMagic

@@ -36,7 +36,8 @@ pub enum Order {
 /// The four bytes of a word of eight hexadecimal digits.
 fn four_bytes(word: &[u8]) -> Option<[u8; 4]>
     ensures found { IfSome result (λ bytes. decode_of word.now ≡ Ok bytes) }
-    ensures only { (bytes : List ℕ) → length bytes ≡ 4 → decode_of word.now ≡ Ok bytes → result ≡ Some bytes }
+    ensures only { (bytes : List ℕ) → length bytes ≡ 4
+        → decode_of word.now ≡ Ok bytes → result ≡ Some bytes }
 {
     let mut bytes = [0u8; 4];
     hex::decode_to_slice(word, &mut bytes).ok()?;
@@ -80,6 +81,7 @@ impl Addr {
     pub fn from_octets(octets: [u8; 4]) -> Addr
         ensures value { result ≡ from_be_bytes w32 octets }
         ensures octets { octets_of result ≡ octets }
+        ensures in_range { IsAddr result }
     {
         Addr {
             bits: u32::from_be_bytes(octets),
@@ -103,9 +105,11 @@ impl Addr {
         (1..=223).contains(&first) && first != 127
     }
 
-    /// The four octets, the most significant first.
+    /// The four octets, the most significant first: each is 0 to 255.
     pub fn octets(self) -> [u8; 4]
-        ensures { result ≡ octets_of self }
+        ensures octets { result ≡ octets_of self }
+        // Every address in hand is a number of 32 bits.
+        ensures in_range { IsAddr self }
     {
         self.bits.to_be_bytes()
     }

@@ -1,7 +1,7 @@
 //! Reading a bundle.
 
-ghost use Rattle.std.specs.Prelude.{◌≡◌, ◌-◌, ◌<◌, ◌≤◌, List, length, min, IfOk, Ok, Some, slice_get, option_map, None};
-ghost use Rattle.mc_text.specs.Bundle.{PartText, IsBundle};
+ghost use Rattle.std.specs.Prelude.{◌≡◌, ◌≢◌, ◌-◌, ◌<◌, ◌≤◌, List, length, min, IfOk, Ok, Err, Some, slice_get, option_map, None};
+ghost use Rattle.mc_text.specs.Bundle.{PartText, IsBundle, max_bundle, max_parts};
 ghost use Rattle.mc_text.specs.BundleReading.{Gives, part_bytes_at as part_bytes_of, part_place, end_place, place_of, parts_from, bundle_of};
 ghost use Rattle.mc_text.specs.PartView.{part_text, part_texts};
 ghost use Rattle.mc_text.specs.PlaceView.{place_text, found_text};
@@ -16,8 +16,8 @@ use std::marker::Model;
 /// The first line of a bundle.
 pub(crate) const MAGIC: &[u8] = b"mcaudit bundle 1\n";
 
-// The last line.
-pub(crate) const END: &[u8] = b"end";
+/// The last line of a bundle.
+pub(crate) const END_LINE: &[u8] = b"end\n";
 
 /// The greatest length of a part, in bytes.
 pub(crate) const MAX_PART: usize = 16_777_216;
@@ -58,7 +58,8 @@ fn part_at<'a>(
     name: PartName,
     size: u64,
 ) -> Result<Option<(Part<'a>, Place<'a>)>, BundleFault>
-    ensures { Gives (option_map found_text) result (part_place (place_text place.now) line.now after.now (Some (name, size))) }
+    ensures { Gives (option_map found_text) result
+        (part_place (place_text place.now) line.now after.now (Some (name, size))) }
 {
     if place.parts == 0 || size > MAX_PART as u64 {
         return Err(BundleFault::TooLarge);
@@ -81,7 +82,7 @@ fn part_at<'a>(
 fn end_at(place: &Place<'_>, after: &[u8]) -> Result<(), BundleFault>
     ensures { Gives (λ _. None) result (end_place (place_text place.now) after.now) }
 {
-    if place.room < 4 {
+    if place.room < END_LINE.len() {
         return Err(BundleFault::TooLarge);
     }
     if !after.is_empty() {
@@ -96,7 +97,7 @@ fn place_at<'a>(place: &Place<'a>) -> Result<Option<(Part<'a>, Place<'a>)>, Bund
     ensures { Gives (option_map found_text) result (place_of (place_text place.now)) }
 {
     let (line, after) = line_at(place.rest)?;
-    if line == END {
+    if line == b"end".as_slice() {
         end_at(place, after)?;
         return Ok(None);
     }
@@ -108,7 +109,8 @@ fn place_at<'a>(place: &Place<'a>) -> Result<Option<(Part<'a>, Place<'a>)>, Bund
 
 // The parts from a text's first part line on.
 fn parts_of(alloc: Global, text: &[u8]) -> Result<Vec<Part<'_>>, BundleFault>
-    ensures { Gives (λ parts. part_texts parts.items) result (parts_from 1538 (268435456 - 17) text.now) }
+    ensures { Gives (λ parts. part_texts parts.items) result
+        (parts_from max_parts (max_bundle - 17) text.now) }
 {
     let mut parts = Vec::new(alloc);
     let mut place = Place {
@@ -147,19 +149,36 @@ impl<'a> Model for Bundle<'a> {
 }
 
 impl<'a> Bundle<'a> {
-    /// Reads a bundle.
+    /// Reads a bundle: at most 1,538 parts of at most 16,777,216 bytes, and 268,435,456 bytes in all.
     ///
     /// The first line is `mcaudit bundle 1`. A part is a line `part`, its name and its length, the bytes,
     /// and a line feed. The line `end` stands last.
+    ///
+    /// # Errors
+    ///
+    /// The first fault from the front, or `Memory`.
     pub fn read(alloc: Global, text: &'a [u8]) -> Result<Bundle<'a>, BundleFault>
         // What is read stands there.
         ensures found { IfOk result (IsBundle text.now) }
         // A bundle of these parts is read as them, unless memory runs out.
-        ensures only { (parts : List PartText) → IsBundle text.now parts → Gives (λ bundle. bundle) result (Ok parts) }
-        // Else the fault is the first one from the front.
-        ensures fault { Gives (λ bundle. bundle) result (bundle_of text.now) }
+        ensures only { (parts : List PartText) → IsBundle text.now parts
+            → result ≢ Err BundleFault.Memory → result ≡ Ok parts }
+        // Else the fault is the first one from the front, unless memory runs out.
+        ensures fault { result ≢ Err BundleFault.Memory → result ≡ bundle_of text.now }
     {
-        all(alloc, text)
+        Bundle::from_text(alloc, text)
+    }
+
+    // The same, with all three said at once.
+    #[tactic(auto, unfolding(crate::specs::BundleReading::bundle_of))]
+    fn from_text(alloc: Global, text: &'a [u8]) -> Result<Bundle<'a>, BundleFault>
+        ensures { Gives (λ bundle. bundle) result (bundle_of text.now) }
+    {
+        let Some(rest) = text.strip_prefix(MAGIC) else {
+            return Err(BundleFault::NoMagic);
+        };
+        let parts = parts_of(alloc, rest)?;
+        Ok(Bundle { parts })
     }
 
     /// How many parts it has.
@@ -169,7 +188,7 @@ impl<'a> Bundle<'a> {
         self.parts.len()
     }
 
-    /// The part at a place, counted from 0.
+    /// The part at a place, which is counted from 0 and below `count`.
     pub fn part(&self, place: usize) -> Part<'a>
         requires { place < length self.now }
         ensures { slice_get self.now place ≡ Some (part_text result) }
@@ -179,18 +198,5 @@ impl<'a> Bundle<'a> {
             name: part.name,
             bytes: part.bytes,
         }
-    }
-}
-
-#[tactic(auto, unfolding(crate::specs::BundleReading::bundle_of))]
-fn all(alloc: Global, text: &[u8]) -> Result<Bundle<'_>, BundleFault>
-    ensures { Gives (λ bundle. bundle) result (bundle_of text.now) }
-{
-    match text.strip_prefix(MAGIC) {
-        Some(rest) => {
-            let parts = parts_of(alloc, rest)?;
-            Ok(Bundle { parts })
-        }
-        None => Err(BundleFault::NoMagic),
     }
 }

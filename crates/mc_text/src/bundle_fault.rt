@@ -1,9 +1,5 @@
 //! Why a bundle could not be read or written.
 
-ghost use Rattle.std.specs.Prelude.{◌≡◌};
-ghost use Rattle.mc_text.specs.declared.bundle_fault.BundleFault.TheVariants.{Memory};
-
-use std::alloc::{AllocError, AllocFailed};
 use thiserror::Error;
 
 /// The first fault of a bundle, as it is met from the front.
@@ -12,48 +8,32 @@ pub enum BundleFault {
     /// (1) The first line isn't `mcaudit bundle 1`.
     #[error("NoMagic")]
     NoMagic,
-    /// (2) At a line's place: no line feed within 96 bytes, or neither `end` nor a part line. After a part:
-    /// another byte than a line feed.
+    /// (2) At a line's place: no line feed among the next 96 bytes, or a line that is neither `end` nor a
+    /// part's. After a part: another byte than a line feed.
     #[error("BadPartLine")]
     BadPartLine,
     /// (3) The input ends before a part's last byte or its line feed.
     #[error("Truncated")]
     Truncated,
-    /// (4) At a line's place: the input ends before a line feed, within 96 bytes.
+    /// (4) At a line's place: fewer than 96 bytes are left, and none is a line feed.
     #[error("NoEnd")]
     NoEnd,
     /// (5) A byte stands after the line `end`.
     #[error("AfterEnd")]
     AfterEnd,
-    /// (6) A part, the bundle or the number of parts passes its limit.
+    /// (6) A part passes 16,777,216 bytes, the bundle 268,435,456 bytes, or there are more than 1,538 parts.
     #[error("TooLarge")]
     TooLarge,
-    /// (7) The input failed.
+    /// (7) The input failed. No call answers this yet.
     #[error("Read")]
     Read,
     /// (8) Memory ran out.
     #[error("Memory")]
     Memory,
-    /// (9) The output failed.
+    /// (9) The output answered an error, or took no byte.
     #[error("Write")]
     Write,
-    /// (10) A call was made after a fault.
+    /// (10) A call was made after a fault. No call answers this yet.
     #[error("Failed")]
     Failed,
-}
-
-impl From<AllocError> for BundleFault {
-    ghost from_gives = { λ _ e. e ≡ Memory };
-
-    fn from(_refused: AllocError) -> BundleFault {
-        BundleFault::Memory
-    }
-}
-
-impl<T: Drop> From<AllocFailed<T>> for BundleFault {
-    ghost from_gives = { λ _ e. e ≡ Memory };
-
-    fn from(_refused: AllocFailed<T>) -> BundleFault {
-        BundleFault::Memory
-    }
 }

@@ -7,11 +7,13 @@ ghost use Rattle.mc_text.specs.BundleReading.{bundle_of};
 
 /// A text is the bundle of one list of parts at most: no two lists of parts have the same bytes.
 pub fn one_list_of_parts()
-    ensures { (text : List ℕ) (ps qs : List PartText) → IsBundle text ps → IsBundle text qs → ps ≡ qs }
+    ensures { (text : List ℕ) (ps qs : List PartText)
+        → IsBundle text ps → IsBundle text qs → ps ≡ qs }
 {}
 
 /// What is written of named parts within the limits is read again as those parts.
 pub fn written_is_read()
-    ensures { (parts : List PartText) → AllByRecursion (λ part. IsPartName part.name) parts → AreWithinLimits parts
+    ensures { (parts : List PartText)
+        → AllByRecursion (λ part. IsPartName part.name) parts → AreWithinLimits parts
         → bundle_of (bundle_spelling parts) ≡ Ok parts }
 {}

@@ -7,7 +7,7 @@ use std::io::Read;
 use std::marker::Model;
 
 /// An input over a reader. Every error of the reader is a failure, also an interrupted call.
-#[derive(Drop)]
+#[derive(Debug, Drop)]
 pub struct FromReader<R: Read> {
     reader: R,
     failures: u64,
@@ -22,7 +22,7 @@ impl<R: Read> Model for FromReader<R> {
 }
 
 impl<R: Read> FromReader<R> {
-    /// The bytes of the reader.
+    /// An input over the reader, with no failure yet.
     pub fn new(reader: R) -> FromReader<R>
         ensures { result ≡ record { told = R.remaining reader; failed = 0 } }
     {

@@ -22,10 +22,13 @@ pub enum ReadFault {
     Memory,
 }
 
-/// Reads until the end of the input, or until it has read `limit` bytes.
+/// Reads until the end of the input, or until it has read `limit` bytes. It asks for at most 65,536 bytes
+/// at once, and never for a byte past the limit. The input's count of failures has to be below `u64::MAX`.
 ///
-/// The first error of the input ends it. It asks for large pieces at once, and never for a byte past the
-/// limit.
+/// # Errors
+///
+/// `Read` at the first error of the input, and `Memory` where what was read finds no room. The bytes that
+/// were read are lost then.
 pub fn read_to_limit<R: Input>(
     alloc: Global,
     input: &mut R,
@@ -35,7 +38,8 @@ pub fn read_to_limit<R: Input>(
     ensures same { R.names input.new ≡ R.names input.old }
     ensures bound { IfOk result (λ bytes. vec_len bytes ≤ limit) }
     // All that the input still had, or its first bytes as many as the limit allows.
-    ensures bytes { IfOk result (λ bytes. IfSome (R.told input.old) (λ text. bytes.items ≡ take limit text)) }
+    ensures bytes { IfOk result
+        (λ bytes. IfSome (R.told input.old) (λ text. bytes.items ≡ take limit text)) }
     // The rest is left in the input, and where less than the limit was read there is none.
     ensures rest { IfOk result (λ bytes. Consumes (R.told input.old) (R.told input.new) bytes.items) }
     // Whatever the answer, no more than the limit was read.
@@ -61,7 +65,8 @@ fn fill_to_limit<R: Input>(
     requires failures { R.failed input.old < u64.MAX }
     ensures same { R.names input.new ≡ R.names input.old }
     ensures bound { OnOk result (vec_len bytes.new ≤ limit) }
-    ensures bytes { OnOk result (ReadsMore (R.told input.old) (R.told input.new) bytes.old.items bytes.new.items) }
+    ensures bytes { OnOk result
+        (ReadsMore (R.told input.old) (R.told input.new) bytes.old.items bytes.new.items) }
     ensures consumed { ConsumesUpTo (limit - length bytes.old.items) (R.told input.old) (R.told input.new) }
     ensures end { OnOk result (vec_len bytes.new < limit → IsAtEnd (R.told input.new)) }
     ensures failures { R.failed input.new ≡ failed_by_reading result (R.failed input.old) }

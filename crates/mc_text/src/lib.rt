@@ -1,5 +1,7 @@
 //! Texts as operators and kernels write them: addresses, lines, words and numbers; the devices that bytes
-//! come from and go to; and the bundle, the one stream of named parts. Nothing here knows of a domain.
+//! come from and go to; and the bundle, the one stream of named parts. Of multicast it knows two ranges of
+//! addresses alone: the groups that routers forward and the sources that hosts may send from. Nothing here
+//! knows of a domain.
 #![tactic(auto)]
 
 mod addr;
@@ -8,7 +10,7 @@ mod bundle_fault;
 mod bundle_laws;
 mod bundle_output;
 mod device;
-mod digits;
+mod first_place;
 mod from_reader;
 mod input_bytes;
 mod laws;

@@ -1,14 +1,15 @@
 //! A text as its lines. Only a line feed (byte 0x0A) ends a line.
 
-ghost use Rattle.std.specs.Prelude.{◌≡◌, ◌==◌, ◌≤◌, length, position};
+ghost use Rattle.std.specs.Prelude.{◌≡◌, ◌≤◌, length};
 
+use crate::first_place::first_place_of;
 use std::marker::Model;
 
 /// The greatest text that is read as lines, in bytes.
 pub const MAX_TEXT: usize = 16_777_216;
 
 /// A line of a text.
-#[derive(Clone, Copy, Debug)]
+#[derive(Clone, Copy, Debug, PartialEq, Eq)]
 pub struct Line<'a> {
     /// Its number, counted from 1.
     pub number: u32,
@@ -35,13 +36,6 @@ impl<'a> Model for Lines<'a> {
     ghost view = { λ s. lines_from s.next_number s.rest.now };
 
     ghost invariant = { λ s. s.next_number + length s.rest.now < 2 ^ 32 };
-}
-
-/// The index of the first line feed.
-fn line_feed_in(text: &[u8]) -> Option<usize>
-    ensures { result ≡ position (λ b. b == 10) text.now }
-{
-    text.iter().position(|byte| *byte == b'\n')
 }
 
 impl<'a> Lines<'a> {
@@ -75,7 +69,7 @@ impl<'a> Iterator for Lines<'a> {
         }
         let number = self.next_number;
         self.next_number += 1;
-        match line_feed_in(self.rest) {
+        match first_place_of(b'\n', self.rest) {
             Some(end) => {
                 let bytes = &self.rest[..end];
                 self.rest = &self.rest[end + 1..];

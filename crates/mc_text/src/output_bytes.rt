@@ -6,7 +6,13 @@ ghost use Rattle.mc_text.specs.Device.{failed_by_write_all, AppendsPart};
 
 use crate::device::{DeviceFault, Output};
 
-/// Writes the whole text. The first call of `write` that answers an error or takes no byte ends it.
+/// Writes the whole text, by as many calls of `write` as it takes. The output's count of failures has to
+/// be below `u64::MAX`.
+///
+/// # Errors
+///
+/// At the first call of `write` that answers an error or takes no byte. A proper part of the text was taken
+/// then, from its front.
 pub fn write_all<W: Output>(output: &mut W, text: &[u8]) -> Result<(), DeviceFault>
     requires { W.failed output.old < u64.MAX }
     ensures same { W.names output.new ≡ W.names output.old }

@@ -1,12 +1,13 @@
 //! The lines of a bundle: `end`, and `part`, a name and a length.
 
-ghost use Rattle.std.specs.Prelude.{◌≡◌, ◌==◌, min, true, position, option_map};
+ghost use Rattle.std.specs.Prelude.{◌≡◌, min, true, option_map};
 ghost use Rattle.std.specs.Char.{is_ascii_digit};
 ghost use Rattle.std.specs.List.{list_all};
 ghost use Rattle.std.specs.Str.Parse.{digits_value};
 ghost use Rattle.mc_text.specs.BundleReading.{Gives, line_at as line_of, is_length as is_length_word, part_said as said_by, words_said as said_by_words};
 
 use crate::bundle_fault::BundleFault;
+use crate::first_place::first_place_of;
 use crate::part_name::PartName;
 
 /// The greatest length of a line with its line feed, in bytes.
@@ -18,7 +19,7 @@ pub(crate) fn line_at(rest: &[u8]) -> Result<(&[u8], &[u8]), BundleFault>
     ensures { Gives (λ x. (x.0.now, x.1.now)) result (line_of rest.now) }
 {
     let front = &rest[..rest.len().min(MAX_LINE)];
-    match first_of(b'\n', front) {
+    match first_place_of(b'\n', front) {
         Some(end) => Ok((&rest[..end], &rest[end + 1..])),
         None if rest.len() < MAX_LINE => Err(BundleFault::NoEnd),
         None => Err(BundleFault::BadPartLine),
@@ -39,20 +40,13 @@ pub(crate) fn part_said(line: &[u8]) -> Option<(PartName, u64)>
 fn words_said(words: &[u8]) -> Option<(PartName, u64)>
     ensures { result ≡ option_map (λ said. (said.0, min said.1 u64.MAX)) (said_by_words words.now) }
 {
-    let space = first_of(b' ', words)?;
+    let space = first_place_of(b' ', words)?;
     let name = PartName::new(&words[..space])?;
     let number = &words[space + 1..];
     if !is_length(number) {
         return None;
     }
     Some((name, length_of(number)))
-}
-
-// Where the byte first stands.
-fn first_of(byte: u8, text: &[u8]) -> Option<usize>
-    ensures { result ≡ position (λ b. b == byte) text.now }
-{
-    text.iter().position(|other| *other == byte)
 }
 
 // Whether the word is decimal digits without a needless leading zero.

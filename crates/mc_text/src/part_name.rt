@@ -2,7 +2,7 @@
 
 ghost use Rattle.std.specs.Prelude.{◌≡◌, ◌≤◌, length, IfSome, Some};
 ghost use Rattle.std.specs.List.{list_all};
-ghost use Rattle.mc_text.specs.Bundle.{IsPartName, is_name_byte as is_letter};
+ghost use Rattle.mc_text.specs.Bundle.{IsPartName, is_name_byte as is_byte_of_name};
 ghost use Rattle.mc_text.specs.BundleReading.{is_part_name as is_name};
 ghost use Rattle.mc_text.specs.PaddedName.{padded as with_zeros};
 
@@ -11,7 +11,7 @@ use std::marker::Model;
 /// The greatest length of a name, in bytes.
 const MAX_NAME: usize = 64;
 
-/// A part's name: 1 to 64 letters, digits, `-`, `_`, `.` and `/`.
+/// A part's name: 1 to 64 ASCII letters, digits, `-`, `_`, `.` and `/`.
 #[derive(Clone, Copy, Debug, PartialEq, Eq)]
 pub struct PartName {
     bytes: [u8; MAX_NAME],
@@ -20,7 +20,8 @@ pub struct PartName {
 
 impl Model for PartName {
     ghost use Rattle.std.specs.Prelude.{ℕ, List};
-    ghost use Rattle.mc_text.specs.PartName.{name_of, IsNameInside, inside_of, inside_of-name_of};
+    ghost use Rattle.std.proofs.Common.{arith, sym, length-take-le};
+    ghost use Rattle.mc_text.specs.PartName.{name_of, IsNameInside, inside_of};
 
     ghost Value = { List ℕ };
 
@@ -30,11 +31,14 @@ impl Model for PartName {
 
     ghost inverse = { inside_of };
 
-    ghost inverse_ok = { inside_of-name_of };
+    ghost inverse_ok = { λ a h i. record {
+      bytes = sym h.zeros i;
+      length = length-take-le a.length a.bytes (omega (arith, h.within, h.full)) i;
+    } };
 }
 
 impl PartName {
-    /// The name of these bytes, if they are one.
+    /// The name of these bytes. There is none where they are no byte, more than 64, or not all of those.
     pub fn new(bytes: &[u8]) -> Option<PartName>
         ensures found { IfSome result (λ name. name ≡ bytes.now) }
         ensures is_name { IfSome result IsPartName }
@@ -68,22 +72,22 @@ fn is_part_name(bytes: &[u8]) -> bool
 }
 
 fn are_name_bytes(bytes: &[u8]) -> bool
-    ensures { result ≡ list_all is_letter bytes.now }
+    ensures { result ≡ list_all is_byte_of_name bytes.now }
 {
     bytes.iter().all(|byte| is_name_byte(*byte))
 }
 
 fn is_name_byte(byte: u8) -> bool
-    ensures { result ≡ is_letter byte }
+    ensures { result ≡ is_byte_of_name byte }
 {
     byte.is_ascii_alphanumeric() || matches!(byte, b'-' | b'_' | b'.' | b'/')
 }
 
 // The bytes, and zeros after them.
 fn padded(bytes: &[u8]) -> [u8; MAX_NAME]
-    requires { length bytes.now ≤ 64 }
+    requires { length bytes.now ≤ MAX_NAME }
     ensures value { result ≡ with_zeros bytes.now }
-    ensures full { length result ≡ 64 }
+    ensures full { length result ≡ MAX_NAME }
 {
     let mut all = [0u8; MAX_NAME];
     all[..bytes.len()].copy_from_slice(bytes);

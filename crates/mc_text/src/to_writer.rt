@@ -7,7 +7,7 @@ use std::io::Write;
 use std::marker::Model;
 
 /// An output over a writer. Every error of the writer is a failure, also an interrupted call.
-#[derive(Drop)]
+#[derive(Debug, Drop)]
 pub struct ToWriter<W: Write> {
     writer: W,
     failures: u64,
@@ -22,7 +22,7 @@ impl<W: Write> Model for ToWriter<W> {
 }
 
 impl<W: Write> ToWriter<W> {
-    /// An output that writes to the writer.
+    /// An output over the writer, with no failure yet.
     pub fn new(writer: W) -> ToWriter<W>
         ensures { result ≡ record { took = W.contents writer; failed = 0 } }
     {

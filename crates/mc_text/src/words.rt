@@ -2,6 +2,7 @@
 
 ghost use Rattle.std.specs.Prelude.{◌≡◌, ◌==◌, not, position};
 
+use crate::first_place::first_place_of;
 use std::marker::Model;
 
 /// The words of a line, from the front: the longest stretches without a space.
@@ -26,13 +27,6 @@ fn word_start(line: &[u8]) -> Option<usize>
     line.iter().position(|byte| *byte != b' ')
 }
 
-/// The index of the first space.
-fn space_in(line: &[u8]) -> Option<usize>
-    ensures { result ≡ position (λ b. b == 32) line.now }
-{
-    line.iter().position(|byte| *byte == b' ')
-}
-
 impl<'a> Words<'a> {
     ghost use Rattle.mc_text.specs.Words.{words_of};
 
@@ -55,7 +49,7 @@ impl<'a> Iterator for Words<'a> {
 
     fn next(&mut self) -> Option<&'a [u8]> {
         let from_word = &self.rest[word_start(self.rest)?..];
-        let end = space_in(from_word).unwrap_or(from_word.len());
+        let end = first_place_of(b' ', from_word).unwrap_or(from_word.len());
         let (word, rest) = from_word.split_at(end);
         self.rest = rest;
         Some(word)

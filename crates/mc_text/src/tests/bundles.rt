@@ -1,4 +1,4 @@
-//! Bundles that are read and written.
+//! Bundles that are read.
 
 use crate::*;
 use std::test::Fail;
@@ -9,59 +9,93 @@ aaaaaaaaaaaaaaaaaaaaaaaaaaaaaaaaaaaaaaaaaaaaaaaaaaaaaaaaaaaaaaaaaaaaaaaaaaaaaaaa
 const LINE_OF_96: &[u8] = b"mcaudit bundle 1\n\
 aaaaaaaaaaaaaaaaaaaaaaaaaaaaaaaaaaaaaaaaaaaaaaaaaaaaaaaaaaaaaaaaaaaaaaaaaaaaaaaaaaaaaaaaaaaaaaaa";
 
+// A name of 64 bytes and a length of 25 digits make a line of 96 bytes.
+const LENGTH_OF_25_DIGITS: &[u8] = b"mcaudit bundle 1\n\
+part aaaaaaaaaaaaaaaaaaaaaaaaaaaaaaaaaaaaaaaaaaaaaaaaaaaaaaaaaaaaaaaa \
+1000000000000000000000000\n";
+
+const LENGTH_OF_26_DIGITS: &[u8] = b"mcaudit bundle 1\n\
+part aaaaaaaaaaaaaaaaaaaaaaaaaaaaaaaaaaaaaaaaaaaaaaaaaaaaaaaaaaaaaaaa \
+10000000000000000000000000\n";
+
+const NO_PART: &[(&[u8], &[u8])] = &[];
+
+const ONE_EMPTY_PART: &[(&[u8], &[u8])] = &[(b"a", b"")];
+
+const TWO_PARTS: &[(&[u8], &[u8])] = &[(b"a/b", b"x\ny"), (b"c", b"\nend\n")];
+
 #[test]
-fn tells_the_parts_or_the_first_fault(rt: HostRuntime) {
-    for (text, want) in [
-        (b"mcaudit bundle 1\nend\n".as_slice(), Ok(0)),
-        (b"mcaudit bundle 1\npart a 0\n\nend\n", Ok(1)),
-        (b"mcaudit bundle 1\npart a 0\n\n", Err(BundleFault::NoEnd)),
+fn tells_the_parts(rt: HostRuntime) -> Result<(), Fail> {
+    for (text, parts) in [
+        (b"mcaudit bundle 1\nend\n".as_slice(), NO_PART),
+        (b"mcaudit bundle 1\npart a 0\n\nend\n", ONE_EMPTY_PART),
         (
-            b"mcaudit bundle 1\npart a 0\n\nend",
-            Err(BundleFault::NoEnd),
+            b"mcaudit bundle 1\npart a/b 3\nx\ny\npart c 5\n\nend\n\nend\n",
+            TWO_PARTS,
         ),
+    ] {
+        let bundle = Bundle::read(rt.alloc(), text)?;
+        assert_eq!(rt; bundle.count(), parts.len());
+        for place in 0..bundle.count() {
+            let part = bundle.part(place);
+            let (name, bytes) = parts.get(place).copied().unwrap_or_default();
+            assert_eq!(rt; part.name.as_bytes(), name);
+            assert_eq!(rt; part.bytes, bytes);
+        }
+    }
+    Ok(())
+}
+
+#[test]
+fn tells_the_first_fault(rt: HostRuntime) {
+    for (text, fault) in [
+        (
+            b"mcaudit bundle 1\npart a 0\n\n".as_slice(),
+            BundleFault::NoEnd,
+        ),
+        (b"mcaudit bundle 1\npart a 0\n\nend", BundleFault::NoEnd),
         (
             b"mcaudit bundle 1\npart a 0\n\nend\n\n",
-            Err(BundleFault::AfterEnd),
+            BundleFault::AfterEnd,
         ),
-        (b"mcaudit bundle 2\nend\n", Err(BundleFault::NoMagic)),
-        (b"mcaudit bundle 1", Err(BundleFault::NoMagic)),
+        (b"mcaudit bundle 2\nend\n", BundleFault::NoMagic),
+        (b"mcaudit bundle 1", BundleFault::NoMagic),
         (
             b"mcaudit bundle 1\npart a 01\nx\nend\n",
-            Err(BundleFault::BadPartLine),
+            BundleFault::BadPartLine,
         ),
         (
             b"mcaudit bundle 1\npart a 2\nx\nend\n",
-            Err(BundleFault::BadPartLine),
+            BundleFault::BadPartLine,
         ),
         (
             b"mcaudit bundle 1\npart a  2\nx\n\nend\n",
-            Err(BundleFault::BadPartLine),
+            BundleFault::BadPartLine,
         ),
         (
             b"mcaudit bundle 1\npart * 1\nx\nend\n",
-            Err(BundleFault::BadPartLine),
+            BundleFault::BadPartLine,
         ),
         (
             b"mcaudit bundle 1\npart a 9\nx\nend\n",
-            Err(BundleFault::Truncated),
+            BundleFault::Truncated,
         ),
-        (
-            b"mcaudit bundle 1\npart a 1\nx",
-            Err(BundleFault::Truncated),
-        ),
+        (b"mcaudit bundle 1\npart a 1\nx", BundleFault::Truncated),
         (
             b"mcaudit bundle 1\npart a 16777217\n",
-            Err(BundleFault::TooLarge),
+            BundleFault::TooLarge,
         ),
         (
             b"mcaudit bundle 1\npart a 99999999999999999999999999\n",
-            Err(BundleFault::TooLarge),
+            BundleFault::TooLarge,
         ),
-        (LINE_OF_95, Err(BundleFault::NoEnd)),
-        (LINE_OF_96, Err(BundleFault::BadPartLine)),
+        (LINE_OF_95, BundleFault::NoEnd),
+        (LINE_OF_96, BundleFault::BadPartLine),
+        (LENGTH_OF_25_DIGITS, BundleFault::TooLarge),
+        (LENGTH_OF_26_DIGITS, BundleFault::BadPartLine),
     ] {
-        let read = Bundle::read(rt.alloc(), text).map(|bundle| bundle.count());
-        assert_eq!(rt; read, want);
+        let read = Bundle::read(rt.alloc(), text).err();
+        assert_eq!(rt; read, Some(fault));
     }
 }
 
@@ -76,50 +110,6 @@ fn takes_1538_parts(rt: HostRuntime) -> Result<(), Fail> {
         let read = Bundle::read(rt.alloc(), &text).map(|bundle| bundle.count());
         assert_eq!(rt; read, want);
     }
-    Ok(())
-}
-
-#[test]
-fn writes_what_is_read_again(rt: HostRuntime) -> Result<(), Fail> {
-    let topology = PartName::new(b"topology").ok_or("a name")?;
-    let cache = PartName::new(b"cache/r1").ok_or("a name")?;
-    let parts = [
-        Part {
-            name: topology,
-            bytes: b"version = 1\n",
-        },
-        Part {
-            name: cache,
-            bytes: b"",
-        },
-    ];
-    let mut output = ToWriter::new(Vec::new(rt.alloc()));
-    write_bundle(&parts, &mut output)?;
-    let text = output.into_inner();
-    let want = b"mcaudit bundle 1\npart topology 12\nversion = 1\n\npart cache/r1 0\n\nend\n";
-    assert_eq!(rt; text.as_slice(), want.as_slice());
-
-    let bundle = Bundle::read(rt.alloc(), &text)?;
-    assert_eq!(rt; bundle.count(), 2);
-    let first = bundle.part(0);
-    assert_eq!(rt; first.name.as_bytes(), b"topology".as_slice());
-    assert_eq!(rt; first.bytes, b"version = 1\n".as_slice());
-    assert!(rt; bundle.part(1).name == cache);
-    Ok(())
-}
-
-#[test]
-fn writes_nothing_past_a_limit(rt: HostRuntime) -> Result<(), Fail> {
-    let name = PartName::new(b"a").ok_or("a name")?;
-    let parts = vec![in rt.alloc(); Part { name, bytes: b"" }; 1539]?;
-    let mut output = ToWriter::new(Vec::new(rt.alloc()));
-    assert_eq!(rt;
-        write_bundle(&parts, &mut output),
-        Err(BundleFault::TooLarge)
-    );
-    assert!(rt; write_bundle(&parts[..1538], &mut output).is_ok());
-    assert_eq!(rt; Output::failures(&output), 0);
-    assert_eq!(rt; output.into_inner().len(), 17 + 1538 * 10 + 4);
     Ok(())
 }
 

@@ -1,19 +1,22 @@
 //! Devices that give and take little, or fail on the way.
 
-ghost use Rattle.std.specs.Prelude.{◌≡◌, ◌<◌, Some};
+ghost use Rattle.std.specs.Prelude.{◌≡◌, ◌<◌, OnErr, OnOk, Some};
+ghost use Rattle.std.specs.Io.KnownBytes.{Appends};
+ghost use Rattle.mc_text.specs.Device.{AppendsPart, failed_by_write_all};
+ghost use Rattle.mc_text.specs.ReadFault.{ConsumesUpTo, failed_by_reading};
 
 use crate::*;
+use std::alloc::Global;
 use std::io::Cursor;
 use std::test::Fail;
 
-// Gives at most `piece` bytes at a time, and fails once it gave `before_fault` in all.
+// Gives at most `piece` bytes at a time, but always one, and fails once it gave `before_fault` in all.
 #[derive(Drop)]
 struct Trickle<'a> {
     bytes: &'a [u8],
     piece: usize,
     before_fault: usize,
     failures: u64,
-    ghost gives: { 0 < piece },
 }
 
 impl<'a> Input for Trickle<'a> {
@@ -29,7 +32,7 @@ impl<'a> Input for Trickle<'a> {
         let count = buffer
             .len()
             .min(self.bytes.len())
-            .min(self.piece)
+            .min(self.piece.max(1))
             .min(self.before_fault);
         let (front, rest) = self.bytes.split_at(count);
         buffer[..count].copy_from_slice(front);
@@ -43,20 +46,21 @@ impl<'a> Input for Trickle<'a> {
     }
 }
 
+// How an output that takes no more says so.
 #[derive(Clone, Copy, PartialEq, Eq)]
-enum Stop {
+pub(super) enum Stop {
     Error,
     TakesNone,
 }
 
 // Takes at most `piece` bytes at a time, and stops once it took `before_stop` in all.
 #[derive(Drop)]
-struct Narrow {
-    taken: Vec<u8>,
-    piece: usize,
-    before_stop: usize,
-    stop: Stop,
-    failures: u64,
+pub(super) struct Narrow {
+    pub(super) taken: Vec<u8>,
+    pub(super) piece: usize,
+    pub(super) before_stop: usize,
+    pub(super) stop: Stop,
+    pub(super) failures: u64,
 }
 
 impl Output for Narrow {
@@ -96,17 +100,15 @@ fn reads_an_input_to_its_end_or_the_limit(rt: HostRuntime) -> Result<(), Fail> {
         (100, 6, b"wanted".as_slice()),
         (2, 0, b"".as_slice()),
     ] {
-        if piece > 0 {
-            let mut input = Trickle {
-                bytes: TEXT,
-                piece,
-                before_fault: 100,
-                failures: 0,
-            };
-            let bytes = read_to_limit(rt.alloc(), &mut input, limit)?;
-            assert_eq!(rt; bytes.as_slice(), want, "{piece} at a time, up to {limit}");
-            assert_eq!(rt; input.failures(), 0);
-        }
+        let mut input = Trickle {
+            bytes: TEXT,
+            piece,
+            before_fault: 100,
+            failures: 0,
+        };
+        let bytes = read_to_limit(rt.alloc(), &mut input, limit)?;
+        assert_eq!(rt; bytes.as_slice(), want, "{piece} at a time, up to {limit}");
+        assert_eq!(rt; input.failures(), 0);
     }
     Ok(())
 }
@@ -161,5 +163,52 @@ fn goes_through_memory(rt: HostRuntime) -> Result<(), Fail> {
     let mut cursor = ToWriter::new(Cursor::new([0u8; 4]));
     assert!(rt; write_all(&mut cursor, &bytes).is_err());
     assert_eq!(rt; Output::failures(&cursor), 1);
+    Ok(())
+}
+
+// Reads up to four bytes through a reference to the input. Its clauses show that the lender knows its
+// device afterwards.
+fn read_lent<R: Input>(alloc: Global, input: &mut R) -> Result<Vec<u8>, ReadFault>
+    requires { R.failed input.old < u64.MAX }
+    ensures same { R.names input.new ≡ R.names input.old }
+    ensures consumed { ConsumesUpTo 4 (R.told input.old) (R.told input.new) }
+    ensures failures { R.failed input.new ≡ failed_by_reading result (R.failed input.old) }
+{
+    let mut lent = &mut *input;
+    read_to_limit(alloc, &mut lent, 4)
+}
+
+// Writes the text through a reference to the output.
+fn write_lent<W: Output>(output: &mut W, text: &[u8]) -> Result<(), DeviceFault>
+    requires { W.failed output.old < u64.MAX }
+    ensures same { W.names output.new ≡ W.names output.old }
+    ensures ok { OnOk result (Appends (W.took output.old) (W.took output.new) text.now) }
+    ensures err { OnErr result (AppendsPart (W.took output.old) (W.took output.new) text.now) }
+    ensures failures { W.failed output.new ≡ failed_by_write_all result (W.failed output.old) }
+{
+    let mut lent = &mut *output;
+    write_all(&mut lent, text)
+}
+
+#[test]
+fn goes_through_lent_devices(rt: HostRuntime) -> Result<(), Fail> {
+    let mut input = FromReader::new(TEXT);
+    let front = read_lent(rt.alloc(), &mut input)?;
+    assert_eq!(rt; front.as_slice(), b"want".as_slice());
+    let rest = read_lent(rt.alloc(), &mut input)?;
+    assert_eq!(rt; rest.as_slice(), b"ed\n".as_slice());
+    assert_eq!(rt; Input::failures(&&mut input), 0);
+
+    let mut output = Narrow {
+        taken: Vec::new(rt.alloc()),
+        piece: 3,
+        before_stop: 5,
+        stop: Stop::Error,
+        failures: 0,
+    };
+    assert!(rt; write_lent(&mut output, &front).is_ok());
+    assert_eq!(rt; write_lent(&mut output, &rest), Err(DeviceFault));
+    assert_eq!(rt; output.taken.as_slice(), b"wante".as_slice());
+    assert_eq!(rt; Output::failures(&&mut output), 1);
     Ok(())
 }

@@ -1,10 +1,11 @@
-use Rattle.std.proofs.Common.{subst}
-use Rattle.mc_text.specs.BundleReading.{Gives}
-use Rattle.mc_text.proofs.BundleLaws.{found_bundle, bundle_again}
+use Rattle.mc_text.proofs.BundleLaws.{found_bundle, only_bundle, given_is}
 use Rattle.mc_text.proofs.bundle.Bundle.read.Goals as goal
 
 pub returns-clause-found : goal.returns-clause-found
-returns-clause-found c = found_bundle c.args.text.now c.all.result c.all.ensures
+returns-clause-found c = found_bundle c.args.text.now c.from_text.result c.from_text.ensures
 
 pub returns-clause-only : goal.returns-clause-only
-returns-clause-only c = λ parts h. subst (Gives (λ bundle. bundle) c.all.result) (bundle_again c.args.text.now parts h) c.all.ensures
+returns-clause-only c = only_bundle c.args.text.now c.from_text.result c.from_text.ensures
+
+pub returns-clause-fault : goal.returns-clause-fault
+returns-clause-fault c = given_is c.from_text.result _ c.from_text.ensures

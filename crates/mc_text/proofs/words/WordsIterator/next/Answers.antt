@@ -15,7 +15,7 @@ first_word c =
     let line = c.self.inside.rest.now in
     let from = between_to_end line c.in_ok-from_word.field-0 (length line) (omega arith) in
     rw (c.split_at.ensures.front, c.split_at.ensures.back)
-    (sym c.self.view_is ∙ words_of-word line _ c.in_ok-from_word.field-0 c.unwrap_or-end.result (sym (c.in_ok-from_word.ensures)) from (rw (← c.space_in.ensures) c.unwrap_or-end.ensures))
+    (sym c.self.view_is ∙ words_of-word line _ c.in_ok-from_word.field-0 c.unwrap_or-end.result (sym (c.in_ok-from_word.ensures)) from (rw (← c.first_place_of.ensures) c.unwrap_or-end.ensures))
 
 pub returns-clause-steps : goal.returns-clause-steps
 returns-clause-steps c = first_word (goal.at.returns-clause-steps c).After-split_at

@@ -8,14 +8,13 @@ use Rattle.mc_text.specs.Lines.{LineText}
 use Rattle.mc_text.specs.Words.{words_of}
 use Rattle.mc_tables.specs.declared.entry.Oif.{Oif}
 use Rattle.mc_tables.specs.declared.entry.Entry.{Entry}
-use Rattle.mc_tables.specs.declared.cache_row.CacheRow.{CacheRow}
 use Rattle.mc_tables.specs.declared.fault.TableFault.{TableFault}
 use Rattle.mc_tables.specs.declared.fault.TableFaultKind.{TableFaultKind}
 use Rattle.mc_tables.specs.declared.fault.TableFaultKind.TheVariants.{Unended, WordCount, BadCounter, BadAddress, BadIif, BadOif, BadThreshold, RepeatedOif, RepeatedEntry, TooLarge}
 use Rattle.mc_tables.specs.Steps.{◌>>=◌, demand, at_line}
 use Rattle.mc_tables.specs.TableWords.{is_counter, number_in, address_in}
 use Rattle.mc_tables.specs.TableLines.{is_among, lines_in, rows_after}
-use Rattle.mc_tables.specs.CacheTable.{CacheText, same_key, key_of, table_of}
+use Rattle.mc_tables.specs.CacheTable.{RowText, CacheText, same_key, key_of, table_of}
 
 -- ---- the outgoing words
 
@@ -65,7 +64,7 @@ entry_in None (word ∷ words) = Err BadOif
 entry_in (Some iif) words = oifs_after [] words >>= λ oifs. Ok (Some (record { iif = iif; oifs = oifs }))
 
 -- the words from the left
-unfoldable pub row_in_words : Order → List (List ℕ) → Result CacheRow TableFaultKind
+unfoldable pub row_in_words : Order → List (List ℕ) → Result RowText TableFaultKind
 row_in_words order (group ∷ origin ∷ iif ∷ packets ∷ bytes ∷ wrong ∷ outgoing) = do
   g ← ok_or (address_in order group) BadAddress
   o ← ok_or (address_in order origin) BadAddress
@@ -78,10 +77,10 @@ row_in_words order (group ∷ origin ∷ iif ∷ packets ∷ bytes ∷ wrong ∷
 row_in_words order words = Err WordCount
 
 -- an earlier row has the source and the group
-abbrev pub entry_repeats : List CacheRow → CacheRow → Bool
+abbrev pub entry_repeats : List RowText → RowText → Bool
 entry_repeats earlier row = is_among same_key (key_of row) (filter_map key_of earlier)
 
-unfoldable pub row_in_line : Order → List CacheRow → LineText → Result CacheRow TableFaultKind
+unfoldable pub row_in_line : Order → List RowText → LineText → Result RowText TableFaultKind
 row_in_line order earlier line = do
   _ ← demand line.ended Unended
   _ ← demand (nat_lt (length earlier) 65536) TooLarge
@@ -89,13 +88,13 @@ row_in_line order earlier line = do
   _ ← demand (not (entry_repeats earlier row)) RepeatedEntry
   Ok row
 
-abbrev pub row_at : Order → List CacheRow → LineText → Result CacheRow TableFault
+abbrev pub row_at : Order → List RowText → LineText → Result RowText TableFault
 row_at order earlier line = at_line line.number (row_in_line order earlier line)
 
 -- ---- the text
 
 -- the rows in the order of the lines
-abbrev pub cache_rows_in : Order → List ℕ → Result (List CacheRow) TableFault
+abbrev pub cache_rows_in : Order → List ℕ → Result (List RowText) TableFault
 cache_rows_in order text = lines_in (codes "Group") text >>= rows_after (row_at order) []
 
 abbrev pub cache_in : Order → List ℕ → Result CacheText TableFault

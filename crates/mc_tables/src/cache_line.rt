@@ -73,11 +73,7 @@ fn row_of_words(
     check_counter(first.bytes)?;
     check_counter(first.wrong)?;
     let entry = entry_of_words(alloc, iif, outgoing)?;
-    Ok(CacheRow {
-        group,
-        origin,
-        entry,
-    })
+    Ok(CacheRow::new(group, origin, entry))
 }
 
 fn address(word: &[u8], order: Order) -> Result<Addr, TableFaultKind>

@@ -8,6 +8,7 @@ pub mod AddressLemmas
 pub mod ColonLemmas
 pub mod RowWordLemmas
 pub mod OifLemmas
+pub mod EntryLemmas
 pub mod CacheLemmas
 pub mod CacheLookupLemmas
 pub mod LawLemmas

@@ -1,11 +1,11 @@
 -- The look-ups of a vif table answer by its map.
-use Rattle.std.proofs.Common.{◌≡◌, ℕ, Bool, true, false, cond, List, [], ◌∷◌, Option, Some, None, refl, sym, ap, subst, ◌∙◌, inl, inr}
-use Rattle.std.specs.Prelude.{nat_eq, map, IsSomeAnd, IfSome, ◌||◌}
+use Rattle.std.proofs.Common.{◌≡◌, ℕ, ◌≤◌, arith, Bool, true, false, cond, List, [], ◌∷◌, Option, Some, None, refl, sym, ap, subst, ◌∙◌, inl, inr}
+use Rattle.std.specs.Prelude.{nat_eq, map, IsSome, IsSomeAnd, IfSome, ◌||◌}
 use Rattle.std.specs.List.{IsDistinct, AllByRecursion, filter_map, cons_option, list_any}
 use Rattle.std.specs.Ordering.{nat_cmp, eq_by_cmp}
 use Rattle.std.specs.Cmp.{unsigned_tied}
 use Rattle.std.specs.Str.{bytes_eq}
-use Rattle.std.specs.FinMap.{find, from_entries, get-from_entries}
+use Rattle.std.specs.FinMap.{find, get, from_entries, get-from_entries}
 use Rattle.std.proofs.lemmas.Bool.{cases_eq, eq-eqb, ne_eqb, both_ways, or_left, or_right, or_from, false_from_ne_true}
 use Rattle.std.proofs.lemmas.Cmp.{nat_cmp_total, nat_list_eq_equiv}
 use Rattle.std.proofs.lemmas.Map.Keys.{IsDistinct-head, IsDistinct-tail}
@@ -125,3 +125,24 @@ index_found_in_map device rows (Some index) distinct is =
 pub index_only_in_map : (device : List ℕ) (rows : List (ℕ × VifText)) (index : ℕ) → (device ≡ no_device → ⊥) → IsDistinct bytes_eq (filter_map device_of rows) → HasDevice (from_entries rows) index device → first_index_with device rows ≡ Some index
 index_only_in_map device rows index some distinct has =
     index_only device rows index (false_from_ne_true (bytes_eq device no_device) (λ e. some (is_none device e))) distinct (subst (Has device) (get-from_entries nat_cmp_total rows index) has)
+
+-- ---- the indexes
+
+find_to_31 : (rows : List (ℕ × VifText)) (index : ℕ) → AllByRecursion (λ row. row.0 ≤ 31) rows → IsSome (find nat_cmp index rows) → index ≤ 31
+find_to_31 [] index all there = absurd (let wrong = there in cc)
+find_to_31 (row ∷ rows) index all there =
+    elim (cases_eq index row.0) [
+      | inl same ↦ omega (arith, same, all.0)
+      | inr apart ↦ find_to_31 rows index all.1 (subst IsSome (found_after index row rows apart) there)
+    ]
+
+pub index_in_map : (rows : List (ℕ × VifText)) (index : ℕ) → AllByRecursion (λ row. row.0 ≤ 31) rows → IsSome (get (from_entries {R = nat_cmp} rows) index) → index ≤ 31
+index_in_map rows index all there = find_to_31 rows index all (subst IsSome (get-from_entries nat_cmp_total rows index) there)
+
+there_with : (device : List ℕ) (o : Option VifText) → Has device o → IsSome o
+there_with device None has = absurd has
+there_with device (Some vif) has = refl
+
+pub answer_in_map : (device : List ℕ) (rows : List (ℕ × VifText)) (answer : Option ℕ) → AllByRecursion (λ row. row.0 ≤ 31) rows → IfSome answer (λ index. HasDevice (from_entries rows) index device) → IfSome answer (λ index. index ≤ 31)
+answer_in_map device rows None all has = tt
+answer_in_map device rows (Some index) all has = index_in_map rows index all (there_with device (get (from_entries {R = nat_cmp} rows) index) has)

@@ -1,6 +1,6 @@
 //! The forwarding cache, `/proc/net/ip_mr_cache`.
 
-ghost use Rattle.std.specs.Prelude.{◌≡◌, ◌≢◌, ◌==◌, ◌||◌, [], IfOk, IfErr, Ok, Err, None};
+ghost use Rattle.std.specs.Prelude.{◌≡◌, ◌≢◌, ◌==◌, ◌||◌, [], IfOk, IfErr, IfSome, Ok, Err, None};
 ghost use Rattle.std.specs.Option.{option_copied};
 ghost use Rattle.std.specs.List.{list_any, filter_map};
 ghost use Rattle.std.specs.FinMap as map;
@@ -9,7 +9,7 @@ ghost use Rattle.mc_text.specs.LineView.{line_text};
 ghost use Rattle.mc_tables.specs.declared.fault.TableFaultKind.TheVariants.{Memory};
 ghost use Rattle.mc_tables.specs.Memory.{out_of_memory};
 ghost use Rattle.mc_tables.specs.TableLines.{rows_after};
-ghost use Rattle.mc_tables.specs.CacheTable.{CacheText, StandsForCache, key_cmp, exact_entry, wildcard_of};
+ghost use Rattle.mc_tables.specs.CacheTable.{CacheText, IsEntry, StandsForCache, key_cmp, exact_entry, wildcard_of};
 ghost use Rattle.mc_tables.specs.CacheReading.{entry_repeats, row_in_line, row_at, cache_in};
 
 use crate::cache_line::row_of_line;
@@ -31,13 +31,17 @@ pub struct CacheTable {
 }
 
 impl Model for CacheTable {
-    ghost use Rattle.mc_tables.specs.CacheTable.{CacheText, cache_code, table_of};
+    ghost use Rattle.std.specs.Prelude.{IfSome};
+    ghost use Rattle.std.specs.List.{AllByRecursion};
+    ghost use Rattle.mc_tables.specs.CacheTable.{CacheText, IsEntry, cache_code, table_of};
 
     ghost Value = { CacheText };
 
     ghost coded = { cache_code };
 
     ghost view = { λ table. table_of table.rows.items };
+
+    ghost invariant = { λ table. AllByRecursion (λ row. IfSome row.entry IsEntry) table.rows.items };
 }
 
 impl CacheTable {
@@ -69,6 +73,7 @@ impl CacheTable {
     /// The entry of the resolved row of this source and this group. There is none for 0.0.0.0.
     pub fn exact(&self, source: Addr, group: Addr) -> Option<&Entry>
         ensures entry { option_copied result ≡ map.get self.now.entries (source, group) }
+        ensures stands { IfSome result (λ entry. IsEntry entry.now) }
         ensures unspecified { source ≡ 0 → result ≡ None }
     {
         entry_of(self.rows.as_slice(), &(source, group))

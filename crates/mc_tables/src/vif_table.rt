@@ -1,6 +1,6 @@
 //! The table of virtual interfaces, `/proc/net/ip_mr_vif`.
 
-ghost use Rattle.std.specs.Prelude.{◌≡◌, ◌≢◌, ℕ, nat_eq, [], IfOk, IfErr, IfSome, Ok, Err, Some};
+ghost use Rattle.std.specs.Prelude.{◌≡◌, ◌≢◌, ◌≤◌, ℕ, nat_eq, [], IfOk, IfErr, IfSome, IsSome, Ok, Err, Some};
 ghost use Rattle.std.specs.Option.{option_copied};
 ghost use Rattle.std.specs.List.{list_any};
 ghost use Rattle.std.specs.Ordering.{nat_cmp};
@@ -32,8 +32,8 @@ pub struct VifTable {
 }
 
 impl Model for VifTable {
-    ghost use Rattle.std.specs.Prelude.{nat_eq, map as map_list};
-    ghost use Rattle.std.specs.List.{IsDistinct, filter_map};
+    ghost use Rattle.std.specs.Prelude.{◌≤◌, nat_eq, map as map_list};
+    ghost use Rattle.std.specs.List.{IsDistinct, AllByRecursion, filter_map};
     ghost use Rattle.std.specs.Ordering.{nat_cmp};
     ghost use Rattle.std.specs.Str.{bytes_eq};
     ghost use Rattle.std.specs.Coded.{coded_ℕ};
@@ -46,7 +46,10 @@ impl Model for VifTable {
 
     ghost view = { λ table. map.from_entries table.vifs.items };
 
-    ghost invariant = { λ table. IsDistinct nat_eq (map_list (λ row. row.0) table.vifs.items) × IsDistinct bytes_eq (filter_map device_of table.vifs.items) };
+    ghost invariant = { λ table.
+        IsDistinct nat_eq (map_list (λ row. row.0) table.vifs.items)
+        × IsDistinct bytes_eq (filter_map device_of table.vifs.items)
+        × AllByRecursion (λ row. row.0 ≤ 31) table.vifs.items };
 }
 
 impl VifTable {
@@ -77,7 +80,9 @@ impl VifTable {
 
     /// The vif of an index.
     pub fn vif(&self, index: u8) -> Option<&Vif>
-        ensures { option_copied result ≡ map.get self.now index }
+        ensures found { option_copied result ≡ map.get self.now index }
+        // The indexes of the table's vifs are 0 to 31.
+        ensures numbered { (i : ℕ) → IsSome (map.get self.now i) → i ≤ 31 }
     {
         vif_with_index(self.vifs.as_slice(), index)
     }
@@ -85,6 +90,7 @@ impl VifTable {
     /// The index of the vif that has this device. There is none for `none`.
     pub fn index_of(&self, device: &[u8]) -> Option<u8>
         ensures found { IfSome result (λ index. HasDevice self.now index device.now) }
+        ensures numbered { IfSome result (λ index. index ≤ 31) }
         ensures no_device { device.now ≡ no_device → result ≡ None }
         ensures only { (index : ℕ) → device.now ≢ no_device → HasDevice self.now index device.now → result ≡ Some index }
     {

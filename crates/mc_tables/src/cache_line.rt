@@ -12,8 +12,7 @@ use crate::cache_row::CacheRow;
 use crate::entry::{Entry, Oifs};
 use crate::fault::TableFaultKind;
 use crate::outgoing::oifs_of_words;
-use crate::table_words::number;
-use crate::vif_line::{MAX_VIF, check_counter};
+use crate::table_words::{MAX_VIF, check_counter, number};
 use mc_text::{Addr, Order, Words};
 use std::alloc::Global;
 
@@ -79,13 +78,7 @@ fn row_of_words(
 fn address(word: &[u8], order: Order) -> Result<Addr, TableFaultKind>
     ensures { result ≡ ok_or (address_in order word.now) BadAddress }
 {
-    address_of_word(word, order).ok_or(TableFaultKind::BadAddress)
-}
-
-fn address_of_word(word: &[u8], order: Order) -> Option<Addr>
-    ensures { result ≡ address_in order word.now }
-{
-    Addr::from_hex_word(word, order)
+    Addr::from_hex_word(word, order).ok_or(TableFaultKind::BadAddress)
 }
 
 /// The incoming vif, or None in an unresolved row.

@@ -13,6 +13,7 @@ mod table_lines;
 mod table_words;
 mod vif;
 mod vif_line;
+mod vif_row;
 mod vif_table;
 
 pub use cache_table::CacheTable;

@@ -7,8 +7,7 @@ ghost use Rattle.mc_tables.specs.CacheReading.{oif_in_parts, oif_in, has_vif, oi
 
 use crate::entry::Oif;
 use crate::fault::TableFaultKind;
-use crate::table_words::number;
-use crate::vif_line::MAX_VIF;
+use crate::table_words::{MAX_VIF, number};
 use mc_text::Words;
 use std::alloc::Global;
 

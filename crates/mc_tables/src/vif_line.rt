@@ -5,19 +5,17 @@ ghost use Rattle.std.specs.List.{list_all};
 ghost use Rattle.std.specs.Char.{digit_value, is_ascii_hexdigit};
 ghost use Rattle.std.specs.Str.Parse.{digits_value};
 ghost use Rattle.mc_text.specs.Words.{words_of};
-ghost use Rattle.mc_tables.specs.declared.fault.TableFaultKind.TheVariants.{BadCounter, BadAddress};
+ghost use Rattle.mc_tables.specs.declared.fault.TableFaultKind.TheVariants.{BadAddress};
 ghost use Rattle.mc_tables.specs.Steps.{demand};
-ghost use Rattle.mc_tables.specs.TableWords.{is_counter, is_hexadecimal};
+ghost use Rattle.mc_tables.specs.TableWords.{is_hexadecimal};
 ghost use Rattle.mc_tables.specs.VifReading.{device_in, flags_in, vif_in_words};
 ghost use Rattle.mc_tables.specs.VifWords.{word_list};
 
 use crate::fault::TableFaultKind;
-use crate::table_words::{is_counter_word, is_hexadecimal_word, number};
+use crate::table_words::{MAX_VIF, check_counter, is_hexadecimal_word, number};
 use crate::vif::{DeviceName, Vif, is_device_name};
+use crate::vif_row::VifRow;
 use mc_text::Words;
-
-/// The greatest index of a vif (`MAXVIFS` of linux/mroute.h less one).
-pub const MAX_VIF: u8 = 31;
 
 /// The words of a line, by what they are.
 #[derive(Debug, Drop)]
@@ -34,7 +32,7 @@ pub struct VifWords<'a> {
 }
 
 /// Reads a vif and its index.
-pub fn vif_of_line(line: &[u8]) -> Result<(u8, Vif), TableFaultKind>
+pub fn vif_of_line(line: &[u8]) -> Result<VifRow, TableFaultKind>
     ensures { result ≡ vif_in_words (words_of line.now) }
 {
     match vif_words(line) {
@@ -67,7 +65,7 @@ fn vif_words<'a>(line: &'a [u8]) -> Option<VifWords<'a>>
 }
 
 #[tactic(auto, unfolding(crate::specs::VifReading::vif_in_words))]
-fn vif_of_words(words: &VifWords<'_>) -> Result<(u8, Vif), TableFaultKind>
+fn vif_of_words(words: &VifWords<'_>) -> Result<VifRow, TableFaultKind>
     ensures { result ≡ vif_in_words (word_list words.now) }
 {
     let index = number(words.index, 0, MAX_VIF).ok_or(TableFaultKind::BadIndex)?;
@@ -79,7 +77,10 @@ fn vif_of_words(words: &VifWords<'_>) -> Result<(u8, Vif), TableFaultKind>
     let flags = flags_of_word(words.flags)?;
     check_address(words.local)?;
     check_address(words.remote)?;
-    Ok((index, Vif::new(device, flags)))
+    Ok(VifRow {
+        index,
+        vif: Vif::new(device, flags),
+    })
 }
 
 fn device_name(word: &[u8]) -> Result<DeviceName, TableFaultKind>
@@ -89,16 +90,6 @@ fn device_name(word: &[u8]) -> Result<DeviceName, TableFaultKind>
         Ok(DeviceName::new(word))
     } else {
         Err(TableFaultKind::BadDevice)
-    }
-}
-
-pub fn check_counter(word: &[u8]) -> Result<(), TableFaultKind>
-    ensures { result ≡ demand (is_counter word.now) BadCounter }
-{
-    if is_counter_word(word) {
-        Ok(())
-    } else {
-        Err(TableFaultKind::BadCounter)
     }
 }
 

@@ -18,6 +18,7 @@ use crate::fault::{TableFault, TableFaultKind};
 use crate::table_lines::lines_after_header;
 use crate::vif::Vif;
 use crate::vif_line::vif_of_line;
+use crate::vif_row::VifRow;
 use mc_text::{Line, Lines};
 use std::alloc::Global;
 use std::marker::Model;
@@ -28,7 +29,7 @@ const NO_DEVICE: &[u8] = b"none";
 /// The vifs of a router, each with its index.
 #[derive(Debug, Drop)]
 pub struct VifTable {
-    vifs: Vec<(u8, Vif)>,
+    vifs: Vec<VifRow>,
 }
 
 impl Model for VifTable {
@@ -101,7 +102,7 @@ impl VifTable {
     }
 }
 
-fn vifs_of_lines(alloc: Global, lines: Lines<'_>) -> Result<Vec<(u8, Vif)>, TableFault>
+fn vifs_of_lines(alloc: Global, lines: Lines<'_>) -> Result<Vec<VifRow>, TableFault>
     ensures found { IfOk result (λ vifs. rows_after vif_at [] lines.entry ≡ Ok vifs.items) }
     ensures fault { IfErr result (λ fault. fault ≢ out_of_memory → rows_after vif_at [] lines.entry ≡ Err fault) }
 {
@@ -114,7 +115,7 @@ fn vifs_of_lines(alloc: Global, lines: Lines<'_>) -> Result<Vec<(u8, Vif)>, Tabl
 }
 
 /// Reads a line after the earlier vifs.
-fn next_vif(earlier: &[(u8, Vif)], line: &Line<'_>) -> Result<(u8, Vif), TableFault>
+fn next_vif(earlier: &[VifRow], line: &Line<'_>) -> Result<VifRow, TableFault>
     ensures { result ≡ vif_at earlier.now (line_text line.now) }
 {
     match new_vif(earlier, line) {
@@ -124,7 +125,7 @@ fn next_vif(earlier: &[(u8, Vif)], line: &Line<'_>) -> Result<(u8, Vif), TableFa
 }
 
 #[tactic(auto, unfolding(crate::specs::VifReading::vif_in_line))]
-fn new_vif(earlier: &[(u8, Vif)], line: &Line<'_>) -> Result<(u8, Vif), TableFaultKind>
+fn new_vif(earlier: &[VifRow], line: &Line<'_>) -> Result<VifRow, TableFaultKind>
     ensures { result ≡ vif_in_line earlier.now (line_text line.now) }
 {
     if !line.ended {
@@ -140,51 +141,51 @@ fn new_vif(earlier: &[(u8, Vif)], line: &Line<'_>) -> Result<(u8, Vif), TableFau
     Ok(row)
 }
 
-fn repeats_index(earlier: &[(u8, Vif)], row: &(u8, Vif)) -> bool
+fn repeats_index(earlier: &[VifRow], row: &VifRow) -> bool
     ensures { result ≡ index_repeats earlier.now row.now }
 {
-    any_has_index(earlier, row.0)
+    any_has_index(earlier, row.index)
 }
 
-fn any_has_index(vifs: &[(u8, Vif)], index: u8) -> bool
+fn any_has_index(vifs: &[VifRow], index: u8) -> bool
     ensures { result ≡ list_any (λ row. nat_eq index row.0) vifs.now }
 {
-    vifs.iter().any(|row| index == row.0)
+    vifs.iter().any(|row| index == row.index)
 }
 
-fn repeats_device(earlier: &[(u8, Vif)], row: &(u8, Vif)) -> bool
+fn repeats_device(earlier: &[VifRow], row: &VifRow) -> bool
     ensures { result ≡ device_repeats earlier.now row.now }
 {
-    let device = row.1.device();
+    let device = row.vif.device();
     if device == NO_DEVICE {
         return false;
     }
     any_has_device(earlier, device)
 }
 
-fn any_has_device(vifs: &[(u8, Vif)], device: &[u8]) -> bool
+fn any_has_device(vifs: &[VifRow], device: &[u8]) -> bool
     ensures { result ≡ list_any (λ row. bytes_eq row.1.device device.now) vifs.now }
 {
-    vifs.iter().any(|row| row.1.device() == device)
+    vifs.iter().any(|row| row.vif.device() == device)
 }
 
-fn vif_with_index(vifs: &[(u8, Vif)], index: u8) -> Option<&Vif>
+fn vif_with_index(vifs: &[VifRow], index: u8) -> Option<&Vif>
     ensures { option_copied result ≡ map.find nat_cmp index vifs.now }
 {
     for row in vifs {
-        if index == row.0 {
-            return Some(&row.1);
+        if index == row.index {
+            return Some(&row.vif);
         }
     }
     None
 }
 
-fn index_with_device(vifs: &[(u8, Vif)], device: &[u8]) -> Option<u8>
+fn index_with_device(vifs: &[VifRow], device: &[u8]) -> Option<u8>
     ensures { result ≡ first_index_with device.now vifs.now }
 {
     for row in vifs {
-        if row.1.device() == device {
-            return Some(row.0);
+        if row.vif.device() == device {
+            return Some(row.index);
         }
     }
     None

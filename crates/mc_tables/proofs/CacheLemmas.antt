@@ -21,7 +21,7 @@ use Rattle.mc_tables.specs.Memory.{out_of_memory}
 use Rattle.mc_tables.specs.TableWords.{is_counter, number_in, address_in, WritesNumber}
 use Rattle.mc_tables.specs.TableLines.{EachTells, lines_in, rows_after}
 use Rattle.mc_tables.specs.CacheTable.{RowText, WriteEntry, WordsTellRow, LineTellsRow, key_cmp, same_key, key_of, AreCacheRows, CacheText, table_of, StandsForCache}
-use Rattle.mc_tables.specs.CacheReading.{oifs_after, incoming_number, incoming_in, entry_in, row_in_words, entry_repeats, row_in_line, row_at, cache_rows_in, cache_in}
+use Rattle.mc_tables.specs.CacheReading.{oifs_in, incoming_number, incoming_in, entry_in, row_in_words, entry_repeats, row_in_line, row_at, cache_rows_in, cache_in}
 use Rattle.mc_tables.proofs.StepLemmas.{bind_ok, demand_then, ok_or_ok, at_line_ok, ok_is}
 use Rattle.mc_tables.proofs.WordLemmas.{number_found, number_only}
 use Rattle.mc_tables.proofs.AddressLemmas.{address_found, address_only}
@@ -45,7 +45,7 @@ entry_found iif [] None entry incoming e =
     ]
 entry_found iif (word ∷ words) None entry incoming e = absurd cc
 entry_found iif outgoing (Some number) entry incoming e =
-    let b = bind_ok (oifs_after [] outgoing) (λ oifs. Ok (Some (record { iif = number; oifs = oifs }))) entry e in
+    let b = bind_ok (oifs_in outgoing) (λ oifs. Ok (Some (record { iif = number; oifs = oifs }))) entry e in
     let made : Entry = record { iif = number; oifs = b.0 } in
     let same : Some made ≡ entry = ok_is (Some made) entry b.2 in
     elim (cases_Bool (bytes_eq iif (codes "-1"))) [

@@ -1,7 +1,7 @@
 //! The table of virtual interfaces, `/proc/net/ip_mr_vif`.
 
-ghost use Rattle.std.specs.Prelude.{◌≡◌, ◌≢◌, ◌≤◌, ℕ, nat_eq, [], IfOk, IfErr, IfSome, IsSome, Ok, Err, Some};
-ghost use Rattle.std.specs.Option.{option_copied};
+ghost use Rattle.std.specs.Prelude.{◌≡◌, ◌≢◌, ◌≤◌, ℕ, nat_eq, [], IfOk, IfErr, IfSome, IsSome, Ok, Err, Some, find};
+ghost use Rattle.std.specs.Option.{option_copied, option_map};
 ghost use Rattle.std.specs.List.{list_any};
 ghost use Rattle.std.specs.Ordering.{nat_cmp};
 ghost use Rattle.std.specs.Str.{bytes_eq};
@@ -170,23 +170,17 @@ fn any_has_device(vifs: &[VifRow], device: &[u8]) -> bool
 }
 
 fn vif_with_index(vifs: &[VifRow], index: u8) -> Option<&Vif>
-    ensures { option_copied result ≡ map.find nat_cmp index vifs.now }
+    ensures { option_copied result ≡ option_map (λ row. row.1) (find (λ row. nat_eq row.0 index) vifs.now) }
 {
-    for row in vifs {
-        if index == row.index {
-            return Some(&row.vif);
-        }
-    }
-    None
+    vifs.iter()
+        .find(|row| row.index == index)
+        .map(|row| &row.vif)
 }
 
 fn index_with_device(vifs: &[VifRow], device: &[u8]) -> Option<u8>
     ensures { result ≡ first_index_with device.now vifs.now }
 {
-    for row in vifs {
-        if row.vif.device() == device {
-            return Some(row.index);
-        }
-    }
-    None
+    vifs.iter()
+        .find(|row| row.vif.device() == device)
+        .map(|row| row.index)
 }

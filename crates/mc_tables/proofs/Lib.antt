@@ -1,5 +1,6 @@
 pub mod StepLemmas
 pub mod WordLemmas
+pub mod HexadecimalLemmas
 pub mod RowLemmas
 pub mod KeyLemmas
 pub mod VifLemmas

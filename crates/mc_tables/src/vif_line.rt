@@ -1,8 +1,8 @@
 //! One line of `/proc/net/ip_mr_vif`.
 
-ghost use Rattle.std.specs.Prelude.{◌≡◌, ◌≢◌, ◌≤◌, length, IsTrue, IfSome, IfNone};
+ghost use Rattle.std.specs.Prelude.{◌≡◌, ◌≢◌, ◌≤◌, length, IsTrue, IfSome, IfNone, Some};
 ghost use Rattle.std.specs.List.{list_all};
-ghost use Rattle.std.specs.Char.{digit_value, is_ascii_hexdigit};
+ghost use Rattle.std.specs.Char.{is_ascii_hexdigit};
 ghost use Rattle.std.specs.Str.Parse.{digits_value};
 ghost use Rattle.mc_text.specs.Words.{words_of};
 ghost use Rattle.mc_tables.specs.declared.fault.TableFaultKind.TheVariants.{BadAddress};
@@ -16,6 +16,7 @@ use crate::table_words::{MAX_VIF, check_counter, is_hexadecimal_word, number};
 use crate::vif::{DeviceName, Vif, is_device_name};
 use crate::vif_row::VifRow;
 use mc_text::Words;
+use std::str;
 
 /// The words of a line, by what they are.
 #[derive(Debug, Drop)]
@@ -96,11 +97,21 @@ fn device_name(word: &[u8]) -> Result<DeviceName, TableFaultKind>
 fn flags_of_word(word: &[u8]) -> Result<u32, TableFaultKind>
     ensures { result ≡ flags_in word.now }
 {
-    if is_hexadecimal_word(word, 5, 8) {
-        Ok(hexadecimal_value(word))
-    } else {
-        Err(TableFaultKind::BadFlags)
+    if !is_hexadecimal_word(word, 5, 8) {
+        return Err(TableFaultKind::BadFlags);
     }
+    hexadecimal(word).ok_or(TableFaultKind::BadFlags)
+}
+
+/// The number that one to eight hexadecimal digits write.
+fn hexadecimal(digits: &[u8]) -> Option<u32>
+    requires some { 1 ≤ length digits.now }
+    requires few { length digits.now ≤ 8 }
+    requires digits { IsTrue (list_all is_ascii_hexdigit digits.now) }
+    ensures { result ≡ Some (digits_value 16 digits.now) }
+{
+    let text = str::from_utf8(digits).ok()?;
+    u32::from_str_radix(text, 16).ok()
 }
 
 /// The address's value isn't used.
@@ -112,31 +123,4 @@ fn check_address(word: &[u8]) -> Result<(), TableFaultKind>
     } else {
         Err(TableFaultKind::BadAddress)
     }
-}
-
-/// The number that at most eight hexadecimal digits write.
-fn hexadecimal_value(digits: &[u8]) -> u32
-    requires few { length digits.now ≤ 8 }
-    requires digits { IsTrue (list_all is_ascii_hexdigit digits.now) }
-    ensures { result ≡ digits_value 16 digits.now }
-{
-    let mut value = 0;
-    for digit in digits {
-        value = value * 16 + digit_of(*digit);
-    }
-    value
-}
-
-fn digit_of(byte: u8) -> u32
-    requires { IsTrue (is_ascii_hexdigit byte) }
-    ensures value { result ≡ digit_value byte }
-    ensures small { result ≤ 15 }
-{
-    let digit = match byte {
-        b'0'..=b'9' => byte - b'0',
-        b'A'..=b'F' => byte - b'A' + 10,
-        b'a'..=b'f' => byte - b'a' + 10,
-        _ => unreachable!(),
-    };
-    u32::from(digit)
 }

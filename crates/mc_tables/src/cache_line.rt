@@ -63,7 +63,8 @@ fn row_of_words(
     outgoing: Words<'_>,
     order: Order,
 ) -> Result<CacheRow, TableFaultKind>
-    ensures { result ≢ Err Memory → result ≡ row_in_words order (words_before first.now outgoing.entry) }
+    ensures { result ≢ Err Memory →
+        result ≡ row_in_words order (words_before first.now outgoing.entry) }
 {
     let group = address(first.group, order)?;
     let origin = address(first.origin, order)?;

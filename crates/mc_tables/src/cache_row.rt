@@ -40,8 +40,8 @@ pub fn is_unspecified(address: Addr) -> bool
 }
 
 impl CacheRow {
-    /// The row of a group, a source, which is 0.0.0.0 in a row for every source, and an entry, which an
-    /// unresolved row hasn't.
+    /// The row of a group, a source, which is 0.0.0.0 in a row for every source, and an entry,
+    /// which an unresolved row hasn't.
     pub fn new(group: Addr, origin: Addr, entry: Option<Entry>) -> CacheRow
         ensures group { result.group ≡ group }
         ensures origin { result.origin ≡ origin }
@@ -64,7 +64,8 @@ impl CacheRow {
         }
     }
 
-    /// The entry, where the row is resolved and is for this source, which isn't 0.0.0.0, and this group.
+    /// The entry, where the row is resolved and is for this source, which isn't 0.0.0.0, and this
+    /// group.
     pub fn entry_for(&self, source: Addr, group: Addr) -> Option<&Entry>
         ensures { option_copied result ≡ entry_at (source, group) self.now }
     {

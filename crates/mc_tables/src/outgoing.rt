@@ -1,6 +1,6 @@
 //! The outgoing vifs of a row of `/proc/net/ip_mr_cache`.
 
-ghost use Rattle.std.specs.Prelude.{◌≡◌, ◌≢◌, ◌==◌, ℕ, [], IfOk, IfErr, OnOk, OnErr, Ok, Err, IfSome, IfNone, nat_lt, ◌∷◌, ◌≤◌, length, position};
+ghost use Rattle.std.specs.Prelude.{◌≡◌, ◌≢◌, ◌==◌, [], IfOk, IfErr, OnOk, Ok, Err, IfSome, IfNone, nat_lt, ◌∷◌, ◌≤◌, length, position};
 ghost use Rattle.std.specs.List.{position_or_len, slice_split};
 ghost use Rattle.mc_tables.specs.declared.fault.TableFaultKind.TheVariants.{Memory};
 ghost use Rattle.mc_tables.specs.CacheReading.{oif_in_parts, oif_in, oifs_in};
@@ -30,7 +30,8 @@ pub fn oifs_of_words(alloc: Global, words: Words<'_>) -> Result<Vec<Oif>, TableF
 /// Adds the outgoing vif of a word.
 fn add_oif(oifs: &mut Vec<Oif>, word: &[u8]) -> Result<(), TableFaultKind>
     ensures added { OnOk result (oifs_with oifs.old.items word.now ≡ Ok oifs.new.items) }
-    ensures fault { IfErr result (λ fault. fault ≢ Memory → oifs_with oifs.old.items word.now ≡ Err fault) }
+    ensures fault { IfErr result (λ fault. fault ≢ Memory →
+        oifs_with oifs.old.items word.now ≡ Err fault) }
 {
     let (vif, threshold) = oif_of_word(word)?;
     if has_oif(oifs.as_slice(), vif) {
@@ -62,7 +63,8 @@ fn oif_of_parts(vif: &[u8], threshold: &[u8]) -> Result<(u8, u8), TableFaultKind
 
 /// The parts before and after the word's colon, if it has one and no other.
 fn parts_of(word: &[u8]) -> Option<(&[u8], &[u8])>
-    ensures found { IfSome result (λ parts. slice_split (λ b. b == 58) word.now ≡ parts.0.now ∷ parts.1.now ∷ []) }
+    ensures found { IfSome result (λ parts.
+        slice_split (λ b. b == 58) word.now ≡ parts.0.now ∷ parts.1.now ∷ []) }
     ensures only { IfNone result (length (slice_split (λ b. b == 58) word.now) ≢ 2) }
 {
     let colon = first_colon(word)?;

@@ -7,11 +7,10 @@ ghost use Rattle.std.specs.Ordering.{nat_cmp};
 ghost use Rattle.std.specs.Str.{bytes_eq};
 ghost use Rattle.std.specs.FinMap as map;
 ghost use Rattle.mc_text.specs.LineView.{line_text};
-ghost use Rattle.mc_text.specs.Lines.{LineText};
 ghost use Rattle.mc_tables.specs.Memory.{out_of_memory};
 ghost use Rattle.mc_tables.specs.TableLines.{rows_after};
 ghost use Rattle.mc_tables.specs.VifTable.{VifText, no_device, StandsForVifs};
-ghost use Rattle.mc_tables.specs.VifReading.{index_repeats, device_repeats, vif_in_line, vif_at, vif_rows_in, vifs_in};
+ghost use Rattle.mc_tables.specs.VifReading.{index_repeats, device_repeats, vif_in_line, vif_at, vifs_in};
 ghost use Rattle.mc_tables.specs.VifLookups.{HasDevice, first_index_with};
 
 use crate::fault::{TableFault, TableFaultKind};
@@ -54,23 +53,27 @@ impl Model for VifTable {
 }
 
 impl VifTable {
-    /// Reads the text of `/proc/net/ip_mr_vif`, at most 16,777,216 bytes. Its lines may come in any
-    /// order of indexes.
+    /// Reads the text of `/proc/net/ip_mr_vif` (`ipmr_vif_seq_show` in net/ipv4/ipmr.c), at most
+    /// 16,777,216 bytes. Its lines may come in any order of indexes.
     ///
     /// # Errors
     ///
-    /// The text's first fault, or `Memory`.
+    /// `TooLarge` at line 0 for a text of more bytes. Else the first fault from the front: of a
+    /// line first `Unended`, then its words from the left, then `RepeatedIndex`, then
+    /// `RepeatedDevice`. Or `Memory`, at line 0.
     pub fn read(alloc: Global, text: &[u8]) -> Result<VifTable, TableFault>
         // What is read is what the text stands for.
         ensures found { IfOk result (StandsForVifs text.now) }
         // What the text stands for is read, unless memory runs out.
-        ensures only { (vifs : map.FinMap nat_cmp VifText) → StandsForVifs text.now vifs → result ≢ Err out_of_memory → result ≡ Ok vifs }
+        ensures only { (vifs : map.FinMap nat_cmp VifText) → StandsForVifs text.now vifs →
+            result ≢ Err out_of_memory → result ≡ Ok vifs }
         // Which fault it is, unless memory runs out.
         ensures fault { result ≢ Err out_of_memory → result ≡ vifs_in text.now }
     {
         VifTable::from_text(alloc, text)
     }
 
+    /// As `read`, by the one clause from which those of `read` follow.
     fn from_text(alloc: Global, text: &[u8]) -> Result<VifTable, TableFault>
         ensures { result ≢ Err out_of_memory → result ≡ vifs_in text.now }
     {
@@ -93,7 +96,8 @@ impl VifTable {
         ensures found { IfSome result (λ index. HasDevice self.now index device.now) }
         ensures numbered { IfSome result (λ index. index ≤ 31) }
         ensures no_device { device.now ≡ no_device → result ≡ None }
-        ensures only { (index : ℕ) → device.now ≢ no_device → HasDevice self.now index device.now → result ≡ Some index }
+        ensures only { (index : ℕ) → device.now ≢ no_device →
+            HasDevice self.now index device.now → result ≡ Some index }
     {
         if device == NO_DEVICE {
             return None;
@@ -104,7 +108,8 @@ impl VifTable {
 
 fn vifs_of_lines(alloc: Global, lines: Lines<'_>) -> Result<Vec<VifRow>, TableFault>
     ensures found { IfOk result (λ vifs. rows_after vif_at [] lines.entry ≡ Ok vifs.items) }
-    ensures fault { IfErr result (λ fault. fault ≢ out_of_memory → rows_after vif_at [] lines.entry ≡ Err fault) }
+    ensures fault { IfErr result (λ fault. fault ≢ out_of_memory →
+        rows_after vif_at [] lines.entry ≡ Err fault) }
 {
     let mut vifs = Vec::new(alloc);
     for line in lines {
@@ -170,7 +175,8 @@ fn any_has_device(vifs: &[VifRow], device: &[u8]) -> bool
 }
 
 fn vif_with_index(vifs: &[VifRow], index: u8) -> Option<&Vif>
-    ensures { option_copied result ≡ option_map (λ row. row.1) (find (λ row. nat_eq row.0 index) vifs.now) }
+    ensures { option_copied result ≡
+        option_map (λ row. row.1) (find (λ row. nat_eq row.0 index) vifs.now) }
 {
     vifs.iter()
         .find(|row| row.index == index)

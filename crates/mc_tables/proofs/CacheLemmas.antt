@@ -15,20 +15,20 @@ use Rattle.mc_text.specs.declared.addr.Order.{Order}
 use Rattle.mc_text.specs.Lines.{LineText}
 use Rattle.mc_text.specs.Words.{words_of}
 use Rattle.mc_tables.specs.declared.entry.Entry.{Entry}
-use Rattle.mc_tables.specs.declared.cache_row.CacheRow.{CacheRow}
 use Rattle.mc_tables.specs.declared.fault.TableFault.{TableFault}
 use Rattle.mc_tables.specs.declared.fault.TableFaultKind.TheVariants.{Unended, BadCounter, BadAddress, RepeatedEntry, TooLarge}
 use Rattle.mc_tables.specs.Memory.{out_of_memory}
 use Rattle.mc_tables.specs.TableWords.{is_counter, number_in, address_in, WritesNumber}
 use Rattle.mc_tables.specs.TableLines.{EachTells, lines_in, rows_after}
-use Rattle.mc_tables.specs.CacheTable.{WriteEntry, WordsTellRow, LineTellsRow, key_cmp, same_key, key_of, AreCacheRows, CacheText, table_of, StandsForCache}
-use Rattle.mc_tables.specs.CacheReading.{oifs_after, incoming_number, incoming_in, entry_in, row_in_words, entry_repeats, row_in_line, row_at, cache_rows_in, cache_in}
+use Rattle.mc_tables.specs.CacheTable.{RowText, WriteEntry, WordsTellRow, LineTellsRow, key_cmp, same_key, key_of, AreCacheRows, CacheText, table_of, StandsForCache}
+use Rattle.mc_tables.specs.CacheReading.{oifs_in, incoming_number, incoming_in, entry_in, row_in_words, entry_repeats, row_in_line, row_at, cache_rows_in, cache_in}
 use Rattle.mc_tables.proofs.StepLemmas.{bind_ok, demand_then, ok_or_ok, at_line_ok, ok_is}
 use Rattle.mc_tables.proofs.WordLemmas.{number_found, number_only}
 use Rattle.mc_tables.proofs.AddressLemmas.{address_found, address_only}
 use Rattle.mc_tables.proofs.KeyLemmas.{distinct_grows, distinct_follows}
 use Rattle.mc_tables.proofs.RowLemmas.{lines_found, lines_only, ReadsRows, rows_told, rows_read}
 use Rattle.mc_tables.proofs.OifLemmas.{oifs_found, oifs_only}
+use Rattle.mc_tables.proofs.EntryLemmas.{HaveEntries, rows_stand}
 
 -- ---- the incoming vif and the outgoing ones
 
@@ -45,7 +45,7 @@ entry_found iif [] None entry incoming e =
     ]
 entry_found iif (word ∷ words) None entry incoming e = absurd cc
 entry_found iif outgoing (Some number) entry incoming e =
-    let b = bind_ok (oifs_after [] outgoing) (λ oifs. Ok (Some (record { iif = number; oifs = oifs }))) entry e in
+    let b = bind_ok (oifs_in outgoing) (λ oifs. Ok (Some (record { iif = number; oifs = oifs }))) entry e in
     let made : Entry = record { iif = number; oifs = b.0 } in
     let same : Some made ≡ entry = ok_is (Some made) entry b.2 in
     elim (cases_Bool (bytes_eq iif (codes "-1"))) [
@@ -75,7 +75,7 @@ entry_only iif outgoing (Some entry) h =
 
 -- ---- the words of a row
 
-row_words_found : (order : Order) (words : List (List ℕ)) (row : CacheRow) → row_in_words order words ≡ Ok row → WordsTellRow order words row
+row_words_found : (order : Order) (words : List (List ℕ)) (row : RowText) → row_in_words order words ≡ Ok row → WordsTellRow order words row
 unfolding row_in_words
 row_words_found order (group ∷ origin ∷ iif ∷ packets ∷ bytes ∷ wrong ∷ outgoing) row e =
     let g = bind_ok (ok_or (address_in order group) BadAddress) _ row e in
@@ -85,7 +85,7 @@ row_words_found order (group ∷ origin ∷ iif ∷ packets ∷ bytes ∷ wrong 
     let c2 = demand_then (is_counter bytes) BadCounter _ row c1.1 in
     let c3 = demand_then (is_counter wrong) BadCounter _ row c2.1 in
     let x = bind_ok (entry_in i.0 outgoing) _ row c3.1 in
-    let made : CacheRow = record { group = g.0; origin = o.0; entry = x.0 } in
+    let made : RowText = record { group = g.0; origin = o.0; entry = x.0 } in
     let all : WordsTellRow order (group ∷ origin ∷ iif ∷ packets ∷ bytes ∷ wrong ∷ outgoing) made = (
       address_found order group g.0 (ok_or_ok (address_in order group) BadAddress g.0 g.1),
       address_found order origin o.0 (ok_or_ok (address_in order origin) BadAddress o.0 o.1),
@@ -97,7 +97,7 @@ row_words_found order (group ∷ origin ∷ iif ∷ packets ∷ bytes ∷ wrong 
     subst (WordsTellRow order (group ∷ origin ∷ iif ∷ packets ∷ bytes ∷ wrong ∷ outgoing)) (ok_is made row x.2) all
 row_words_found order words row e = absurd cc
 
-row_words_only : (order : Order) (words : List (List ℕ)) (row : CacheRow) → WordsTellRow order words row → row_in_words order words ≡ Ok row
+row_words_only : (order : Order) (words : List (List ℕ)) (row : RowText) → WordsTellRow order words row → row_in_words order words ≡ Ok row
 unfolding row_in_words
 row_words_only order (group ∷ origin ∷ iif ∷ packets ∷ bytes ∷ wrong ∷ outgoing) row h =
     let x = entry_only iif outgoing row.entry h.5 in
@@ -107,10 +107,10 @@ row_words_only order words row h = absurd h
 -- ---- the rows
 
 -- there is room for the row, and it repeats no earlier one's source and group
-abbrev pub MayFollow : List CacheRow → CacheRow → Type 0
+abbrev pub MayFollow : List RowText → RowText → Type 0
 MayFollow earlier row = (length earlier < 65536) × (entry_repeats earlier row ≡ false)
 
-abbrev pub MayStand : List CacheRow → Type 0
+abbrev pub MayStand : List RowText → Type 0
 MayStand rows = (length rows ≤ 65536) × IsDistinct same_key (filter_map key_of rows)
 
 pub key_total : IsTotalOrder key_cmp
@@ -119,7 +119,7 @@ key_total = then_total (on_total (λ key. key.0) nat_cmp_total) (on_total (λ ke
 pub key_laws : IsEquivalence same_key
 key_laws = eq_by_cmp_equiv key_total
 
-line_found : (order : Order) (earlier : List CacheRow) (line : LineText) (row : CacheRow) → row_in_line order earlier line ≡ Ok row → LineTellsRow order line row × MayFollow earlier row
+line_found : (order : Order) (earlier : List RowText) (line : LineText) (row : RowText) → row_in_line order earlier line ≡ Ok row → LineTellsRow order line row × MayFollow earlier row
 unfolding row_in_line
 line_found order earlier line row e =
     let d = demand_then line.ended Unended _ row e in
@@ -127,25 +127,25 @@ line_found order earlier line row e =
     let w = bind_ok (row_in_words order (words_of line.bytes)) _ row n.1 in
     let r = demand_then (not (entry_repeats earlier w.0)) RepeatedEntry _ row w.2 in
     let told : LineTellsRow order line w.0 = record { ended = d.0; words = row_words_found order (words_of line.bytes) w.0 w.1 } in
-    subst (λ (x : CacheRow). LineTellsRow order line x × MayFollow earlier x) (ok_is w.0 row r.1) (told, (ltb-true (length earlier) 65536 n.0, not-true _ r.0))
+    subst (λ (x : RowText). LineTellsRow order line x × MayFollow earlier x) (ok_is w.0 row r.1) (told, (ltb-true (length earlier) 65536 n.0, not-true _ r.0))
 
-line_only : (order : Order) (earlier : List CacheRow) (line : LineText) (row : CacheRow) → LineTellsRow order line row → MayFollow earlier row → row_in_line order earlier line ≡ Ok row
+line_only : (order : Order) (earlier : List RowText) (line : LineText) (row : RowText) → LineTellsRow order line row → MayFollow earlier row → row_in_line order earlier line ≡ Ok row
 unfolding row_in_line
 line_only order earlier line row told new =
     let room : ltb (length earlier) 65536 ≡ true = lt-ltb (length earlier) 65536 new.0 in
     rw (told.ended, room, row_words_only order (words_of line.bytes) row told.words, new.1) refl
 
-at_found : (order : Order) (earlier : List CacheRow) (line : LineText) (row : CacheRow) → row_at order earlier line ≡ Ok row → LineTellsRow order line row × MayFollow earlier row
+at_found : (order : Order) (earlier : List RowText) (line : LineText) (row : RowText) → row_at order earlier line ≡ Ok row → LineTellsRow order line row × MayFollow earlier row
 at_found order earlier line row e = line_found order earlier line row (at_line_ok line.number (row_in_line order earlier line) row e)
 
-at_only : (order : Order) (earlier : List CacheRow) (line : LineText) (row : CacheRow) → LineTellsRow order line row → MayFollow earlier row → row_at order earlier line ≡ Ok row
+at_only : (order : Order) (earlier : List RowText) (line : LineText) (row : RowText) → LineTellsRow order line row → MayFollow earlier row → row_at order earlier line ≡ Ok row
 at_only order earlier line row told new = rw (line_only order earlier line row told new) refl
 
-rows_grow : (earlier : List CacheRow) (row : CacheRow) → MayStand earlier → MayFollow earlier row → MayStand (earlier ++ row ∷ [])
+rows_grow : (earlier : List RowText) (row : RowText) → MayStand earlier → MayFollow earlier row → MayStand (earlier ++ row ∷ [])
 rows_grow earlier row stands new =
     (omega (arith, new.0, length-append earlier (row ∷ [])), rw filter_map-append (distinct_grows key_laws _ (key_of row) stands.1 new.1))
 
-rows_follow : (earlier : List CacheRow) (row : CacheRow) (later : List CacheRow) → MayStand (earlier ++ row ∷ later) → MayFollow earlier row
+rows_follow : (earlier : List RowText) (row : RowText) (later : List RowText) → MayStand (earlier ++ row ∷ later) → MayFollow earlier row
 rows_follow earlier row later stands =
     (omega (arith, stands.0, length-append earlier (row ∷ later)), distinct_follows key_laws _ (key_of row) _ (rw filter_map-append at stands.1))
 
@@ -158,13 +158,13 @@ nothing_stands = (omega arith, tt)
 
 -- ---- the text
 
-rows_of : (order : Order) (text : List ℕ) (rows : List CacheRow) → cache_rows_in order text ≡ Ok rows → AreCacheRows order text rows
+rows_of : (order : Order) (text : List ℕ) (rows : List RowText) → cache_rows_in order text ≡ Ok rows → AreCacheRows order text rows
 rows_of order text rows e =
     let b = bind_ok (lines_in (codes "Group") text) (rows_after (row_at order) []) rows e in
     let t = rows_told (row_at order) (LineTellsRow order) MayFollow MayStand (reads_rows order) b.0 [] rows nothing_stands b.2 in
     record { lines = b.0; header = lines_found (codes "Group") text b.0 b.1; told = subst (EachTells (LineTellsRow order) b.0) t.1 t.2; count = t.3.0; keys_differ = t.3.1 }
 
-of_rows : (order : Order) (text : List ℕ) (rows : List CacheRow) → AreCacheRows order text rows → cache_rows_in order text ≡ Ok rows
+of_rows : (order : Order) (text : List ℕ) (rows : List RowText) → AreCacheRows order text rows → cache_rows_in order text ≡ Ok rows
 of_rows order text rows h =
     let e = lines_only (codes "Group") text h.lines h.header in
     rw e (rows_read (row_at order) (LineTellsRow order) MayFollow MayStand (reads_rows order) h.lines [] rows h.told (h.count, h.keys_differ))
@@ -182,3 +182,9 @@ cache_only order text table h = rw (of_rows order text h.rows h.lines) (ap Ok (s
 pub read_is_found : (order : Order) (text : List ℕ) (read : Result CacheText TableFault) → ((read ≡ Err out_of_memory → ⊥) → read ≡ cache_in order text) → IfOk read (StandsForCache order text)
 read_is_found order text (Ok table) exact = cache_found order text table (sym (exact (λ e. absurd cc)))
 read_is_found order text (Err fault) exact = tt
+
+-- the entries of rows that were read are as lines write them
+pub lines_have_entries : (order : Order) (lines : List LineText) (rows : List RowText) → rows_after (row_at order) [] lines ≡ Ok rows → HaveEntries rows
+lines_have_entries order lines rows e =
+    let t = rows_told (row_at order) (LineTellsRow order) MayFollow MayStand (reads_rows order) lines [] rows nothing_stands e in
+    subst HaveEntries t.1 (rows_stand order lines t.0 t.2)

@@ -10,8 +10,8 @@ use Rattle.std.specs.FinSet as set
 use Rattle.std.proofs.lemmas.Bool.{cases_Bool, lt-ltb, eqb-false}
 use Rattle.std.proofs.lemmas.Cmp.{nat_cmp_total, nat_eq_equiv}
 use Rattle.mc_tables.specs.declared.entry.Entry.{Entry}
-use Rattle.mc_tables.specs.declared.cache_row.CacheRow.{CacheRow}
-use Rattle.mc_tables.specs.CacheTable.{key_cmp, same_key, exact_entry, key_of, entry_of_key, entry_at}
+use Rattle.mc_tables.specs.CacheTable.{RowText, key_cmp, same_key, exact_entry, key_of}
+use Rattle.mc_tables.specs.RowLookups.{entry_of_key, entry_at}
 
 -- a reference to an entry is there where the entry is
 pub is_some-copied : (o : Option (Bor Entry)) → is_some (option_copied o) ≡ is_some o
@@ -33,10 +33,10 @@ take_entry key None rest entry e = absurd cc
 take_entry key (Some exact) rest entry e =
     elim (cases_Bool (same_key key exact.0)) [ inl is ↦ rw is (rw is at e) | inr other ↦ absurd (let wrong = rw other at e in cc) ]
 
-pub skip_row : (key : ℕ × ℕ) (row : CacheRow) (rows : List CacheRow) → entry_at key row ≡ None → map.find key_cmp key (filter_map exact_entry (row ∷ rows)) ≡ map.find key_cmp key (filter_map exact_entry rows)
+pub skip_row : (key : ℕ × ℕ) (row : RowText) (rows : List RowText) → entry_at key row ≡ None → map.find key_cmp key (filter_map exact_entry (row ∷ rows)) ≡ map.find key_cmp key (filter_map exact_entry rows)
 skip_row key row rows e = skip_entry key (exact_entry row) (filter_map exact_entry rows) e
 
-pub take_row : (key : ℕ × ℕ) (row : CacheRow) (rows : List CacheRow) (entry : Entry) → entry_at key row ≡ Some entry → map.find key_cmp key (filter_map exact_entry (row ∷ rows)) ≡ Some entry
+pub take_row : (key : ℕ × ℕ) (row : RowText) (rows : List RowText) (entry : Entry) → entry_at key row ≡ Some entry → map.find key_cmp key (filter_map exact_entry (row ∷ rows)) ≡ Some entry
 take_row key row rows entry e = take_entry key (exact_entry row) (filter_map exact_entry rows) entry e
 
 -- a row's key is among the keys where the rows have an entry for it
@@ -46,7 +46,7 @@ key_of_entry key None entries keys same = same
 key_of_entry key (Some exact) entries keys same =
     elim (cases_Bool (same_key key exact.0)) [ inl is ↦ rw is refl | inr other ↦ rw other same ]
 
-pub key_among : (key : ℕ × ℕ) (rows : List CacheRow) → is_some (map.find key_cmp key (filter_map exact_entry rows)) ≡ list_any (same_key key) (filter_map key_of rows)
+pub key_among : (key : ℕ × ℕ) (rows : List RowText) → is_some (map.find key_cmp key (filter_map exact_entry rows)) ≡ list_any (same_key key) (filter_map key_of rows)
 key_among key [] = refl
 key_among key (row ∷ rows) = key_of_entry key (exact_entry row) (filter_map exact_entry rows) (filter_map key_of rows) (key_among key rows)
 
@@ -58,17 +58,17 @@ zero_apart group origin other apart =
     let positive : ltb 0 origin ≡ true = lt-ltb 0 origin (let h : origin ≡ 0 → ⊥ = eqb-false origin 0 apart in omega (arith, h)) in
     rw positive refl
 
-apart_from_zero : (group : ℕ) (row : CacheRow) → nat_eq row.origin 0 ≡ false → (entry : Option Entry) → entry_of_key (0, group) (option_map (λ e. ((row.origin, row.group), e)) entry) ≡ None
+apart_from_zero : (group : ℕ) (row : RowText) → nat_eq row.origin 0 ≡ false → (entry : Option Entry) → entry_of_key (0, group) (option_map (λ e. ((row.origin, row.group), e)) entry) ≡ None
 apart_from_zero group row other None = refl
 apart_from_zero group row other (Some entry) =
     let apart : same_key (0, group) (row.origin, row.group) ≡ false = zero_apart group row.origin row.group other in
     rw apart refl
 
-row_without : (group : ℕ) (row : CacheRow) → entry_at (0, group) row ≡ None
+row_without : (group : ℕ) (row : RowText) → entry_at (0, group) row ≡ None
 row_without group row =
     elim (cases_Bool (nat_eq row.origin 0)) [ inl is ↦ rw is refl | inr other ↦ rw other (apart_from_zero group row other row.entry) ]
 
-pub zero_absent : (group : ℕ) (rows : List CacheRow) → map.find key_cmp (0, group) (filter_map exact_entry rows) ≡ None
+pub zero_absent : (group : ℕ) (rows : List RowText) → map.find key_cmp (0, group) (filter_map exact_entry rows) ≡ None
 zero_absent group [] = refl
 zero_absent group (row ∷ rows) = skip_row (0, group) row rows (row_without group row) ∙ zero_absent group rows
 

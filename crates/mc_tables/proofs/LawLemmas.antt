@@ -1,23 +1,22 @@
 -- What follows from what a text stands for.
-use Rattle.std.proofs.Common.{◌≡◌, ◌≤◌, ℕ, List, [], ◌∷◌, Option, Some, sym, ap, subst, ◌∙◌, inl, inr, arith}
-use Rattle.std.specs.Prelude.{nat_eq, IsSome}
+use Rattle.std.proofs.Common.{◌≡◌, ◌≤◌, ℕ, List, Option, Some, Ok, sym, ap, subst, ◌∙◌}
+use Rattle.std.specs.Prelude.{IsSome, IfSome, ◌↔◌}
 use Rattle.std.specs.Ordering.{nat_cmp}
-use Rattle.std.specs.Cmp.{unsigned_tied}
-use Rattle.std.specs.FinMap.{FinMap, find, get, get-from_entries}
-use Rattle.std.proofs.lemmas.Bool.{cases_Bool, eqb-true}
-use Rattle.std.proofs.lemmas.Cmp.{nat_cmp_total}
+use Rattle.std.specs.FinMap.{FinMap, get, get-from_entries}
 use Rattle.mc_text.specs.declared.addr.Order.{Order}
-use Rattle.mc_text.specs.Lines.{LineText}
-use Rattle.mc_text.specs.Words.{words_of}
 use Rattle.mc_tables.specs.declared.fault.TableFault.{TableFault}
-use Rattle.mc_tables.specs.TableLines.{EachTells}
-use Rattle.mc_tables.specs.VifTable.{VifText, no_device, WordsTellVif, LineTellsVif, StandsForVifs}
+use Rattle.mc_tables.specs.VifTable.{VifText, no_device, StandsForVifs}
 use Rattle.mc_tables.specs.VifLookups.{HasDevice, first_index_with}
-use Rattle.mc_tables.specs.CacheTable.{CacheText, StandsForCache}
+use Rattle.mc_tables.specs.CacheTable.{CacheText, IsEntry, exact_entry, StandsForCache}
+use Rattle.mc_tables.specs.VifReading.{vifs_in}
+use Rattle.mc_tables.specs.CacheReading.{cache_in}
+use Rattle.mc_tables.specs.declared.entry.Entry.{Entry}
+use Rattle.std.specs.List.{filter_map}
 use Rattle.mc_tables.proofs.StepLemmas.{ok_is}
-use Rattle.mc_tables.proofs.VifLemmas.{vifs_only}
-use Rattle.mc_tables.proofs.VifLookupLemmas.{index_only_in_map}
-use Rattle.mc_tables.proofs.CacheLemmas.{cache_only}
+use Rattle.mc_tables.proofs.VifLemmas.{told_to_31, vifs_found, vifs_only}
+use Rattle.mc_tables.proofs.VifLookupLemmas.{index_only_in_map, index_in_map}
+use Rattle.mc_tables.proofs.CacheLemmas.{key_total, cache_found, cache_only}
+use Rattle.mc_tables.proofs.EntryLemmas.{rows_stand, found_stands}
 
 pub one_vif_table : (text : List ℕ) (a b : FinMap nat_cmp VifText) → StandsForVifs text a → StandsForVifs text b → a ≡ b
 one_vif_table text a b is_a is_b = ok_is {E = TableFault} a b (sym (vifs_only text a is_a) ∙ vifs_only text b is_b)
@@ -33,20 +32,17 @@ one_index text vifs stands device i j some has_i has_j =
     let index = λ (n : ℕ) (has : HasDevice vifs n device). index_only_in_map device stands.rows n some stands.lines.devices_differ (subst (λ m. HasDevice m n device) stands.as_map has) in
     some_is i j (first_index_with device stands.rows) (index i has_i) (index j has_j)
 
-words_to_31 : (words : List (List ℕ)) (row : ℕ × VifText) → WordsTellVif words row → row.0 ≤ 31
-words_to_31 (index ∷ device ∷ bytes_in ∷ packets_in ∷ bytes_out ∷ packets_out ∷ flags ∷ local ∷ remote ∷ []) row h = h.0.2
-words_to_31 words row h = absurd h
-
-rows_to_31 : (lines : List LineText) (rows : List (ℕ × VifText)) (index : ℕ) → EachTells LineTellsVif lines rows → IsSome (find nat_cmp index rows) → index ≤ 31
-rows_to_31 [] [] index told there = absurd (let wrong = there in cc)
-rows_to_31 [] (row ∷ rows) index told there = absurd told
-rows_to_31 (line ∷ lines) [] index told there = absurd told
-rows_to_31 (line ∷ lines) (row ∷ rows) index told there =
-    elim (cases_Bool (nat_eq index row.0)) [
-      | inl is ↦ let same : index ≡ row.0 = eqb-true index row.0 is in omega (arith, same, words_to_31 (words_of line.bytes) row told.0.words)
-      | inr other ↦ rows_to_31 lines rows index told.1 (rw (unsigned_tied index row.0, other) at there)
-    ]
-
 pub index_to_31 : (text : List ℕ) (vifs : FinMap nat_cmp VifText) → StandsForVifs text vifs → (index : ℕ) → IsSome (get vifs index) → index ≤ 31
 index_to_31 text vifs stands index there =
-    rows_to_31 stands.lines.lines stands.rows index stands.lines.told (subst IsSome (ap (λ m. get m index) stands.as_map ∙ get-from_entries nat_cmp_total stands.rows index) there)
+    index_in_map stands.rows index (told_to_31 stands.lines.lines stands.rows stands.lines.told) (subst (λ m. IsSome (get m index)) stands.as_map there)
+
+pub entry_is : (order : Order) (text : List ℕ) (table : CacheText) → StandsForCache order text table → (key : ℕ × ℕ) → IfSome (get table.entries key) IsEntry
+entry_is order text table stands key =
+    let is = ap (λ (t : CacheText). get t.entries key) stands.as_table ∙ get-from_entries key_total (filter_map exact_entry stands.rows) key in
+    subst (λ (o : Option Entry). IfSome o IsEntry) (sym is) (found_stands key stands.rows (rows_stand order stands.lines.lines stands.rows stands.lines.told))
+
+pub vifs_read : (text : List ℕ) (vifs : FinMap nat_cmp VifText) → (vifs_in text ≡ Ok vifs) ↔ StandsForVifs text vifs
+vifs_read text vifs = (vifs_found text vifs, vifs_only text vifs)
+
+pub cache_read : (order : Order) (text : List ℕ) (table : CacheText) → (cache_in order text ≡ Ok table) ↔ StandsForCache order text table
+cache_read order text table = (cache_found order text table, cache_only order text table)

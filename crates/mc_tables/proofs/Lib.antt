@@ -1,5 +1,6 @@
 pub mod StepLemmas
 pub mod WordLemmas
+pub mod HexadecimalLemmas
 pub mod RowLemmas
 pub mod KeyLemmas
 pub mod VifLemmas
@@ -8,6 +9,7 @@ pub mod AddressLemmas
 pub mod ColonLemmas
 pub mod RowWordLemmas
 pub mod OifLemmas
+pub mod EntryLemmas
 pub mod CacheLemmas
 pub mod CacheLookupLemmas
 pub mod LawLemmas

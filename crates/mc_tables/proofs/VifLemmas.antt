@@ -1,8 +1,8 @@
 -- What reading a vif table gives is what its text stands for.
-use Rattle.std.proofs.Common.{◌≡◌, ℕ, false, List, [], ◌∷◌, ◌++◌, length, Result, Ok, Err, refl, sym, ap, subst}
+use Rattle.std.proofs.Common.{◌≡◌, ℕ, ◌≤◌, false, List, [], ◌∷◌, ◌++◌, length, Result, Ok, Err, refl, sym, ap, subst}
 use Rattle.std.specs.Prelude.{nat_eq, not, map, codes, IfOk}
 use Rattle.std.specs.Option.{ok_or}
-use Rattle.std.specs.List.{IsDistinct, filter_map}
+use Rattle.std.specs.List.{IsDistinct, AllByRecursion, filter_map}
 use Rattle.std.specs.Ordering.{nat_cmp}
 use Rattle.std.specs.FinMap.{FinMap, from_entries}
 use Rattle.std.specs.Str.{bytes_eq}
@@ -125,9 +125,24 @@ unfolding vif_in_words
 not_nine (index ∷ device ∷ bytes_in ∷ packets_in ∷ bytes_out ∷ packets_out ∷ flags ∷ local ∷ remote ∷ []) other = absurd (other refl)
 not_nine words other = refl
 
+words_to_31 : (words : List (List ℕ)) (row : ℕ × VifText) → WordsTellVif words row → row.0 ≤ 31
+words_to_31 (index ∷ device ∷ bytes_in ∷ packets_in ∷ bytes_out ∷ packets_out ∷ flags ∷ local ∷ remote ∷ []) row h = h.0.2
+words_to_31 words row h = absurd h
+
+abbrev pub AreNumbered : List (ℕ × VifText) → Type 0
+AreNumbered rows = AllByRecursion (λ row. row.0 ≤ 31) rows
+
+pub told_to_31 : (lines : List LineText) (rows : List (ℕ × VifText)) → EachTells LineTellsVif lines rows → AreNumbered rows
+told_to_31 [] [] told = tt
+told_to_31 [] (row ∷ rows) told = absurd told
+told_to_31 (line ∷ lines) [] told = absurd told
+told_to_31 (line ∷ lines) (row ∷ rows) told = (words_to_31 (words_of line.bytes) row told.0.words, told_to_31 lines rows told.1)
+
 -- rows that were read may stand
-pub lines_may_stand : (lines : List LineText) (rows : List (ℕ × VifText)) → rows_after vif_at [] lines ≡ Ok rows → MayStand rows
-lines_may_stand lines rows e = (rows_told vif_at LineTellsVif MayFollow MayStand reads_vifs lines [] rows nothing_stands e).3
+pub lines_may_stand : (lines : List LineText) (rows : List (ℕ × VifText)) → rows_after vif_at [] lines ≡ Ok rows → IsDistinct nat_eq (map (λ row. row.0) rows) × IsDistinct bytes_eq (filter_map device_of rows) × AreNumbered rows
+lines_may_stand lines rows e =
+    let t = rows_told vif_at LineTellsVif MayFollow MayStand reads_vifs lines [] rows nothing_stands e in
+    (t.3.0, t.3.1, subst AreNumbered t.1 (told_to_31 lines t.0 t.2))
 
 pub read_is_found : (text : List ℕ) (read : Result (FinMap nat_cmp VifText) TableFault) → ((read ≡ Err out_of_memory → ⊥) → read ≡ vifs_in text) → IfOk read (StandsForVifs text)
 read_is_found text (Ok vifs) exact = vifs_found text vifs (sym (exact (λ e. absurd cc)))

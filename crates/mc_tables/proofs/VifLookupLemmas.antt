@@ -1,13 +1,15 @@
 -- The look-ups of a vif table answer by its map.
-use Rattle.std.proofs.Common.{◌≡◌, ℕ, Bool, true, false, cond, List, [], ◌∷◌, Option, Some, None, refl, sym, ap, subst, ◌∙◌, inl, inr}
-use Rattle.std.specs.Prelude.{nat_eq, map, IsSomeAnd, IfSome, ◌||◌}
+use Rattle.std.proofs.Common.{◌≡◌, ℕ, ◌≤◌, arith, Bool, true, false, cond, List, [], ◌∷◌, Option, Some, None, refl, sym, ap, subst, ◌∙◌, inl, inr}
+use Rattle.std.specs.Option.{option_map}
+use Rattle.std.specs.List as lists
+use Rattle.std.specs.Prelude.{nat_eq, map, IsSome, IsSomeAnd, IfSome, ◌||◌}
 use Rattle.std.specs.List.{IsDistinct, AllByRecursion, filter_map, cons_option, list_any}
 use Rattle.std.specs.Ordering.{nat_cmp, eq_by_cmp}
 use Rattle.std.specs.Cmp.{unsigned_tied}
 use Rattle.std.specs.Str.{bytes_eq}
-use Rattle.std.specs.FinMap.{find, from_entries, get-from_entries}
+use Rattle.std.specs.FinMap.{find, get, from_entries, get-from_entries}
 use Rattle.std.proofs.lemmas.Bool.{cases_eq, eq-eqb, ne_eqb, both_ways, or_left, or_right, or_from, false_from_ne_true}
-use Rattle.std.proofs.lemmas.Cmp.{nat_cmp_total, nat_list_eq_equiv}
+use Rattle.std.proofs.lemmas.Cmp.{nat_cmp_total, nat_eq_equiv, nat_list_eq_equiv}
 use Rattle.std.proofs.lemmas.Map.Keys.{IsDistinct-head, IsDistinct-tail}
 use Rattle.std.proofs.lemmas.Slice.Eq.{bytes_eq-Decides}
 use Rattle.mc_tables.specs.TableLines.{is_among}
@@ -55,11 +57,29 @@ none_same same key (other ∷ keys) all = or_from (same key other) _ all.0 (none
 found_at : (index : ℕ) (row : ℕ × VifText) (rows : List (ℕ × VifText)) → index ≡ row.0 → find nat_cmp index (row ∷ rows) ≡ Some row.1
 found_at index row rows e = let t : eq_by_cmp nat_cmp index row.0 ≡ true = unsigned_tied index row.0 ∙ eq-eqb index row.0 e in ap (λ b. cond b (Some row.1) (find nat_cmp index rows)) t
 
+-- the first row with an index has what the map has there
+find_among : (row : ℕ × VifText) (b : Bool) (later : Option (ℕ × VifText)) → option_map (λ r. r.1) (cond b (Some row) later) ≡ cond b (Some row.1) (option_map (λ r. r.1) later)
+find_among row true later = refl
+find_among row false later = refl
+
+pub find_first : (index : ℕ) (rows : List (ℕ × VifText)) → option_map (λ row. row.1) (lists.find (λ row. nat_eq row.0 index) rows) ≡ find nat_cmp index rows
+find_first index [] = refl
+find_first index (row ∷ rows) =
+    let tied : nat_eq row.0 index ≡ eq_by_cmp nat_cmp index row.0 = nat_eq_equiv.symm row.0 index ∙ sym (unsigned_tied index row.0) in
+    find_among row (nat_eq row.0 index) (lists.find (λ r. nat_eq r.0 index) rows) ∙ rw (tied, find_first index rows) refl
+
 found_after : (index : ℕ) (row : ℕ × VifText) (rows : List (ℕ × VifText)) → (index ≡ row.0 → ⊥) → find nat_cmp index (row ∷ rows) ≡ find nat_cmp index rows
 found_after index row rows ne = let t : eq_by_cmp nat_cmp index row.0 ≡ false = unsigned_tied index row.0 ∙ ne_eqb index row.0 ne in ap (λ b. cond b (Some row.1) (find nat_cmp index rows)) t
 
 abbrev Has : List ℕ → Option VifText → Type 0
 Has device found = IsSomeAnd found (λ vif. vif.device ≡ device)
+
+first_among : (row : ℕ × VifText) (b : Bool) (later : Option (ℕ × VifText)) → option_map (λ r. r.0) (cond b (Some row) later) ≡ cond b (Some row.0) (option_map (λ r. r.0) later)
+first_among row true later = refl
+first_among row false later = refl
+
+first_cons : (device : List ℕ) (row : ℕ × VifText) (rows : List (ℕ × VifText)) → first_index_with device (row ∷ rows) ≡ cond (bytes_eq row.1.device device) (Some row.0) (first_index_with device rows)
+first_cons device row rows = first_among row (bytes_eq row.1.device device) (lists.find (λ r. bytes_eq r.1.device device) rows)
 
 -- an index that is answered is one of the table
 answered : (device : List ℕ) (rows : List (ℕ × VifText)) (index : ℕ) → first_index_with device rows ≡ Some index → list_any (nat_eq index) (map (λ row. row.0) rows) ≡ true
@@ -68,7 +88,7 @@ answered device (row ∷ rows) index e =
     elim (bytes_eq row.1.device device) as (λ b. cond b (Some row.0) (first_index_with device rows) ≡ Some index → list_any (nat_eq index) (map (λ r. r.0) (row ∷ rows)) ≡ true) [
       | true ↦ λ h. let same : row.0 ≡ index = cc in or_left (nat_eq index row.0) _ (eq-eqb index row.0 (sym same))
       | false ↦ λ h. or_right (nat_eq index row.0) _ (answered device rows index h)
-    ] e
+    ] (sym (first_cons device row rows) ∙ e)
 
 -- the index that is answered has the device
 pub index_found : (device : List ℕ) (rows : List (ℕ × VifText)) (index : ℕ) → IsDistinct nat_eq (map (λ row. row.0) rows) → first_index_with device rows ≡ Some index → Has device (find nat_cmp index rows)
@@ -81,7 +101,7 @@ index_found device (row ∷ rows) index distinct e =
           let none = none_same nat_eq row.0 (map (λ r. r.0) rows) (IsDistinct-head nat_eq row.0 _ distinct) in
           let apart : index ≡ row.0 → ⊥ = λ same. both_ways (list_any (nat_eq index) (map (λ r. r.0) rows)) (rw same none) among in
           subst (Has device) (sym (found_after index row rows apart)) (index_found device rows index (IsDistinct-tail nat_eq row.0 _ distinct) h)
-    ] refl e
+    ] refl (sym (first_cons device row rows) ∙ e)
 
 distinct_rest : (key : Option (List ℕ)) (keys : List (List ℕ)) → IsDistinct bytes_eq (cons_option key keys) → IsDistinct bytes_eq keys
 distinct_rest None keys distinct = distinct
@@ -107,7 +127,7 @@ index_only device (row ∷ rows) index some distinct h =
       | inr apart ↦
           let later = subst (Has device) (found_after index row rows apart) h in
           let among = device_there device rows index later in
-          elim (bytes_eq row.1.device device) as (λ b. bytes_eq row.1.device device ≡ b → cond b (Some row.0) (first_index_with device rows) ≡ Some index) [
+          first_cons device row rows ∙ elim (bytes_eq row.1.device device) as (λ b. bytes_eq row.1.device device ≡ b → cond b (Some row.0) (first_index_with device rows) ≡ Some index) [
             | true ↦ λ is.
                 let same : row.1.device ≡ device = (bytes_eq-Decides row.1.device device).0 is in
                 let key : device_of row ≡ Some row.1.device = ap (λ b. cond b None (Some row.1.device)) (ap (λ d. bytes_eq d no_device) same ∙ some) in
@@ -125,3 +145,24 @@ index_found_in_map device rows (Some index) distinct is =
 pub index_only_in_map : (device : List ℕ) (rows : List (ℕ × VifText)) (index : ℕ) → (device ≡ no_device → ⊥) → IsDistinct bytes_eq (filter_map device_of rows) → HasDevice (from_entries rows) index device → first_index_with device rows ≡ Some index
 index_only_in_map device rows index some distinct has =
     index_only device rows index (false_from_ne_true (bytes_eq device no_device) (λ e. some (is_none device e))) distinct (subst (Has device) (get-from_entries nat_cmp_total rows index) has)
+
+-- ---- the indexes
+
+find_to_31 : (rows : List (ℕ × VifText)) (index : ℕ) → AllByRecursion (λ row. row.0 ≤ 31) rows → IsSome (find nat_cmp index rows) → index ≤ 31
+find_to_31 [] index all there = absurd (let wrong = there in cc)
+find_to_31 (row ∷ rows) index all there =
+    elim (cases_eq index row.0) [
+      | inl same ↦ omega (arith, same, all.0)
+      | inr apart ↦ find_to_31 rows index all.1 (subst IsSome (found_after index row rows apart) there)
+    ]
+
+pub index_in_map : (rows : List (ℕ × VifText)) (index : ℕ) → AllByRecursion (λ row. row.0 ≤ 31) rows → IsSome (get (from_entries {R = nat_cmp} rows) index) → index ≤ 31
+index_in_map rows index all there = find_to_31 rows index all (subst IsSome (get-from_entries nat_cmp_total rows index) there)
+
+there_with : (device : List ℕ) (o : Option VifText) → Has device o → IsSome o
+there_with device None has = absurd has
+there_with device (Some vif) has = refl
+
+pub answer_in_map : (device : List ℕ) (rows : List (ℕ × VifText)) (answer : Option ℕ) → AllByRecursion (λ row. row.0 ≤ 31) rows → IfSome answer (λ index. HasDevice (from_entries rows) index device) → IfSome answer (λ index. index ≤ 31)
+answer_in_map device rows None all has = tt
+answer_in_map device rows (Some index) all has = index_in_map rows index all (there_with device (get (from_entries {R = nat_cmp} rows) index) has)

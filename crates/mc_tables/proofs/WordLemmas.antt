@@ -2,10 +2,11 @@
 use Rattle.std.proofs.Common.{◌≡◌, ℕ, ◌+◌, ◌*◌, ◌^◌, add-one, lit<, ◌<◌, ◌≤◌, Bool, true, false, cond, ltb, List, [], ◌∷◌, length, Option, Some, None, refl, sym, ap, ◌∙◌, arith}
 use Rattle.std.specs.Prelude.{IfSome, nat_lt, nat_le}
 use Rattle.std.specs.List.{list_all}
-use Rattle.std.specs.Char.{digit_value}
+use Rattle.std.specs.Char.{digit_value, is_ascii_digit}
 use Rattle.std.specs.Str.Parse.{AllDigits, digits_value}
 use Rattle.std.proofs.lemmas.Bool.{and_parts, and_from, ltb-true, lt-ltb, leb-true, le-leb}
-use Rattle.std.proofs.Math.Nat.{pow-suc, pow-le-pow_right}
+use Rattle.std.proofs.lemmas.Str.{digit_value_digit}
+use Rattle.std.proofs.lemmas.Str.Parse.{digit_from_value}
 use Rattle.mc_text.specs.Number.{IsDecimal}
 use Rattle.mc_tables.specs.TableWords.{WritesNumber, is_decimal, number_in}
 
@@ -20,28 +21,36 @@ pub guarded_is : {A : Type 0} (b : Bool) (x y : A) → cond b (Some x) None ≡ 
 guarded_is true x y e = (refl, cc)
 guarded_is false x y e = absurd cc
 
-all_digits : (word : List ℕ) → list_all (λ c. nat_lt (digit_value c) 10) word ≡ true → AllDigits 10 word
-all_digits [] e = tt
-all_digits (c ∷ cs) e = let p = and_parts (ltb (digit_value c) 10) _ e in (ltb-true (digit_value c) 10 p.0, all_digits cs p.1)
+digit_small : (c : ℕ) → is_ascii_digit c ≡ true → digit_value c < 10
+digit_small c e =
+    let p = and_parts (nat_le 48 c) (nat_le c 57) e in
+    omega (arith, leb-true 48 c p.0, leb-true c 57 p.1, digit_value_digit c (leb-true 48 c p.0, leb-true c 57 p.1))
 
-digits_pass : (word : List ℕ) → AllDigits 10 word → list_all (λ c. nat_lt (digit_value c) 10) word ≡ true
+digit_passes : (c : ℕ) → digit_value c < 10 → is_ascii_digit c ≡ true
+digit_passes c h = let r = digit_from_value c h in and_from (nat_le 48 c) (nat_le c 57) (le-leb 48 c r.0) (le-leb c 57 r.1)
+
+all_digits : (word : List ℕ) → list_all is_ascii_digit word ≡ true → AllDigits 10 word
+all_digits [] e = tt
+all_digits (c ∷ cs) e = let p = and_parts (is_ascii_digit c) _ e in (digit_small c p.0, all_digits cs p.1)
+
+digits_pass : (word : List ℕ) → AllDigits 10 word → list_all is_ascii_digit word ≡ true
 digits_pass [] h = refl
-digits_pass (c ∷ cs) h = and_from (ltb (digit_value c) 10) _ (lt-ltb (digit_value c) 10 h.0) (digits_pass cs h.1)
+digits_pass (c ∷ cs) h = and_from (is_ascii_digit c) _ (digit_passes c h.0) (digits_pass cs h.1)
 
 pub number_found : (least most : ℕ) (word : List ℕ) (n : ℕ) → number_in least most word ≡ Some n → WritesNumber least most word n
 number_found least most word n e =
     let g = guarded_is _ (digits_value 10 word) n e in
     let p = and_parts (is_decimal word) _ g.0 in
-    let d = and_parts (ltb 0 (length word)) _ p.0 in
+    let d = and_parts (nat_le 1 (length word)) _ p.0 in
     let r = and_parts (nat_le least (digits_value 10 word)) _ p.1 in
     let low : least ≤ digits_value 10 word = leb-true _ _ r.0 in
     let high : digits_value 10 word ≤ most = leb-true _ _ r.1 in
-    (((ltb-true 0 (length word) d.0, all_digits word d.1), g.1), omega (arith, g.1), omega (arith, g.1))
+    (((leb-true 1 (length word) d.0, all_digits word d.1), g.1), omega (arith, g.1), omega (arith, g.1))
 
 pub number_only : (least most : ℕ) (word : List ℕ) (n : ℕ) → WritesNumber least most word n → number_in least most word ≡ Some n
 number_only least most word n h =
     let is = h.0.1 in
-    let d : is_decimal word ≡ true = and_from (ltb 0 (length word)) _ (lt-ltb 0 (length word) h.0.0.0) (digits_pass word h.0.0.1) in
+    let d : is_decimal word ≡ true = and_from (nat_le 1 (length word)) _ (le-leb 1 (length word) h.0.0.0) (digits_pass word h.0.0.1) in
     let low : nat_le least (digits_value 10 word) ≡ true = le-leb _ _ (omega (arith, is, h.1)) in
     let high : nat_le (digits_value 10 word) most ≡ true = le-leb _ _ (omega (arith, is, h.2)) in
     rw (d, low, high) (ap Some is)
@@ -50,14 +59,3 @@ number_only least most word n h =
 pub number_none : (least most : ℕ) (word : List ℕ) (decimal : Option ℕ) → decimal ≡ None → ((n : ℕ) → IsDecimal word n → n ≤ most → decimal ≡ Some n) → None ≡ number_in least most word
 number_none least most word decimal none only =
     option_from_clauses (WritesNumber least most word) None (number_in least most word) tt (λ n h. sym none ∙ only n h.0 h.2) (number_found least most word) (number_only least most word)
-
--- ---- hexadecimal digits one after the other
-
-pub hexadecimal_fits : (value i : ℕ) → value < 16 ^ i → i < 8 → value * 16 + 15 < 2 ^ 32
-hexadecimal_fits value i small few =
-    let most : 16 ^ i ≤ 16 ^ 7 = pow-le-pow_right (lit< tt) (let le : i ≤ 7 = omega arith in le) in
-    omega (arith, most)
-
-pub hexadecimal_grows : (value digit i : ℕ) → value < 16 ^ i → digit ≤ 15 → value * 16 + digit < 16 ^ (i + 1)
-hexadecimal_grows value digit i small le =
-    rw (add-one, pow-suc) (omega arith)

@@ -1,53 +1,48 @@
 -- Reading a text of /proc/net/ip_mr_cache from its front: its table, or the first fault.
-use Rattle.std.specs.Prelude.{ℕ, ◌==◌, nat_lt, Bool, not, if◌then◌else◌, List, [], ◌∷◌, length, insert, Option, Some, None, Result, Ok, Err, codes}
+use Rattle.std.specs.Prelude.{ℕ, ◌==◌, nat_eq, nat_lt, Bool, not, if◌then◌else◌, List, [], ◌∷◌, length, map, Option, Some, None, Result, Ok, Err, codes}
 use Rattle.std.specs.Option.{ok_or}
-use Rattle.std.specs.List.{list_any, filter_map, slice_split, position_or_len}
+use Rattle.std.specs.List.{list_any, filter_map, slice_split}
+use Rattle.std.specs.FinMap.{from_entries}
 use Rattle.std.specs.Str.{bytes_eq}
 use Rattle.mc_text.specs.declared.addr.Order.{Order}
 use Rattle.mc_text.specs.Lines.{LineText}
 use Rattle.mc_text.specs.Words.{words_of}
 use Rattle.mc_tables.specs.declared.entry.Oif.{Oif}
 use Rattle.mc_tables.specs.declared.entry.Entry.{Entry}
-use Rattle.mc_tables.specs.declared.cache_row.CacheRow.{CacheRow}
 use Rattle.mc_tables.specs.declared.fault.TableFault.{TableFault}
 use Rattle.mc_tables.specs.declared.fault.TableFaultKind.{TableFaultKind}
 use Rattle.mc_tables.specs.declared.fault.TableFaultKind.TheVariants.{Unended, WordCount, BadCounter, BadAddress, BadIif, BadOif, BadThreshold, RepeatedOif, RepeatedEntry, TooLarge}
 use Rattle.mc_tables.specs.Steps.{◌>>=◌, demand, at_line}
 use Rattle.mc_tables.specs.TableWords.{is_counter, number_in, address_in}
 use Rattle.mc_tables.specs.TableLines.{is_among, lines_in, rows_after}
-use Rattle.mc_tables.specs.CacheTable.{CacheText, same_key, key_of, table_of}
+use Rattle.mc_tables.specs.CacheTable.{RowText, CacheText, by_vif, same_key, key_of, table_of}
 
 -- ---- the outgoing words
 
 -- the parts of the word round its colons, of which there has to be one
-unfoldable pub oif_in_parts : List (List ℕ) → Result Oif TableFaultKind
+unfoldable pub oif_in_parts : List (List ℕ) → Result (ℕ × ℕ) TableFaultKind
 oif_in_parts (vif ∷ threshold ∷ []) = do
   v ← ok_or (number_in 0 31 vif) BadOif
   t ← ok_or (number_in 1 254 threshold) BadThreshold
-  Ok (record { vif = v; threshold = t })
+  Ok (v, t)
 oif_in_parts parts = Err BadOif
 
-abbrev pub oif_in : List ℕ → Result Oif TableFaultKind
+abbrev pub oif_in : List ℕ → Result (ℕ × ℕ) TableFaultKind
 oif_in word = oif_in_parts (slice_split (λ b. b == 58) word)
 
--- an earlier outgoing vif is this one
-abbrev pub has_vif : List Oif → ℕ → Bool
-has_vif oifs vif = list_any (λ other. other.vif == vif) oifs
+-- an earlier word has the vif
+abbrev pub oif_repeats : List (ℕ × ℕ) → ℕ × ℕ → Bool
+oif_repeats earlier oif = list_any (nat_eq oif.0) (map (λ other. other.0) earlier)
 
--- the outgoing vifs with one more at its place by vif
-abbrev pub with_oif : List Oif → Oif → List Oif
-with_oif oifs oif = insert oifs (position_or_len (λ other. nat_lt oif.vif other.vif) oifs) oif
-
--- the outgoing vifs with that of the word, by ascending vif
-abbrev pub oifs_with : List Oif → List ℕ → Result (List Oif) TableFaultKind
-oifs_with oifs word = do
+abbrev pub oif_after : List (ℕ × ℕ) → List ℕ → Result (ℕ × ℕ) TableFaultKind
+oif_after earlier word = do
   oif ← oif_in word
-  _ ← demand (not (has_vif oifs oif.vif)) RepeatedOif
-  Ok (with_oif oifs oif)
+  _ ← demand (not (oif_repeats earlier oif)) RepeatedOif
+  Ok oif
 
-abbrev pub oifs_after : List Oif → List (List ℕ) → Result (List Oif) TableFaultKind
-oifs_after oifs [] = Ok oifs
-oifs_after oifs (word ∷ words) = oifs_with oifs word >>= λ more. oifs_after more words
+-- the outgoing vifs, which are read in the order of the words, by ascending vif
+abbrev pub oifs_in : List (List ℕ) → Result (List Oif) TableFaultKind
+oifs_in words = rows_after oif_after [] words >>= λ told. Ok (by_vif (from_entries told))
 
 -- ---- a line
 
@@ -62,10 +57,10 @@ incoming_in word = if bytes_eq word (codes "-1") then Ok None else incoming_numb
 abbrev pub entry_in : Option ℕ → List (List ℕ) → Result (Option Entry) TableFaultKind
 entry_in None [] = Ok None
 entry_in None (word ∷ words) = Err BadOif
-entry_in (Some iif) words = oifs_after [] words >>= λ oifs. Ok (Some (record { iif = iif; oifs = oifs }))
+entry_in (Some iif) words = oifs_in words >>= λ oifs. Ok (Some (record { iif = iif; oifs = oifs }))
 
 -- the words from the left
-unfoldable pub row_in_words : Order → List (List ℕ) → Result CacheRow TableFaultKind
+unfoldable pub row_in_words : Order → List (List ℕ) → Result RowText TableFaultKind
 row_in_words order (group ∷ origin ∷ iif ∷ packets ∷ bytes ∷ wrong ∷ outgoing) = do
   g ← ok_or (address_in order group) BadAddress
   o ← ok_or (address_in order origin) BadAddress
@@ -78,10 +73,10 @@ row_in_words order (group ∷ origin ∷ iif ∷ packets ∷ bytes ∷ wrong ∷
 row_in_words order words = Err WordCount
 
 -- an earlier row has the source and the group
-abbrev pub entry_repeats : List CacheRow → CacheRow → Bool
+abbrev pub entry_repeats : List RowText → RowText → Bool
 entry_repeats earlier row = is_among same_key (key_of row) (filter_map key_of earlier)
 
-unfoldable pub row_in_line : Order → List CacheRow → LineText → Result CacheRow TableFaultKind
+unfoldable pub row_in_line : Order → List RowText → LineText → Result RowText TableFaultKind
 row_in_line order earlier line = do
   _ ← demand line.ended Unended
   _ ← demand (nat_lt (length earlier) 65536) TooLarge
@@ -89,13 +84,13 @@ row_in_line order earlier line = do
   _ ← demand (not (entry_repeats earlier row)) RepeatedEntry
   Ok row
 
-abbrev pub row_at : Order → List CacheRow → LineText → Result CacheRow TableFault
+abbrev pub row_at : Order → List RowText → LineText → Result RowText TableFault
 row_at order earlier line = at_line line.number (row_in_line order earlier line)
 
 -- ---- the text
 
 -- the rows in the order of the lines
-abbrev pub cache_rows_in : Order → List ℕ → Result (List CacheRow) TableFault
+abbrev pub cache_rows_in : Order → List ℕ → Result (List RowText) TableFault
 cache_rows_in order text = lines_in (codes "Group") text >>= rows_after (row_at order) []
 
 abbrev pub cache_in : Order → List ℕ → Result CacheText TableFault

@@ -1,7 +1,8 @@
 -- What a text of /proc/net/ip_mr_cache says (ipmr_mfc_seq_show in net/ipv4/ipmr.c, which writes a line by
 -- "%08X %08X %-3hd", " %8lu %8lu %8lu" and for each outgoing vif " %2d:%-3d").
 use Rattle.std.specs.Prelude.{◌≡◌, ℕ, ◌≤◌, ◌==◌, nat_eq, Bool, IsTrue, List, [], ◌∷◌, ◌++◌, length, map as map_list, Option, Some, None, if◌then◌else◌, codes, refl}
-use Rattle.std.specs.List.{IsDistinct, filter_map}
+use Rattle.std.specs.List.{IsDistinct, AllByRecursion, filter_map}
+use Rattle.std.specs.List.Sorted.{IsStrictlyIncreasing}
 use Rattle.std.specs.Option.{option_map}
 use Rattle.std.specs.Ordering.{nat_cmp, ordering_then, eq_by_cmp}
 use Rattle.std.specs.declared.cmp.Ordering.{Ordering}
@@ -13,7 +14,6 @@ use Rattle.mc_text.specs.Lines.{LineText}
 use Rattle.mc_text.specs.Words.{words_of}
 use Rattle.mc_tables.specs.declared.entry.Oif.{Oif}
 use Rattle.mc_tables.specs.declared.entry.Entry.{Entry}
-use Rattle.mc_tables.specs.declared.cache_row.CacheRow.{CacheRow}
 use Rattle.mc_tables.specs.TableWords.{is_counter, WritesNumber, WritesAddress}
 use Rattle.mc_tables.specs.TableLines.{HasHeader, EachTells}
 
@@ -46,8 +46,14 @@ abbrev pub WriteEntry : List ℕ → List (List ℕ) → Option Entry → Type 0
 WriteEntry iif outgoing None = (iif ≡ codes "-1") × (outgoing ≡ [])
 WriteEntry iif outgoing (Some entry) = WritesNumber 0 31 iif entry.iif × WriteOifs outgoing entry.oifs
 
+-- a row: a group, an origin, which is 0 in a row for every source, and an entry unless the row is unresolved
+pub record RowText : Type 0 where
+  pub group : ℕ
+  pub origin : ℕ
+  pub entry : Option Entry
+
 -- Words tell a row: group, origin, incoming vif, packets, bytes, packets from a wrong vif, and the outgoing vifs.
-abbrev pub WordsTellRow : Order → List (List ℕ) → CacheRow → Type 0
+abbrev pub WordsTellRow : Order → List (List ℕ) → RowText → Type 0
 WordsTellRow order (group ∷ origin ∷ iif ∷ packets ∷ bytes ∷ wrong ∷ outgoing) row =
     WritesAddress order group row.group × WritesAddress order origin row.origin
     × IsTrue (is_counter packets) × IsTrue (is_counter bytes) × IsTrue (is_counter wrong)
@@ -55,7 +61,7 @@ WordsTellRow order (group ∷ origin ∷ iif ∷ packets ∷ bytes ∷ wrong ∷
 WordsTellRow order words row = ⊥
 
 -- a line that a line feed ends
-pub record LineTellsRow (order : Order) (line : LineText) (row : CacheRow) : Type 0 where
+pub record LineTellsRow (order : Order) (line : LineText) (row : RowText) : Type 0 where
   pub ended : IsTrue line.ended
   pub words : WordsTellRow order (words_of line.bytes) row
 
@@ -69,18 +75,18 @@ abbrev pub same_key : ℕ × ℕ → ℕ × ℕ → Bool
 same_key = eq_by_cmp key_cmp
 
 -- the source, the group and the entry of a resolved row whose source isn't 0.0.0.0
-abbrev pub exact_entry : CacheRow → Option ((ℕ × ℕ) × Entry)
+abbrev pub exact_entry : RowText → Option ((ℕ × ℕ) × Entry)
 exact_entry row = if row.origin == 0 then None else option_map (λ entry. ((row.origin, row.group), entry)) row.entry
 
-abbrev pub key_of : CacheRow → Option (ℕ × ℕ)
+abbrev pub key_of : RowText → Option (ℕ × ℕ)
 key_of row = option_map (λ exact. exact.0) (exact_entry row)
 
 -- the group of a resolved row for every source
-abbrev pub wildcard_of : CacheRow → Option ℕ
+abbrev pub wildcard_of : RowText → Option ℕ
 wildcard_of row = if row.origin == 0 then option_map (λ _. row.group) row.entry else None
 
 -- a text of these rows, in the order of its lines
-pub record AreCacheRows (order : Order) (text : List ℕ) (rows : List CacheRow) : Type 0 where
+pub record AreCacheRows (order : Order) (text : List ℕ) (rows : List RowText) : Type 0 where
   pub lines : List LineText
   pub header : HasHeader (codes "Group") text lines
   pub told : EachTells (LineTellsRow order) lines rows
@@ -94,12 +100,19 @@ pub record CacheText : Type 0 where
   pub entries : map.FinMap key_cmp Entry
   pub wildcards : set.FinSet nat_cmp
 
-abbrev pub table_of : List CacheRow → CacheText
+abbrev pub table_of : List RowText → CacheText
 table_of rows = record { entries = map.from_entries (filter_map exact_entry rows); wildcards = set.from_list (filter_map wildcard_of rows) }
+
+-- What each entry of a table is: vifs from 0 to 31, of which the outgoing ones ascend, so that none stands twice, and
+-- thresholds from 1 to 254.
+pub record IsEntry (entry : Entry) : Type 0 where
+  pub incoming : entry.iif ≤ 31
+  pub ascending : IsStrictlyIncreasing (map_list (λ oif. oif.vif) entry.oifs)
+  pub ranges : AllByRecursion (λ oif. (oif.vif ≤ 31) × (1 ≤ oif.threshold) × (oif.threshold ≤ 254)) entry.oifs
 
 -- a text stands for a table
 pub record StandsForCache (order : Order) (text : List ℕ) (table : CacheText) : Type 0 where
-  pub rows : List CacheRow
+  pub rows : List RowText
   pub lines : AreCacheRows order text rows
   pub as_table : table ≡ table_of rows
 
@@ -114,13 +127,3 @@ abbrev pub cache_code : Coded CacheText
 cache_code =
     code_by (map.FinMap key_cmp Entry × set.FinSet nat_cmp) (coded× (map.code (coded× coded_ℕ coded_ℕ) entry_code) (set.code coded_ℕ))
     (λ t. (t.entries, t.wildcards)) (λ p. record { entries = p.0; wildcards = p.1 }) (λ _. refl)
-
--- ---- the look-up of one row
-
--- the entry, if it is this key's
-abbrev pub entry_of_key : ℕ × ℕ → Option ((ℕ × ℕ) × Entry) → Option Entry
-entry_of_key key None = None
-entry_of_key key (Some exact) = if same_key key exact.0 then Some exact.1 else None
-
-abbrev pub entry_at : ℕ × ℕ → CacheRow → Option Entry
-entry_at key row = entry_of_key key (exact_entry row)

@@ -8,6 +8,8 @@ pub mod VifWords
 pub mod VifLookups
 pub mod CacheTable
 pub mod CacheReading
+pub mod OutgoingSteps
+pub mod RowLookups
 pub mod CacheWords
 pub use Rattle.mc_text.specs.Addr
 pub use Rattle.mc_text.specs.AddressWord

@@ -32,10 +32,10 @@ is_hexadecimal least most word = (nat_le least (length word) && nat_le (length w
 abbrev pub WritesNumber : ℕ → ℕ → List ℕ → ℕ → Type 0
 WritesNumber least most word n = IsDecimal word n × (least ≤ n) × (n ≤ most)
 
--- the number that it writes
 abbrev pub is_decimal : List ℕ → Bool
-is_decimal word = nat_lt 0 (length word) && list_all (λ c. nat_lt (digit_value c) 10) word
+is_decimal word = nat_le 1 (length word) && list_all is_ascii_digit word
 
+-- the number that it writes
 abbrev pub number_in : ℕ → ℕ → List ℕ → Option ℕ
 number_in least most word =
     if is_decimal word && (nat_le least (digits_value 10 word) && nat_le (digits_value 10 word) most) then Some (digits_value 10 word) else None
@@ -46,7 +46,8 @@ number_in least most word =
 abbrev pub is_device_byte : ℕ → Bool
 is_device_byte b = not ((nat_le 9 b && nat_le b 13) || ((b == 32) || ((b == 47) || (b == 58))))
 
--- a network device's name (dev_valid_name in net/core/dev.c, IFNAMSIZ in linux/if.h)
+-- a device as the profile takes it: 1 to 15 bytes (IFNAMSIZ of linux/if.h), none of those that dev_valid_name
+-- (net/core/dev.c) refuses in ASCII; the kernel also refuses `.` and `..`
 abbrev pub is_device : List ℕ → Bool
 is_device word = (nat_le 1 (length word) && nat_le (length word) 15) && list_all is_device_byte word
 

@@ -1,5 +1,6 @@
 -- What the look-ups of a vif table answer.
-use Rattle.std.specs.Prelude.{◌≡◌, ℕ, List, [], ◌∷◌, Option, Some, None, IsSomeAnd, if◌then◌else◌}
+use Rattle.std.specs.Prelude.{◌≡◌, ℕ, List, find, Option, IsSomeAnd}
+use Rattle.std.specs.Option.{option_map}
 use Rattle.std.specs.Ordering.{nat_cmp}
 use Rattle.std.specs.Str.{bytes_eq}
 use Rattle.std.specs.FinMap.{FinMap, get}
@@ -11,5 +12,4 @@ HasDevice vifs index device = IsSomeAnd (get vifs index) (λ vif. vif.device ≡
 
 -- the index of the first row with this device
 abbrev pub first_index_with : List ℕ → List (ℕ × VifText) → Option ℕ
-first_index_with device [] = None
-first_index_with device (row ∷ rows) = if bytes_eq row.1.device device then Some row.0 else first_index_with device rows
+first_index_with device rows = option_map (λ row. row.0) (find (λ row. bytes_eq row.1.device device) rows)

@@ -12,8 +12,7 @@ use crate::cache_row::CacheRow;
 use crate::entry::{Entry, Oifs};
 use crate::fault::TableFaultKind;
 use crate::outgoing::oifs_of_words;
-use crate::table_words::number;
-use crate::vif_line::{MAX_VIF, check_counter};
+use crate::table_words::{MAX_VIF, check_counter, number};
 use mc_text::{Addr, Order, Words};
 use std::alloc::Global;
 
@@ -64,7 +63,8 @@ fn row_of_words(
     outgoing: Words<'_>,
     order: Order,
 ) -> Result<CacheRow, TableFaultKind>
-    ensures { result ≢ Err Memory → result ≡ row_in_words order (words_before first.now outgoing.entry) }
+    ensures { result ≢ Err Memory →
+        result ≡ row_in_words order (words_before first.now outgoing.entry) }
 {
     let group = address(first.group, order)?;
     let origin = address(first.origin, order)?;
@@ -73,23 +73,13 @@ fn row_of_words(
     check_counter(first.bytes)?;
     check_counter(first.wrong)?;
     let entry = entry_of_words(alloc, iif, outgoing)?;
-    Ok(CacheRow {
-        group,
-        origin,
-        entry,
-    })
+    Ok(CacheRow::new(group, origin, entry))
 }
 
 fn address(word: &[u8], order: Order) -> Result<Addr, TableFaultKind>
     ensures { result ≡ ok_or (address_in order word.now) BadAddress }
 {
-    address_of_word(word, order).ok_or(TableFaultKind::BadAddress)
-}
-
-fn address_of_word(word: &[u8], order: Order) -> Option<Addr>
-    ensures { result ≡ address_in order word.now }
-{
-    Addr::from_hex_word(word, order)
+    Addr::from_hex_word(word, order).ok_or(TableFaultKind::BadAddress)
 }
 
 /// The incoming vif, or None in an unresolved row.

@@ -22,10 +22,10 @@ pub enum TableFaultKind {
     /// (4) The index isn't a number from 0 to 31.
     #[error("BadIndex")]
     BadIndex,
-    /// (5) The word can't be a device's name.
+    /// (5) The device isn't 1 to 15 bytes, none of them 0x09 to 0x0D, a space, `/` or `:`.
     #[error("BadDevice")]
     BadDevice,
-    /// (6) A counter isn't one to twenty digits.
+    /// (6) A counter isn't one to twenty digits, with one `-` before them allowed.
     #[error("BadCounter")]
     BadCounter,
     /// (7) The flags aren't five to eight hexadecimal digits.
@@ -43,7 +43,8 @@ pub enum TableFaultKind {
     /// (11) The incoming vif is neither a number from 0 to 31 nor `-1`.
     #[error("BadIif")]
     BadIif,
-    /// (12) An outgoing word isn't a number from 0 to 31, one colon and a threshold.
+    /// (12) An outgoing word isn't a number from 0 to 31, one colon and a threshold, or the row is
+    /// unresolved.
     #[error("BadOif")]
     BadOif,
     /// (13) A threshold isn't a number from 1 to 254.

@@ -13,12 +13,16 @@ mod table_lines;
 mod table_words;
 mod vif;
 mod vif_line;
+mod vif_row;
 mod vif_table;
 
 pub use cache_table::CacheTable;
 pub use entry::{Entry, Oif, Oifs};
 pub use fault::{TableFault, TableFaultKind};
-pub use laws::{devices_have_one_vif, texts_stand_for_one_table, vifs_are_numbered_to_31};
+pub use laws::{
+    devices_have_one_vif, entries_ascend_in_range, tables_are_read_as_they_stand,
+    texts_stand_for_one_table, vifs_are_numbered_to_31,
+};
 pub use vif::Vif;
 pub use vif_table::VifTable;
 

@@ -1,14 +1,14 @@
 //! The outgoing vifs of a row of `/proc/net/ip_mr_cache`.
 
-ghost use Rattle.std.specs.Prelude.{◌≡◌, ◌≢◌, ◌==◌, ℕ, [], IfOk, IfErr, OnOk, OnErr, Ok, Err, IfSome, IfNone, nat_lt, ◌∷◌, ◌≤◌, length, position};
+ghost use Rattle.std.specs.Prelude.{◌≡◌, ◌≢◌, ◌==◌, [], IfOk, IfErr, OnOk, Ok, Err, IfSome, IfNone, nat_lt, ◌∷◌, ◌≤◌, length, position};
 ghost use Rattle.std.specs.List.{position_or_len, slice_split};
 ghost use Rattle.mc_tables.specs.declared.fault.TableFaultKind.TheVariants.{Memory};
-ghost use Rattle.mc_tables.specs.CacheReading.{oif_in_parts, oif_in, has_vif, oifs_with, oifs_after};
+ghost use Rattle.mc_tables.specs.CacheReading.{oif_in_parts, oif_in, oifs_in};
+ghost use Rattle.mc_tables.specs.OutgoingSteps.{has_vif, oifs_with};
 
 use crate::entry::Oif;
 use crate::fault::TableFaultKind;
-use crate::table_words::number;
-use crate::vif_line::MAX_VIF;
+use crate::table_words::{MAX_VIF, number};
 use mc_text::Words;
 use std::alloc::Global;
 
@@ -17,8 +17,8 @@ const MAX_THRESHOLD: u8 = 254;
 
 /// Reads the outgoing vifs, and gives them by ascending vif.
 pub fn oifs_of_words(alloc: Global, words: Words<'_>) -> Result<Vec<Oif>, TableFaultKind>
-    ensures found { IfOk result (λ oifs. oifs_after [] words.entry ≡ Ok oifs.items) }
-    ensures fault { IfErr result (λ fault. fault ≢ Memory → oifs_after [] words.entry ≡ Err fault) }
+    ensures found { IfOk result (λ oifs. oifs_in words.entry ≡ Ok oifs.items) }
+    ensures fault { IfErr result (λ fault. fault ≢ Memory → oifs_in words.entry ≡ Err fault) }
 {
     let mut oifs = Vec::new(alloc);
     for word in words {
@@ -30,19 +30,20 @@ pub fn oifs_of_words(alloc: Global, words: Words<'_>) -> Result<Vec<Oif>, TableF
 /// Adds the outgoing vif of a word.
 fn add_oif(oifs: &mut Vec<Oif>, word: &[u8]) -> Result<(), TableFaultKind>
     ensures added { OnOk result (oifs_with oifs.old.items word.now ≡ Ok oifs.new.items) }
-    ensures fault { IfErr result (λ fault. fault ≢ Memory → oifs_with oifs.old.items word.now ≡ Err fault) }
+    ensures fault { IfErr result (λ fault. fault ≢ Memory →
+        oifs_with oifs.old.items word.now ≡ Err fault) }
 {
-    let oif = oif_of_word(word)?;
-    if has_oif(oifs.as_slice(), oif.vif) {
+    let (vif, threshold) = oif_of_word(word)?;
+    if has_oif(oifs.as_slice(), vif) {
         return Err(TableFaultKind::RepeatedOif);
     }
-    let place = place_of(oifs.as_slice(), oif.vif);
-    oifs.insert(place, oif)?;
+    let place = place_of(oifs.as_slice(), vif);
+    oifs.insert(place, Oif { vif, threshold })?;
     Ok(())
 }
 
-/// Reads `n:t`.
-fn oif_of_word(word: &[u8]) -> Result<Oif, TableFaultKind>
+/// Reads `n:t`, an outgoing vif and its threshold.
+fn oif_of_word(word: &[u8]) -> Result<(u8, u8), TableFaultKind>
     ensures { result ≡ oif_in word.now }
 {
     match parts_of(word) {
@@ -52,17 +53,18 @@ fn oif_of_word(word: &[u8]) -> Result<Oif, TableFaultKind>
 }
 
 #[tactic(auto, unfolding(crate::specs::CacheReading::oif_in_parts))]
-fn oif_of_parts(vif: &[u8], threshold: &[u8]) -> Result<Oif, TableFaultKind>
+fn oif_of_parts(vif: &[u8], threshold: &[u8]) -> Result<(u8, u8), TableFaultKind>
     ensures { result ≡ oif_in_parts (vif.now ∷ threshold.now ∷ []) }
 {
     let vif = number(vif, 0, MAX_VIF).ok_or(TableFaultKind::BadOif)?;
     let threshold = number(threshold, 1, MAX_THRESHOLD).ok_or(TableFaultKind::BadThreshold)?;
-    Ok(Oif { vif, threshold })
+    Ok((vif, threshold))
 }
 
 /// The parts before and after the word's colon, if it has one and no other.
 fn parts_of(word: &[u8]) -> Option<(&[u8], &[u8])>
-    ensures found { IfSome result (λ parts. slice_split (λ b. b == 58) word.now ≡ parts.0.now ∷ parts.1.now ∷ []) }
+    ensures found { IfSome result (λ parts.
+        slice_split (λ b. b == 58) word.now ≡ parts.0.now ∷ parts.1.now ∷ []) }
     ensures only { IfNone result (length (slice_split (λ b. b == 58) word.now) ≢ 2) }
 {
     let colon = first_colon(word)?;

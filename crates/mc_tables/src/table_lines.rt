@@ -1,7 +1,6 @@
 //! A kernel's table line by line: its header, and the lines after it.
 
 ghost use Rattle.std.specs.Prelude.{◌≡◌};
-ghost use Rattle.mc_text.specs.LineView.{line_text};
 ghost use Rattle.mc_tables.specs.TableLines.{begins_with, lines_in};
 ghost use Rattle.mc_text.specs.Words.{words_of};
 

@@ -3,9 +3,15 @@
 ghost use Rattle.std.specs.Prelude.{◌≡◌, ◌&&◌, nat_le, length};
 ghost use Rattle.std.specs.List.{list_all};
 ghost use Rattle.std.specs.Char.{is_ascii_digit, is_ascii_hexdigit};
+ghost use Rattle.mc_tables.specs.declared.fault.TableFaultKind.TheVariants.{BadCounter};
+ghost use Rattle.mc_tables.specs.Steps.{demand};
 ghost use Rattle.mc_tables.specs.TableWords.{unsigned, is_counter, is_hexadecimal, number_in};
 
+use crate::fault::TableFaultKind;
 use mc_text::decimal;
+
+/// The greatest index of a vif (`MAXVIFS` of linux/mroute.h less one).
+pub const MAX_VIF: u8 = 31;
 
 /// Reads a decimal number from `least` to `most`.
 pub fn number(word: &[u8], least: u8, most: u8) -> Option<u8>
@@ -18,8 +24,19 @@ pub fn number(word: &[u8], least: u8, most: u8) -> Option<u8>
     Some(number as u8)
 }
 
+/// Refuses a word that isn't a counter. Its value isn't used.
+pub fn check_counter(word: &[u8]) -> Result<(), TableFaultKind>
+    ensures { result ≡ demand (is_counter word.now) BadCounter }
+{
+    if is_counter_word(word) {
+        Ok(())
+    } else {
+        Err(TableFaultKind::BadCounter)
+    }
+}
+
 /// Whether the word is one to twenty decimal digits, with one `-` before them allowed.
-pub fn is_counter_word(word: &[u8]) -> bool
+fn is_counter_word(word: &[u8]) -> bool
     ensures { result ≡ is_counter word.now }
 {
     let digits = without_minus(word);

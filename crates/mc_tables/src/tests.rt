@@ -1,4 +1,5 @@
 //! What no clause says: worked texts, and texts of a kernel.
 
 mod caches;
+mod kernel;
 mod vifs;

@@ -42,6 +42,7 @@ impl DeviceName {
         }
     }
 
+    /// Its bytes.
     pub fn as_bytes(&self) -> &[u8]
         ensures { result.now ≡ self.now }
     {
@@ -49,7 +50,7 @@ impl DeviceName {
     }
 }
 
-/// Whether a device can have this name.
+/// Whether the word is a device as the profile takes it.
 pub fn is_device_name(word: &[u8]) -> bool
     ensures { result ≡ is_device word.now }
 {
@@ -81,7 +82,8 @@ impl Model for Vif {
 
     ghost Value = { VifText };
 
-    ghost view = { λ vif. record { device = vif.device; tunnel = vif.tunnel; register = vif.register } };
+    ghost view = { λ vif.
+        record { device = vif.device; tunnel = vif.tunnel; register = vif.register } };
 }
 
 /// `VIFF_TUNNEL` of linux/mroute.h.

@@ -1,23 +1,22 @@
 //! One line of `/proc/net/ip_mr_vif`.
 
-ghost use Rattle.std.specs.Prelude.{◌≡◌, ◌≢◌, ◌≤◌, length, IsTrue, IfSome, IfNone};
+ghost use Rattle.std.specs.Prelude.{◌≡◌, ◌≢◌, ◌≤◌, length, IsTrue, IfSome, IfNone, Some};
 ghost use Rattle.std.specs.List.{list_all};
-ghost use Rattle.std.specs.Char.{digit_value, is_ascii_hexdigit};
+ghost use Rattle.std.specs.Char.{is_ascii_hexdigit};
 ghost use Rattle.std.specs.Str.Parse.{digits_value};
 ghost use Rattle.mc_text.specs.Words.{words_of};
-ghost use Rattle.mc_tables.specs.declared.fault.TableFaultKind.TheVariants.{BadCounter, BadAddress};
+ghost use Rattle.mc_tables.specs.declared.fault.TableFaultKind.TheVariants.{BadAddress};
 ghost use Rattle.mc_tables.specs.Steps.{demand};
-ghost use Rattle.mc_tables.specs.TableWords.{is_counter, is_hexadecimal};
+ghost use Rattle.mc_tables.specs.TableWords.{is_hexadecimal};
 ghost use Rattle.mc_tables.specs.VifReading.{device_in, flags_in, vif_in_words};
 ghost use Rattle.mc_tables.specs.VifWords.{word_list};
 
 use crate::fault::TableFaultKind;
-use crate::table_words::{is_counter_word, is_hexadecimal_word, number};
+use crate::table_words::{MAX_VIF, check_counter, is_hexadecimal_word, number};
 use crate::vif::{DeviceName, Vif, is_device_name};
+use crate::vif_row::VifRow;
 use mc_text::Words;
-
-/// The greatest index of a vif (`MAXVIFS` of linux/mroute.h less one).
-pub const MAX_VIF: u8 = 31;
+use std::str;
 
 /// The words of a line, by what they are.
 #[derive(Debug, Drop)]
@@ -34,7 +33,7 @@ pub struct VifWords<'a> {
 }
 
 /// Reads a vif and its index.
-pub fn vif_of_line(line: &[u8]) -> Result<(u8, Vif), TableFaultKind>
+pub fn vif_of_line(line: &[u8]) -> Result<VifRow, TableFaultKind>
     ensures { result ≡ vif_in_words (words_of line.now) }
 {
     match vif_words(line) {
@@ -67,7 +66,7 @@ fn vif_words<'a>(line: &'a [u8]) -> Option<VifWords<'a>>
 }
 
 #[tactic(auto, unfolding(crate::specs::VifReading::vif_in_words))]
-fn vif_of_words(words: &VifWords<'_>) -> Result<(u8, Vif), TableFaultKind>
+fn vif_of_words(words: &VifWords<'_>) -> Result<VifRow, TableFaultKind>
     ensures { result ≡ vif_in_words (word_list words.now) }
 {
     let index = number(words.index, 0, MAX_VIF).ok_or(TableFaultKind::BadIndex)?;
@@ -79,7 +78,10 @@ fn vif_of_words(words: &VifWords<'_>) -> Result<(u8, Vif), TableFaultKind>
     let flags = flags_of_word(words.flags)?;
     check_address(words.local)?;
     check_address(words.remote)?;
-    Ok((index, Vif::new(device, flags)))
+    Ok(VifRow {
+        index,
+        vif: Vif::new(device, flags),
+    })
 }
 
 fn device_name(word: &[u8]) -> Result<DeviceName, TableFaultKind>
@@ -92,24 +94,24 @@ fn device_name(word: &[u8]) -> Result<DeviceName, TableFaultKind>
     }
 }
 
-pub fn check_counter(word: &[u8]) -> Result<(), TableFaultKind>
-    ensures { result ≡ demand (is_counter word.now) BadCounter }
-{
-    if is_counter_word(word) {
-        Ok(())
-    } else {
-        Err(TableFaultKind::BadCounter)
-    }
-}
-
 fn flags_of_word(word: &[u8]) -> Result<u32, TableFaultKind>
     ensures { result ≡ flags_in word.now }
 {
-    if is_hexadecimal_word(word, 5, 8) {
-        Ok(hexadecimal_value(word))
-    } else {
-        Err(TableFaultKind::BadFlags)
+    if !is_hexadecimal_word(word, 5, 8) {
+        return Err(TableFaultKind::BadFlags);
     }
+    hexadecimal(word).ok_or(TableFaultKind::BadFlags)
+}
+
+/// The number that one to eight hexadecimal digits write.
+fn hexadecimal(digits: &[u8]) -> Option<u32>
+    requires some { 1 ≤ length digits.now }
+    requires few { length digits.now ≤ 8 }
+    requires digits { IsTrue (list_all is_ascii_hexdigit digits.now) }
+    ensures { result ≡ Some (digits_value 16 digits.now) }
+{
+    let text = str::from_utf8(digits).ok()?;
+    u32::from_str_radix(text, 16).ok()
 }
 
 /// The address's value isn't used.
@@ -121,31 +123,4 @@ fn check_address(word: &[u8]) -> Result<(), TableFaultKind>
     } else {
         Err(TableFaultKind::BadAddress)
     }
-}
-
-/// The number that at most eight hexadecimal digits write.
-fn hexadecimal_value(digits: &[u8]) -> u32
-    requires few { length digits.now ≤ 8 }
-    requires digits { IsTrue (list_all is_ascii_hexdigit digits.now) }
-    ensures { result ≡ digits_value 16 digits.now }
-{
-    let mut value = 0;
-    for digit in digits {
-        value = value * 16 + digit_of(*digit);
-    }
-    value
-}
-
-fn digit_of(byte: u8) -> u32
-    requires { IsTrue (is_ascii_hexdigit byte) }
-    ensures value { result ≡ digit_value byte }
-    ensures small { result ≤ 15 }
-{
-    let digit = match byte {
-        b'0'..=b'9' => byte - b'0',
-        b'A'..=b'F' => byte - b'A' + 10,
-        b'a'..=b'f' => byte - b'a' + 10,
-        _ => unreachable!(),
-    };
-    u32::from(digit)
 }

@@ -1,23 +1,23 @@
 //! The table of virtual interfaces, `/proc/net/ip_mr_vif`.
 
-ghost use Rattle.std.specs.Prelude.{◌≡◌, ◌≢◌, ℕ, nat_eq, [], IfOk, IfErr, IfSome, Ok, Err, Some};
-ghost use Rattle.std.specs.Option.{option_copied};
+ghost use Rattle.std.specs.Prelude.{◌≡◌, ◌≢◌, ◌≤◌, ℕ, nat_eq, [], IfOk, IfErr, IfSome, IsSome, Ok, Err, Some, find};
+ghost use Rattle.std.specs.Option.{option_copied, option_map};
 ghost use Rattle.std.specs.List.{list_any};
 ghost use Rattle.std.specs.Ordering.{nat_cmp};
 ghost use Rattle.std.specs.Str.{bytes_eq};
 ghost use Rattle.std.specs.FinMap as map;
 ghost use Rattle.mc_text.specs.LineView.{line_text};
-ghost use Rattle.mc_text.specs.Lines.{LineText};
 ghost use Rattle.mc_tables.specs.Memory.{out_of_memory};
 ghost use Rattle.mc_tables.specs.TableLines.{rows_after};
 ghost use Rattle.mc_tables.specs.VifTable.{VifText, no_device, StandsForVifs};
-ghost use Rattle.mc_tables.specs.VifReading.{index_repeats, device_repeats, vif_in_line, vif_at, vif_rows_in, vifs_in};
+ghost use Rattle.mc_tables.specs.VifReading.{index_repeats, device_repeats, vif_in_line, vif_at, vifs_in};
 ghost use Rattle.mc_tables.specs.VifLookups.{HasDevice, first_index_with};
 
 use crate::fault::{TableFault, TableFaultKind};
 use crate::table_lines::lines_after_header;
 use crate::vif::Vif;
 use crate::vif_line::vif_of_line;
+use crate::vif_row::VifRow;
 use mc_text::{Line, Lines};
 use std::alloc::Global;
 use std::marker::Model;
@@ -28,12 +28,12 @@ const NO_DEVICE: &[u8] = b"none";
 /// The vifs of a router, each with its index.
 #[derive(Debug, Drop)]
 pub struct VifTable {
-    vifs: Vec<(u8, Vif)>,
+    vifs: Vec<VifRow>,
 }
 
 impl Model for VifTable {
-    ghost use Rattle.std.specs.Prelude.{nat_eq, map as map_list};
-    ghost use Rattle.std.specs.List.{IsDistinct, filter_map};
+    ghost use Rattle.std.specs.Prelude.{◌≤◌, nat_eq, map as map_list};
+    ghost use Rattle.std.specs.List.{IsDistinct, AllByRecursion, filter_map};
     ghost use Rattle.std.specs.Ordering.{nat_cmp};
     ghost use Rattle.std.specs.Str.{bytes_eq};
     ghost use Rattle.std.specs.Coded.{coded_ℕ};
@@ -46,27 +46,34 @@ impl Model for VifTable {
 
     ghost view = { λ table. map.from_entries table.vifs.items };
 
-    ghost invariant = { λ table. IsDistinct nat_eq (map_list (λ row. row.0) table.vifs.items) × IsDistinct bytes_eq (filter_map device_of table.vifs.items) };
+    ghost invariant = { λ table.
+        IsDistinct nat_eq (map_list (λ row. row.0) table.vifs.items)
+        × IsDistinct bytes_eq (filter_map device_of table.vifs.items)
+        × AllByRecursion (λ row. row.0 ≤ 31) table.vifs.items };
 }
 
 impl VifTable {
-    /// Reads the text of `/proc/net/ip_mr_vif`, at most 16,777,216 bytes. Its lines may come in any
-    /// order of indexes.
+    /// Reads the text of `/proc/net/ip_mr_vif` (`ipmr_vif_seq_show` in net/ipv4/ipmr.c), at most
+    /// 16,777,216 bytes. Its lines may come in any order of indexes.
     ///
     /// # Errors
     ///
-    /// The text's first fault, or `Memory`.
+    /// `TooLarge` at line 0 for a text of more bytes. Else the first fault from the front: of a
+    /// line first `Unended`, then its words from the left, then `RepeatedIndex`, then
+    /// `RepeatedDevice`. Or `Memory`, at line 0.
     pub fn read(alloc: Global, text: &[u8]) -> Result<VifTable, TableFault>
         // What is read is what the text stands for.
         ensures found { IfOk result (StandsForVifs text.now) }
         // What the text stands for is read, unless memory runs out.
-        ensures only { (vifs : map.FinMap nat_cmp VifText) → StandsForVifs text.now vifs → result ≢ Err out_of_memory → result ≡ Ok vifs }
+        ensures only { (vifs : map.FinMap nat_cmp VifText) → StandsForVifs text.now vifs →
+            result ≢ Err out_of_memory → result ≡ Ok vifs }
         // Which fault it is, unless memory runs out.
         ensures fault { result ≢ Err out_of_memory → result ≡ vifs_in text.now }
     {
         VifTable::from_text(alloc, text)
     }
 
+    /// As `read`, by the one clause from which those of `read` follow.
     fn from_text(alloc: Global, text: &[u8]) -> Result<VifTable, TableFault>
         ensures { result ≢ Err out_of_memory → result ≡ vifs_in text.now }
     {
@@ -77,7 +84,9 @@ impl VifTable {
 
     /// The vif of an index.
     pub fn vif(&self, index: u8) -> Option<&Vif>
-        ensures { option_copied result ≡ map.get self.now index }
+        ensures found { option_copied result ≡ map.get self.now index }
+        // The indexes of the table's vifs are 0 to 31.
+        ensures numbered { (i : ℕ) → IsSome (map.get self.now i) → i ≤ 31 }
     {
         vif_with_index(self.vifs.as_slice(), index)
     }
@@ -85,8 +94,10 @@ impl VifTable {
     /// The index of the vif that has this device. There is none for `none`.
     pub fn index_of(&self, device: &[u8]) -> Option<u8>
         ensures found { IfSome result (λ index. HasDevice self.now index device.now) }
+        ensures numbered { IfSome result (λ index. index ≤ 31) }
         ensures no_device { device.now ≡ no_device → result ≡ None }
-        ensures only { (index : ℕ) → device.now ≢ no_device → HasDevice self.now index device.now → result ≡ Some index }
+        ensures only { (index : ℕ) → device.now ≢ no_device →
+            HasDevice self.now index device.now → result ≡ Some index }
     {
         if device == NO_DEVICE {
             return None;
@@ -95,9 +106,10 @@ impl VifTable {
     }
 }
 
-fn vifs_of_lines(alloc: Global, lines: Lines<'_>) -> Result<Vec<(u8, Vif)>, TableFault>
+fn vifs_of_lines(alloc: Global, lines: Lines<'_>) -> Result<Vec<VifRow>, TableFault>
     ensures found { IfOk result (λ vifs. rows_after vif_at [] lines.entry ≡ Ok vifs.items) }
-    ensures fault { IfErr result (λ fault. fault ≢ out_of_memory → rows_after vif_at [] lines.entry ≡ Err fault) }
+    ensures fault { IfErr result (λ fault. fault ≢ out_of_memory →
+        rows_after vif_at [] lines.entry ≡ Err fault) }
 {
     let mut vifs = Vec::new(alloc);
     for line in lines {
@@ -108,7 +120,7 @@ fn vifs_of_lines(alloc: Global, lines: Lines<'_>) -> Result<Vec<(u8, Vif)>, Tabl
 }
 
 /// Reads a line after the earlier vifs.
-fn next_vif(earlier: &[(u8, Vif)], line: &Line<'_>) -> Result<(u8, Vif), TableFault>
+fn next_vif(earlier: &[VifRow], line: &Line<'_>) -> Result<VifRow, TableFault>
     ensures { result ≡ vif_at earlier.now (line_text line.now) }
 {
     match new_vif(earlier, line) {
@@ -118,7 +130,7 @@ fn next_vif(earlier: &[(u8, Vif)], line: &Line<'_>) -> Result<(u8, Vif), TableFa
 }
 
 #[tactic(auto, unfolding(crate::specs::VifReading::vif_in_line))]
-fn new_vif(earlier: &[(u8, Vif)], line: &Line<'_>) -> Result<(u8, Vif), TableFaultKind>
+fn new_vif(earlier: &[VifRow], line: &Line<'_>) -> Result<VifRow, TableFaultKind>
     ensures { result ≡ vif_in_line earlier.now (line_text line.now) }
 {
     if !line.ended {
@@ -134,52 +146,47 @@ fn new_vif(earlier: &[(u8, Vif)], line: &Line<'_>) -> Result<(u8, Vif), TableFau
     Ok(row)
 }
 
-fn repeats_index(earlier: &[(u8, Vif)], row: &(u8, Vif)) -> bool
+fn repeats_index(earlier: &[VifRow], row: &VifRow) -> bool
     ensures { result ≡ index_repeats earlier.now row.now }
 {
-    any_has_index(earlier, row.0)
+    any_has_index(earlier, row.index)
 }
 
-fn any_has_index(vifs: &[(u8, Vif)], index: u8) -> bool
+fn any_has_index(vifs: &[VifRow], index: u8) -> bool
     ensures { result ≡ list_any (λ row. nat_eq index row.0) vifs.now }
 {
-    vifs.iter().any(|row| index == row.0)
+    vifs.iter().any(|row| index == row.index)
 }
 
-fn repeats_device(earlier: &[(u8, Vif)], row: &(u8, Vif)) -> bool
+fn repeats_device(earlier: &[VifRow], row: &VifRow) -> bool
     ensures { result ≡ device_repeats earlier.now row.now }
 {
-    let device = row.1.device();
+    let device = row.vif.device();
     if device == NO_DEVICE {
         return false;
     }
     any_has_device(earlier, device)
 }
 
-fn any_has_device(vifs: &[(u8, Vif)], device: &[u8]) -> bool
+fn any_has_device(vifs: &[VifRow], device: &[u8]) -> bool
     ensures { result ≡ list_any (λ row. bytes_eq row.1.device device.now) vifs.now }
 {
-    vifs.iter().any(|row| row.1.device() == device)
+    vifs.iter().any(|row| row.vif.device() == device)
 }
 
-fn vif_with_index(vifs: &[(u8, Vif)], index: u8) -> Option<&Vif>
-    ensures { option_copied result ≡ map.find nat_cmp index vifs.now }
+fn vif_with_index(vifs: &[VifRow], index: u8) -> Option<&Vif>
+    ensures { option_copied result ≡
+        option_map (λ row. row.1) (find (λ row. nat_eq row.0 index) vifs.now) }
 {
-    for row in vifs {
-        if index == row.0 {
-            return Some(&row.1);
-        }
-    }
-    None
+    vifs.iter()
+        .find(|row| row.index == index)
+        .map(|row| &row.vif)
 }
 
-fn index_with_device(vifs: &[(u8, Vif)], device: &[u8]) -> Option<u8>
+fn index_with_device(vifs: &[VifRow], device: &[u8]) -> Option<u8>
     ensures { result ≡ first_index_with device.now vifs.now }
 {
-    for row in vifs {
-        if row.1.device() == device {
-            return Some(row.0);
-        }
-    }
-    None
+    vifs.iter()
+        .find(|row| row.vif.device() == device)
+        .map(|row| row.index)
 }

@@ -39,7 +39,7 @@ fn reads_a_row(rt: HostRuntime) -> Result<(), Fail> {
     Ok(())
 }
 
-/// Rows of a kernel for one source, for every source, and unresolved ones.
+/// Rows for one source, for every source, and unresolved ones, in an order and with a count of -1 that no kernel prints.
 const MIXED: &[u8] = b"Group    Origin   Iif     Pkts    Bytes    Wrong Oifs
 030201EF 0500000A 31         0 -1 18446744073709551615 31:254 0:1    7:3  
 040201EF 0500000A 0 -1 0 0
@@ -103,10 +103,17 @@ fn answers_by_source_and_group(rt: HostRuntime) -> Result<(), Fail> {
 
 #[test]
 fn refuses_caches(rt: HostRuntime) {
-    let faults: [(&[u8], u32, TableFaultKind); 24] = [
+    let faults: [(&[u8], u32, TableFaultKind); 28] = [
         (b"", 1, TableFaultKind::NoHeader),
         (b"Interface\n", 1, TableFaultKind::NoHeader),
         (b"Group", 1, TableFaultKind::Unended),
+        (b"Interface", 1, TableFaultKind::Unended),
+        (b"Group\nx", 2, TableFaultKind::Unended),
+        (
+            b"Group\nx\n030201EF 0500000A 32 0 0 0\n",
+            2,
+            TableFaultKind::WordCount,
+        ),
         (
             b"Group\n030201EF 0500000A 0 0 0 0 1:1",
             2,
@@ -184,6 +191,11 @@ fn refuses_caches(rt: HostRuntime) {
             TableFaultKind::BadThreshold,
         ),
         (
+            b"Group\n030201EF 0500000A 0 0 0 0 1:1 1:2\n",
+            2,
+            TableFaultKind::RepeatedOif,
+        ),
+        (
             b"Group\n030201EF 0500000A 0 0 0 0 1:1 1:2 x\n",
             2,
             TableFaultKind::RepeatedOif,
@@ -227,7 +239,16 @@ fn has_limits(rt: HostRuntime) -> Result<(), Fail> {
         text.extend_from_slice(b"030201EF 00000000 0 0 0 0\n")?;
     }
     assert!(rt; CacheTable::read(rt.alloc(), text.as_slice(), Order::Little).is_ok());
-    text.extend_from_slice(b"one row more\n")?;
+    text.extend_from_slice(b"one row more")?;
+    let read = CacheTable::read(rt.alloc(), text.as_slice(), Order::Little);
+    assert_eq!(rt;
+        read.err(),
+        Some(TableFault {
+            line: 65_538,
+            kind: TableFaultKind::Unended
+        })
+    );
+    text.push(b'\n')?;
     let read = CacheTable::read(rt.alloc(), text.as_slice(), Order::Little);
     let too_large = TableFaultKind::TooLarge;
     assert_eq!(rt;
@@ -271,27 +292,39 @@ fn gives_vectors_back(rt: HostRuntime) -> Result<(), Fail> {
 
 #[test]
 fn prints_faults(rt: HostRuntime) -> Result<(), Fail> {
-    for (kind, text) in [
-        (TableFaultKind::NoHeader, "line 2: NoHeader"),
-        (TableFaultKind::Unended, "line 2: Unended"),
-        (TableFaultKind::WordCount, "line 2: WordCount"),
-        (TableFaultKind::BadIndex, "line 2: BadIndex"),
-        (TableFaultKind::BadDevice, "line 2: BadDevice"),
-        (TableFaultKind::BadCounter, "line 2: BadCounter"),
-        (TableFaultKind::BadFlags, "line 2: BadFlags"),
-        (TableFaultKind::BadAddress, "line 2: BadAddress"),
-        (TableFaultKind::RepeatedIndex, "line 2: RepeatedIndex"),
-        (TableFaultKind::RepeatedDevice, "line 2: RepeatedDevice"),
-        (TableFaultKind::BadIif, "line 2: BadIif"),
-        (TableFaultKind::BadOif, "line 2: BadOif"),
-        (TableFaultKind::BadThreshold, "line 2: BadThreshold"),
-        (TableFaultKind::RepeatedOif, "line 2: RepeatedOif"),
-        (TableFaultKind::RepeatedEntry, "line 2: RepeatedEntry"),
-        (TableFaultKind::TooLarge, "line 2: TooLarge"),
-        (TableFaultKind::Memory, "line 2: Memory"),
+    for (line, kind, text) in [
+        (2, TableFaultKind::NoHeader, "line 2: NoHeader"),
+        (2, TableFaultKind::Unended, "line 2: Unended"),
+        (2, TableFaultKind::WordCount, "line 2: WordCount"),
+        (2, TableFaultKind::BadIndex, "line 2: BadIndex"),
+        (2, TableFaultKind::BadDevice, "line 2: BadDevice"),
+        (2, TableFaultKind::BadCounter, "line 2: BadCounter"),
+        (2, TableFaultKind::BadFlags, "line 2: BadFlags"),
+        (2, TableFaultKind::BadAddress, "line 2: BadAddress"),
+        (2, TableFaultKind::RepeatedIndex, "line 2: RepeatedIndex"),
+        (2, TableFaultKind::RepeatedDevice, "line 2: RepeatedDevice"),
+        (2, TableFaultKind::BadIif, "line 2: BadIif"),
+        (2, TableFaultKind::BadOif, "line 2: BadOif"),
+        (2, TableFaultKind::BadThreshold, "line 2: BadThreshold"),
+        (2, TableFaultKind::RepeatedOif, "line 2: RepeatedOif"),
+        (2, TableFaultKind::RepeatedEntry, "line 2: RepeatedEntry"),
+        (2, TableFaultKind::TooLarge, "line 2: TooLarge"),
+        (0, TableFaultKind::Memory, "line 0: Memory"),
     ] {
-        let fault = TableFault { line: 2, kind };
+        let fault = TableFault { line, kind };
         assert_eq!(rt; fault.to_string(rt.alloc())?.as_str(), text);
     }
     Ok(())
+}
+
+#[test]
+fn wants_of_memory_have_no_line(rt: HostRuntime) {
+    let refused = Vec::<u8>::with_capacity(rt.alloc(), usize::MAX).err();
+    assert_eq!(rt;
+        refused.map(TableFault::from),
+        Some(TableFault {
+            line: 0,
+            kind: TableFaultKind::Memory
+        })
+    );
 }

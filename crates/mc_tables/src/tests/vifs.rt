@@ -34,8 +34,20 @@ fn reads_vifs(rt: HostRuntime) -> Result<(), Fail> {
     assert_eq!(rt; table.index_of(b"eth0"), Some(0));
     assert_eq!(rt; table.index_of(b"none"), None);
     assert_eq!(rt; table.index_of(b"eth1"), None);
+
+    let table = VifTable::read(rt.alloc(), WITHOUT_DEVICES)?;
+    assert_eq!(rt; table.vif(0).ok_or("no vif")?.device(), b"none".as_slice());
+    assert_eq!(rt; table.vif(1).ok_or("no vif")?.device(), b"none".as_slice());
+    assert!(rt; table.vif(2).is_none());
+    assert_eq!(rt; table.index_of(b"none"), None);
     Ok(())
 }
+
+/// Two vifs without a device.
+const WITHOUT_DEVICES: &[u8] = b"Interface
+0 none 0 0 0 0 00000 00000000 00000000
+1 none 0 0 0 0 00000 00000000 00000000
+";
 
 #[test]
 fn refuses_vif_tables(rt: HostRuntime) {
@@ -148,6 +160,26 @@ fn refuses_vif_tables(rt: HostRuntime) {
             Some(TableFault { line, kind })
         );
     }
+}
+
+#[test]
+fn refuses_a_vif_table_that_is_too_large(rt: HostRuntime) -> Result<(), Fail> {
+    let long = vec![in rt.alloc(); b'\n'; 16_777_217]?;
+    assert_eq!(rt;
+        VifTable::read(rt.alloc(), long.as_slice()).err(),
+        Some(TableFault {
+            line: 0,
+            kind: TableFaultKind::TooLarge
+        })
+    );
+    assert_eq!(rt;
+        VifTable::read(rt.alloc(), &long[1..]).err(),
+        Some(TableFault {
+            line: 1,
+            kind: TableFaultKind::NoHeader
+        })
+    );
+    Ok(())
 }
 
 /// A kernel's table after a device was added by its name and by its index.

@@ -1,0 +1,28 @@
+-- Outgoing vifs that are kept by ascending vif while their words are read.
+use Rattle.std.specs.Prelude.{ℕ, ◌==◌, nat_lt, Bool, not, List, [], ◌∷◌, insert, Result, Ok}
+use Rattle.std.specs.List.{list_any, position_or_len}
+use Rattle.mc_tables.specs.declared.entry.Oif.{Oif}
+use Rattle.mc_tables.specs.declared.fault.TableFaultKind.{TableFaultKind}
+use Rattle.mc_tables.specs.declared.fault.TableFaultKind.TheVariants.{RepeatedOif}
+use Rattle.mc_tables.specs.Steps.{◌>>=◌, demand}
+use Rattle.mc_tables.specs.CacheTable.{to_oif}
+use Rattle.mc_tables.specs.CacheReading.{oif_in}
+
+-- one of them is this one
+abbrev pub has_vif : List Oif → ℕ → Bool
+has_vif oifs vif = list_any (λ other. other.vif == vif) oifs
+
+-- one more at its place by vif
+abbrev pub with_oif : List Oif → ℕ × ℕ → List Oif
+with_oif oifs oif = insert oifs (position_or_len (λ other. nat_lt oif.0 other.vif) oifs) (to_oif oif)
+
+-- that of the word more
+abbrev pub oifs_with : List Oif → List ℕ → Result (List Oif) TableFaultKind
+oifs_with oifs word = do
+  oif ← oif_in word
+  _ ← demand (not (has_vif oifs oif.0)) RepeatedOif
+  Ok (with_oif oifs oif)
+
+abbrev pub oifs_after : List Oif → List (List ℕ) → Result (List Oif) TableFaultKind
+oifs_after oifs [] = Ok oifs
+oifs_after oifs (word ∷ words) = oifs_with oifs word >>= λ more. oifs_after more words

@@ -1,7 +1,7 @@
 //! Why a topology is refused.
 
 ghost use Rattle.std.specs.Prelude.{◌≡◌};
-ghost use Rattle.mc_topology.specs.declared.fault.TopologyFaultKind.TheVariants.{Memory};
+ghost use Rattle.mc_topology.specs.Answer.{out_of_memory};
 
 use std::alloc::{AllocError, AllocFailed};
 use thiserror::Error;
@@ -106,7 +106,7 @@ pub struct TopologyFault {
 }
 
 impl From<AllocError> for TopologyFault {
-    ghost from_gives = { λ _ fault. fault.kind ≡ Memory };
+    ghost from_gives = { λ _ fault. fault ≡ out_of_memory };
 
     fn from(_refused: AllocError) -> TopologyFault {
         TopologyFaultKind::Memory.at(Section::Top, 0)
@@ -114,7 +114,7 @@ impl From<AllocError> for TopologyFault {
 }
 
 impl<T: Drop> From<AllocFailed<T>> for TopologyFault {
-    ghost from_gives = { λ _ fault. fault.kind ≡ Memory };
+    ghost from_gives = { λ _ fault. fault ≡ out_of_memory };
 
     fn from(_refused: AllocFailed<T>) -> TopologyFault {
         TopologyFaultKind::Memory.at(Section::Top, 0)

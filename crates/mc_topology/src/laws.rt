@@ -1,10 +1,20 @@
 //! What follows from the definitions alone, for whoever builds on them.
 
-ghost use Rattle.std.specs.Prelude.{◌≡◌, ℕ, List, Some, option_map, slice_get};
+ghost use Rattle.std.specs.Prelude.{◌≡◌, ◌↔◌, ℕ, List, Some, Ok, option_map, slice_get};
 ghost use Rattle.mc_topology.specs.Names.{index_of};
+ghost use Rattle.mc_topology.specs.Reading.{reading_of};
 ghost use Rattle.mc_topology.specs.Routers.{router_no_of};
 ghost use Rattle.mc_topology.specs.Stands.{TopologyStands};
 ghost use Rattle.mc_topology.specs.Topology.{TopologyValue};
+
+/// Reading gives a topology exactly where the text stands for it, so a text stands for one topology at
+/// most.
+pub fn topologies_are_read_as_they_stand()
+    ensures read { (text : List ℕ) (t : TopologyValue) →
+        ((reading_of text ≡ Ok t) ↔ TopologyStands text t) }
+    ensures once { (text : List ℕ) (t u : TopologyValue) → TopologyStands text t →
+        TopologyStands text u → t ≡ u }
+{}
 
 /// The name of a LAN's number is that of the LAN, and the number of a LAN's name is that of the LAN:
 /// `lan_no` and `lan_name` undo each other.

@@ -94,7 +94,7 @@ impl Topology {
         // A text that stands for a topology is read as that, unless memory runs out.
         ensures only { (t : TopologyValue) → TopologyStands text.now t → Gives (λ x. x) result (Ok t) }
         // Which fault it is.
-        ensures exact { Gives (λ x. x) result (reading_of text.now) }
+        ensures fault { Gives (λ x. x) result (reading_of text.now) }
     {
         reading_of(alloc, text)
     }

@@ -20,7 +20,7 @@ get-found key interfaces = finite.get-from_entries nat_list_cmp_total (map inter
 same_key : (key other : List ℕ) → eq_by_cmp (slice_cmp nat_cmp) key other ≡ bytes_eq key other
 same_key key other = is_eq-slice_cmp key other
 
-found_one : (key : List ℕ) (i : Interface) (more : List Interface) (b : Bool) → bytes_eq key (interface_key i.router i.device) ≡ b → found key (i ∷ more) ≡ cond b (Some i.lan) (found key more)
+pub found_one : (key : List ℕ) (i : Interface) (more : List Interface) (b : Bool) → bytes_eq key (interface_key i.router i.device) ≡ b → found key (i ∷ more) ≡ cond b (Some i.lan) (found key more)
 found_one key i more b e = rw (same_key key (interface_key i.router i.device), e) refl
 
 -- the interface at a place, and those after it

@@ -1,9 +1,10 @@
 -- What a topology is.
-use Rattle.std.specs.Prelude.{◌≡◌, ℕ, ◌≤◌, Bool, true, false, List, ◌∷◌, length, map, refl}
+use Rattle.std.specs.Prelude.{◌≡◌, ℕ, ◌<◌, ◌≤◌, Bool, true, false, List, ◌∷◌, length, map, refl, Some, slice_get}
 use Rattle.std.specs.Cmp.Lexicographic.{slice_cmp}
 use Rattle.std.specs.Coded.{Coded, code_by, coded×, coded_bool, coded_ℕ, coded_list}
 use Rattle.std.specs.FinMap as finite
 use Rattle.std.specs.Ordering.{nat_cmp}
+use Rattle.mc_text.specs.Addr.{IsAddr, IsSource, IsForwardedGroup}
 use Rattle.mc_text.specs.declared.addr.Order.{Order}
 use Rattle.mc_text.specs.declared.addr.Order.TheVariants.{Little, Big}
 use Rattle.mc_topology.specs.declared.flow.Flow.{Flow}
@@ -40,15 +41,56 @@ interface_entry i = (interface_key i.router i.device, i.lan)
 abbrev pub lan_by_interface : List Interface → LanByInterface
 lan_by_interface interfaces = finite.from_entries (map interface_entry interfaces)
 
+-- the topology of these LANs, routers, interfaces and flows
+abbrev pub topology_with : List (List ℕ) → List Router → List Interface → List Flow → TopologyValue
+topology_with lans routers interfaces flows = record { lans = lans; routers = routers; interfaces = lan_by_interface interfaces; flows = flows }
+
 -- the topology that the sections make
 abbrev pub topology_of : Sections → TopologyValue
-topology_of s = record { lans = s.lans; routers = s.routers; interfaces = lan_by_interface s.interfaces; flows = s.flows }
+topology_of s = topology_with s.lans s.routers s.interfaces s.flows
 
--- the limits that a topology keeps
-pub record IsWithinLimits (lans : List (List ℕ)) (routers : List Router) (flows : List Flow) : Type 0 where
-  pub few_lans : length lans ≤ 1024
-  pub few_routers : length routers ≤ 256
-  pub few_flows : length flows ≤ 4096
+-- What tells two rows of a section apart: the name of a LAN and of a router,
+abbrev pub lan_key : List ℕ → List ℕ
+lan_key name = name
+
+abbrev pub router_key : Router → List ℕ
+router_key r = r.name
+
+-- the router and the device of an interface,
+abbrev pub key_of_interface : Interface → List ℕ
+key_of_interface i = interface_key i.router i.device
+
+-- the address of a source,
+abbrev pub source_key : Source → ℕ
+source_key s = s.address
+
+-- and the source and the group of a flow
+abbrev pub flow_key : Flow → ℕ × ℕ
+flow_key f = (f.source, f.group)
+
+-- no two places of the list hold items of one key
+abbrev pub AreDistinctBy : {X K : Type 0} → (X → K) → List X → Type 0
+AreDistinctBy {X} {K} key xs = (i j : ℕ) (x y : X) → slice_get xs i ≡ Some x → slice_get xs j ≡ Some y → key x ≡ key y → i ≡ j
+
+-- a flow from a host that may send, on one of the LANs, to a group that routers forward, with a time to live of 1 to 255
+pub record IsFlowAmong (lans : List (List ℕ)) (f : Flow) : Type 0 where
+  pub lan : f.lan < length lans
+  pub is_address : IsAddr f.source
+  pub may_send : IsSource f.source
+  pub is_group : IsForwardedGroup f.group
+  pub ttl_from : 1 ≤ f.ttl
+  pub ttl_to : f.ttl ≤ 255
+
+-- What every topology keeps: at most 1,024 LANs and 256 routers, no two of one name, each interface on one of the LANs, and 1 to 4,096 flows.
+pub record IsTopology (t : TopologyValue) : Type 0 where
+  pub few_lans : length t.lans ≤ 1024
+  pub few_routers : length t.routers ≤ 256
+  pub some_flow : 0 < length t.flows
+  pub few_flows : length t.flows ≤ 4096
+  pub lan_names : AreDistinctBy lan_key t.lans
+  pub router_names : AreDistinctBy router_key t.routers
+  pub interface_lans : (router lan : ℕ) (device : List ℕ) → finite.get t.interfaces (interface_key router device) ≡ Some lan → lan < length t.lans
+  pub flows_among : (n : ℕ) (f : Flow) → slice_get t.flows n ≡ Some f → IsFlowAmong t.lans f
 
 -- a topology is stored as the tuple of its fields, and so are a router and a flow
 abbrev pub is_big : Order → Bool

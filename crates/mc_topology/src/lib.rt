@@ -24,7 +24,7 @@ pub use fault::{Section, TopologyFault, TopologyFaultKind};
 pub use flow::Flow;
 pub use laws::{
     lan_numbers_and_names_undo_each_other, router_numbers_and_names_undo_each_other,
-    topologies_are_read_as_they_stand,
+    texts_stand_for_topologies, topologies_are_read_as_they_stand,
 };
 pub use number::{LanNo, RouterNo};
 pub use topology::Topology;

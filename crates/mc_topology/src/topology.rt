@@ -1,11 +1,11 @@
 //! A topology and what it answers.
 
-ghost use Rattle.std.specs.Prelude.{◌≡◌, ◌<◌, ◌≤◌, length, Some, option_map, slice_get};
+ghost use Rattle.std.specs.Prelude.{◌≡◌, ◌<◌, ◌≤◌, length, Some, IfSome, option_map, slice_get};
 ghost use Rattle.std.specs.FinMap as finite;
 ghost use Rattle.std.specs.Str.{bytes_eq};
 ghost use Rattle.mc_topology.specs.Names.{index_of};
 ghost use Rattle.mc_topology.specs.Routers.{router_no_of};
-ghost use Rattle.mc_topology.specs.Topology.{interface_key, lan_by_interface, IsWithinLimits};
+ghost use Rattle.mc_topology.specs.Topology.{interface_key, lan_by_interface, topology_with, IsFlowAmong, IsTopology};
 
 use crate::fault::TopologyFault;
 use crate::flow::Flow;
@@ -30,15 +30,16 @@ pub struct Topology {
 }
 
 impl Model for Topology {
-    ghost use Rattle.mc_topology.specs.Topology.{TopologyValue, topology_code, lan_by_interface, IsWithinLimits};
+    ghost use Rattle.mc_topology.specs.Topology.{TopologyValue, topology_code, topology_with, IsTopology};
 
     ghost Value = { TopologyValue };
 
     ghost coded = { topology_code };
 
-    ghost view = { λ s. record { lans = s.lans.items; routers = s.routers.items; interfaces = lan_by_interface s.interfaces.items; flows = s.flows.items } };
+    ghost view = { λ s. topology_with s.lans.items s.routers.items s.interfaces.items s.flows.items };
 
-    ghost invariant = { λ s. IsWithinLimits s.lans.items s.routers.items s.flows.items };
+    ghost invariant = { λ s. IsTopology
+        (topology_with s.lans.items s.routers.items s.interfaces.items s.flows.items) };
 }
 
 /// Whether the interface is that of a router and a device.
@@ -74,8 +75,8 @@ impl Topology {
         interfaces: Vec<Interface>,
         flows: Vec<Flow>,
     ) -> Topology
-        requires { IsWithinLimits lans.items routers.items flows.items }
-        ensures { result ≡ record { lans = lans.items; routers = routers.items; interfaces = lan_by_interface interfaces.items; flows = flows.items } }
+        requires { IsTopology (topology_with lans.items routers.items interfaces.items flows.items) }
+        ensures { result ≡ topology_with lans.items routers.items interfaces.items flows.items }
     {
         Topology {
             lans,
@@ -97,6 +98,13 @@ impl Topology {
         ensures fault { Gives (λ x. x) result (reading_of text.now) }
     {
         reading_of(alloc, text)
+    }
+
+    /// Nothing at run time: that the topology keeps the rules, for the proofs of whoever holds it.
+    pub fn rules(&self)
+        ensures { IsTopology self.now }
+    {
+        let _ = &self.lans;
     }
 
     /// How many LANs there are.
@@ -130,7 +138,8 @@ impl Topology {
 
     /// The LAN on which the interface of a router and a device lies, if the topology names it.
     pub fn lan_of_device(&self, router: RouterNo, device: &[u8]) -> Option<LanNo>
-        ensures { result ≡ finite.get self.now.interfaces (interface_key router device.now) }
+        ensures lan { result ≡ finite.get self.now.interfaces (interface_key router device.now) }
+        ensures listed { IfSome result (λ lan. lan < length self.now.lans) }
     {
         lan_at(&self.interfaces, router, device)
     }
@@ -138,7 +147,8 @@ impl Topology {
     /// A flow by its number.
     pub fn flow(&self, flow: u32) -> &Flow
         requires { flow < length self.now.flows }
-        ensures { slice_get self.now.flows flow ≡ Some result.now }
+        ensures flow { slice_get self.now.flows flow ≡ Some result.now }
+        ensures among { IsFlowAmong self.now.lans result.now }
     {
         &self.flows[flow as usize]
     }
@@ -146,7 +156,8 @@ impl Topology {
     /// The name of a router.
     pub fn router_name(&self, router: RouterNo) -> &str
         requires { router < length self.now.routers }
-        ensures { option_map (λ r. r.name) (slice_get self.now.routers router) ≡ Some result.now }
+        ensures name { option_map (λ r. r.name) (slice_get self.now.routers router) ≡ Some result.now }
+        ensures number { router_no_of result.now self.now.routers ≡ Some router }
     {
         self.routers[router.0 as usize].name.as_str()
     }
@@ -154,7 +165,8 @@ impl Topology {
     /// The name of a LAN.
     pub fn lan_name(&self, lan: LanNo) -> &str
         requires { lan < length self.now.lans }
-        ensures { slice_get self.now.lans lan ≡ Some result.now }
+        ensures name { slice_get self.now.lans lan ≡ Some result.now }
+        ensures number { index_of result.now self.now.lans ≡ Some lan }
     {
         self.lans[lan.0 as usize].as_str()
     }

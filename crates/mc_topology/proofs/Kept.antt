@@ -4,9 +4,7 @@ use Rattle.std.specs.Prelude.{◌==◌, slice_get, find}
 use Rattle.std.specs.Str.{bytes_eq}
 use Rattle.toml.specs.Data.{Data, Members}
 use Rattle.mc_topology.specs.declared.flow.Flow.{Flow}
-use Rattle.mc_topology.specs.declared.interface.Interface.{Interface}
-use Rattle.mc_topology.specs.declared.router.Router.{Router}
-use Rattle.mc_topology.specs.declared.source.Source.{Source}
+use Rattle.mc_topology.specs.Rows.{RouterRow, InterfaceRow, SourceRow}
 use Rattle.mc_topology.specs.Lans.{lans_in}
 use Rattle.mc_topology.specs.Routers.{routers_in}
 use Rattle.mc_topology.specs.Interfaces.{interfaces_in}
@@ -21,7 +19,7 @@ use Rattle.mc_topology.proofs.Whole.{each_length, sections_take}
 
 -- ---- interfaces
 
-listed_first : (i : Interface) (is : List Interface) (key : List ℕ) (lan most : ℕ) (b : Bool) → bytes_eq key (interface_key i.router i.device) ≡ b
+listed_first : (i : InterfaceRow) (is : List InterfaceRow) (key : List ℕ) (lan most : ℕ) (b : Bool) → bytes_eq key (interface_key i.router i.device) ≡ b
     → i.lan < most → (found key is ≡ Some lan → lan < most) → found key (i ∷ is) ≡ Some lan → lan < most
 listed_first i is key lan most true at within later e =
     let same : i.lan ≡ lan = let here = found_one key i is true at in cc in
@@ -29,7 +27,7 @@ listed_first i is key lan most true at within later e =
 listed_first i is key lan most false at within later e = later (sym (found_one key i is false at) ∙ e)
 
 -- the LAN of an interface is one of the LANs
-listed : (lans : List (List ℕ)) (routers : List Router) (ds : List Data) (is : List Interface) (key : List ℕ) (lan : ℕ) → EachStands (IsInterface lans routers) ds is → found key is ≡ Some lan → lan < length lans
+listed : (lans : List (List ℕ)) (routers : List RouterRow) (ds : List Data) (is : List InterfaceRow) (key : List ℕ) (lan : ℕ) → EachStands (IsInterface lans routers) ds is → found key is ≡ Some lan → lan < length lans
 listed lans routers [] [] key lan s e = absurd cc
 listed lans routers [] (i ∷ is) key lan s e = absurd s
 listed lans routers (d ∷ ds) [] key lan s e = absurd s
@@ -39,15 +37,15 @@ listed lans routers (d ∷ ds) (i ∷ is) key lan s e =
 
 -- ---- sources and flows
 
-source_first : (s : Source) (ss : List Source) (address lan most : ℕ) (b : Bool) → s.lan < most → (lan_of_source address ss ≡ Some lan → lan < most)
-    → option_map (λ (x : Source). x.lan) (cond b (Some s) (find (λ x. x.address == address) ss)) ≡ Some lan → lan < most
+source_first : (s : SourceRow) (ss : List SourceRow) (address lan most : ℕ) (b : Bool) → s.lan < most → (lan_of_source address ss ≡ Some lan → lan < most)
+    → option_map (λ (x : SourceRow). x.lan) (cond b (Some s) (find (λ x. x.address == address) ss)) ≡ Some lan → lan < most
 source_first s ss address lan most true within later e =
     let same : s.lan ≡ lan = cc in
     omega (arith, same, within)
 source_first s ss address lan most false within later e = later e
 
 -- the LAN of a source is one of the LANs
-sourced : (lans : List (List ℕ)) (ds : List Data) (ss : List Source) (address lan : ℕ) → EachStands (IsSourceRow lans) ds ss → lan_of_source address ss ≡ Some lan → lan < length lans
+sourced : (lans : List (List ℕ)) (ds : List Data) (ss : List SourceRow) (address lan : ℕ) → EachStands (IsSourceRow lans) ds ss → lan_of_source address ss ≡ Some lan → lan < length lans
 sourced lans [] [] address lan s e = absurd cc
 sourced lans [] (x ∷ ss) address lan s e = absurd s
 sourced lans (d ∷ ds) [] address lan s e = absurd s
@@ -65,7 +63,7 @@ row_at Stands (d ∷ ds) (y ∷ xs) zero x s e =
     (d, subst (Stands d) same s.0)
 row_at Stands (d ∷ ds) (y ∷ xs) (suc n) x s e = row_at Stands ds xs n x s.1 e
 
-flow_kept : (lans : List (List ℕ)) (sources : List Source) (f : Flow) (d : Data) → IsFlow sources d f → ((address lan : ℕ) → lan_of_source address sources ≡ Some lan → lan < length lans) → IsFlowAmong lans f
+flow_kept : (lans : List (List ℕ)) (sources : List SourceRow) (f : Flow) (d : Data) → IsFlow sources d f → ((address lan : ℕ) → lan_of_source address sources ≡ Some lan → lan < length lans) → IsFlowAmong lans f
 flow_kept lans sources f d is within =
     record {
       lan = within f.source f.lan is.lan;

@@ -7,11 +7,9 @@ use Rattle.std.specs.Str.{bytes_eq}
 use Rattle.std.proofs.lemmas.Bool.{and_parts}
 use Rattle.std.proofs.lemmas.Slice.Eq.{bytes_eq-Decides}
 use Rattle.mc_topology.specs.declared.flow.Flow.{Flow}
-use Rattle.mc_topology.specs.declared.interface.Interface.{Interface}
-use Rattle.mc_topology.specs.declared.router.Router.{Router}
-use Rattle.mc_topology.specs.declared.source.Source.{Source}
+use Rattle.mc_topology.specs.Rows.{RouterRow, InterfaceRow, SourceRow}
 use Rattle.mc_topology.specs.Interfaces.{is_at}
-use Rattle.mc_topology.specs.Topology.{lan_key, router_key, key_of_interface, source_key, flow_key}
+use Rattle.mc_topology.specs.Topology.{interface_key, lan_key, router_key, key_of_interface, source_key, flow_key}
 
 abbrev pub same_lan : List ℕ → List ℕ → Bool
 same_lan y x = bytes_eq y x
@@ -19,32 +17,36 @@ same_lan y x = bytes_eq y x
 pub same_lan-Decides : (y x : List ℕ) → Decides (same_lan y x) (lan_key y ≡ lan_key x)
 same_lan-Decides y x = bytes_eq-Decides y x
 
-abbrev pub same_router : Router → Router → Bool
+abbrev pub same_router : RouterRow → RouterRow → Bool
 same_router y x = bytes_eq y.name x.name
 
-pub same_router-Decides : (y x : Router) → Decides (same_router y x) (router_key y ≡ router_key x)
+pub same_router-Decides : (y x : RouterRow) → Decides (same_router y x) (router_key y ≡ router_key x)
 same_router-Decides y x = bytes_eq-Decides y.name x.name
 
-abbrev pub same_interface : Interface → Interface → Bool
+abbrev pub same_interface : InterfaceRow → InterfaceRow → Bool
 same_interface y x = is_at x.router x.device y
 
-pub same_interface-Decides : (y x : Interface) → Decides (same_interface y x) (key_of_interface y ≡ key_of_interface x)
-same_interface-Decides y x = (
+-- an interface is that of a router and a device exactly if it has their key
+pub is_at-Decides : (router : ℕ) (device : List ℕ) (i : InterfaceRow) → Decides (is_at router device i) (key_of_interface i ≡ interface_key router device)
+is_at-Decides router device i = (
   λ e.
-      let (router, device) = and_parts _ _ e in
-      let one : y.router ≡ x.router = (unsigned_Decides y.router x.router).0 router in
-      let other : y.device ≡ x.device = (bytes_eq-Decides y.device x.device).0 device in
+      let (same_router, same_device) = and_parts _ _ e in
+      let one : i.router ≡ router = (unsigned_Decides i.router router).0 same_router in
+      let other : i.device ≡ device = (bytes_eq-Decides i.device device).0 same_device in
       rw (one, other) refl,
   λ e.
-      let one : y.router ≡ x.router = cc in
-      let other : y.device ≡ x.device = cc in
-      rw ((unsigned_Decides y.router x.router).1 one) ((bytes_eq-Decides y.device x.device).1 other),
+      let one : i.router ≡ router = cc in
+      let other : i.device ≡ device = cc in
+      rw ((unsigned_Decides i.router router).1 one) ((bytes_eq-Decides i.device device).1 other),
 )
 
-abbrev pub same_source : Source → Source → Bool
+pub same_interface-Decides : (y x : InterfaceRow) → Decides (same_interface y x) (key_of_interface y ≡ key_of_interface x)
+same_interface-Decides y x = is_at-Decides x.router x.device y
+
+abbrev pub same_source : SourceRow → SourceRow → Bool
 same_source y x = y.address == x.address
 
-pub same_source-Decides : (y x : Source) → Decides (same_source y x) (source_key y ≡ source_key x)
+pub same_source-Decides : (y x : SourceRow) → Decides (same_source y x) (source_key y ≡ source_key x)
 same_source-Decides y x = unsigned_Decides y.address x.address
 
 abbrev pub same_flow : Flow → Flow → Bool

@@ -8,7 +8,7 @@ use Rattle.std.proofs.lemmas.List.Quantifiers.{position-Some}
 use Rattle.std.proofs.lemmas.List.Sums.{position_or_len_is}
 use Rattle.std.proofs.lemmas.Option.{slice_get_within, slice_get-get_or, get_or_from_slice_get}
 use Rattle.std.proofs.lemmas.Slice.Eq.{bytes_eq-Decides}
-use Rattle.mc_topology.specs.declared.router.Router.{Router}
+use Rattle.mc_topology.specs.Rows.{RouterRow}
 use Rattle.mc_topology.specs.Names.{index_of}
 use Rattle.mc_topology.specs.Routers.{router_no_of}
 use Rattle.mc_topology.specs.Topology.{AreDistinctBy, lan_key, router_key}
@@ -48,18 +48,18 @@ lan_within lans lan name e = (position-Some (λ y. bytes_eq y name) lans lan nam
 
 -- ---- routers
 
-named : (o : Option Router) (name : List ℕ) → option_map (λ (r : Router). r.name) o ≡ Some name → (r : Router) × (o ≡ Some r) × (r.name ≡ name)
+named : (o : Option RouterRow) (name : List ℕ) → option_map (λ (r : RouterRow). r.name) o ≡ Some name → (r : RouterRow) × (o ≡ Some r) × (r.name ≡ name)
 named None name e = absurd cc
 named (Some r) name e = (r, refl, cc)
 
-pub number_of_router : (routers : List Router) (router : ℕ) (name : List ℕ) → AreDistinctBy router_key routers → option_map (λ (r : Router). r.name) (slice_get routers router) ≡ Some name → router_no_of name routers ≡ Some router
+pub number_of_router : (routers : List RouterRow) (router : ℕ) (name : List ℕ) → AreDistinctBy router_key routers → option_map (λ (r : RouterRow). r.name) (slice_get routers router) ≡ Some name → router_no_of name routers ≡ Some router
 number_of_router routers router name distinct e =
     let (r, found, called) = named (slice_get routers router) name e in
     subst (λ (n : List ℕ). router_no_of n routers ≡ Some router) called (place_of_name router_key routers router r distinct found)
 
-pub name_of_router : (routers : List Router) (router : ℕ) (name : List ℕ) → router_no_of name routers ≡ Some router → option_map (λ (r : Router). r.name) (slice_get routers router) ≡ Some name
+pub name_of_router : (routers : List RouterRow) (router : ℕ) (name : List ℕ) → router_no_of name routers ≡ Some router → option_map (λ (r : RouterRow). r.name) (slice_get routers router) ≡ Some name
 name_of_router [] router name e = absurd cc
 name_of_router (r ∷ routers) router name e =
     let at = position-Some (λ y. bytes_eq y.name name) (r ∷ routers) router r e in
     let found = slice_get-get_or (r ∷ routers) router r at.0 in
-    ap (option_map (λ (x : Router). x.name)) found ∙ ap Some ((bytes_eq-Decides (get_or (r ∷ routers) router r).name name).0 at.1)
+    ap (option_map (λ (x : RouterRow). x.name)) found ∙ ap Some ((bytes_eq-Decides (get_or (r ∷ routers) router r).name name).0 at.1)

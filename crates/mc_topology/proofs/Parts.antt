@@ -11,9 +11,7 @@ use Rattle.mc_topology.specs.declared.fault.Section.{Section}
 use Rattle.mc_topology.specs.declared.fault.TopologyFaultKind.{TopologyFaultKind}
 use Rattle.mc_topology.specs.declared.fault.TopologyFaultKind.TheVariants.{BadAddress, BadTtl, BadName, UnknownName, RepeatedName, RepeatedInterface, RepeatedFlow}
 use Rattle.mc_topology.specs.declared.flow.Flow.{Flow}
-use Rattle.mc_topology.specs.declared.interface.Interface.{Interface}
-use Rattle.mc_topology.specs.declared.router.Router.{Router}
-use Rattle.mc_topology.specs.declared.source.Source.{Source}
+use Rattle.mc_topology.specs.Rows.{RouterRow, InterfaceRow, SourceRow}
 use Rattle.mc_topology.specs.Addresses.{address_of, is_source, is_forwarded_group, passing, source_address_of, group_address_of}
 use Rattle.mc_topology.specs.Answer.{place, each}
 use Rattle.mc_topology.specs.Document.{table_of, text_of, text_at, number_at, optional_text_at}
@@ -105,7 +103,7 @@ pub lan_again : (earlier : List (List ℕ)) (d : Data) (name : List ℕ) → IsL
 unfolding lan_of
 lan_again earlier d name is new = rw (is.text, is.fits, new) refl
 
-pub router_takes : (earlier : List Router) (d : Data) (r : Router) → router_of earlier d ≡ Ok r → IsRouter d r × (has_router r.name earlier ≡ false)
+pub router_takes : (earlier : List RouterRow) (d : Data) (r : RouterRow) → router_of earlier d ≡ Ok r → IsRouter d r × (has_router r.name earlier ≡ false)
 unfolding router_of
 router_takes earlier d r e =
     let t = bind_ok (table_of router_keys d) _ r e in
@@ -114,8 +112,8 @@ router_takes earlier d r e =
     let fits = refusal_ok (not (is_name name.0)) BadName _ r text.2 in
     let order = bind_ok (order_of text.0) _ r fits.1 in
     let new = refusal_ok (has_router name.0 earlier) RepeatedName _ r order.2 in
-    let made : Router = record { name = name.0; order = order.0 } in
-    subst (λ (x : Router). IsRouter d x × (has_router x.name earlier ≡ false)) (ok_is made r new.1) (
+    let made : RouterRow = record { name = name.0; order = order.0 } in
+    subst (λ (x : RouterRow). IsRouter d x × (has_router x.name earlier ≡ false)) (ok_is made r new.1) (
       record {
         members = t.0;
         is_table = table_of-takes router_keys d t.0 t.1;
@@ -126,13 +124,13 @@ router_takes earlier d r e =
       new.0,
     )
 
-pub router_again : (earlier : List Router) (d : Data) (r : Router) → IsRouter d r → has_router r.name earlier ≡ false → router_of earlier d ≡ Ok r
+pub router_again : (earlier : List RouterRow) (d : Data) (r : RouterRow) → IsRouter d r → has_router r.name earlier ≡ false → router_of earlier d ≡ Ok r
 unfolding router_of
 router_again earlier d r is new =
     let text = optional_order-again (codes "order") is.members r.order is.order in
     rw (table_of-again router_keys d is.members is.is_table, text_at-again (codes "name") is.members r.name is.name, text.1, is.fits, text.2, new) refl
 
-pub interface_takes : (lans : List (List ℕ)) (routers : List Router) (earlier : List Interface) (d : Data) (i : Interface) → interface_of lans routers earlier d ≡ Ok i → IsInterface lans routers d i × (has_interface i.router i.device earlier ≡ false)
+pub interface_takes : (lans : List (List ℕ)) (routers : List RouterRow) (earlier : List InterfaceRow) (d : Data) (i : InterfaceRow) → interface_of lans routers earlier d ≡ Ok i → IsInterface lans routers d i × (has_interface i.router i.device earlier ≡ false)
 unfolding interface_of
 interface_takes lans routers earlier d i e =
     let t = bind_ok (table_of interface_keys d) _ i e in
@@ -143,8 +141,8 @@ interface_takes lans routers earlier d i e =
     let fits = refusal_ok (not (is_device device.0)) BadName _ i router.2 in
     let lan = bind_ok (ok_or (index_of lan_name.0 lans) UnknownName) _ i fits.1 in
     let new = refusal_ok (has_interface router.0 device.0 earlier) RepeatedInterface _ i lan.2 in
-    let made : Interface = record { router = router.0; device = device.0; lan = lan.0 } in
-    subst (λ (x : Interface). IsInterface lans routers d x × (has_interface x.router x.device earlier ≡ false)) (ok_is made i new.1) (
+    let made : InterfaceRow = record { router = router.0; device = device.0; lan = lan.0 } in
+    subst (λ (x : InterfaceRow). IsInterface lans routers d x × (has_interface x.router x.device earlier ≡ false)) (ok_is made i new.1) (
       record {
         members = t.0;
         router_name = router_name.0;
@@ -160,14 +158,14 @@ interface_takes lans routers earlier d i e =
       new.0,
     )
 
-pub interface_again : (lans : List (List ℕ)) (routers : List Router) (earlier : List Interface) (d : Data) (i : Interface) → IsInterface lans routers d i → has_interface i.router i.device earlier ≡ false → interface_of lans routers earlier d ≡ Ok i
+pub interface_again : (lans : List (List ℕ)) (routers : List RouterRow) (earlier : List InterfaceRow) (d : Data) (i : InterfaceRow) → IsInterface lans routers d i → has_interface i.router i.device earlier ≡ false → interface_of lans routers earlier d ≡ Ok i
 unfolding interface_of
 interface_again lans routers earlier d i is new =
     rw
     (table_of-again interface_keys d is.members is.is_table, text_at-again (codes "router") is.members is.router_name is.router_text, text_at-again (codes "device") is.members i.device is.device, text_at-again (codes "lan") is.members is.lan_name is.lan_text, is.router, is.fits, is.lan, new)
     refl
 
-pub source_row_takes : (lans : List (List ℕ)) (earlier : List Source) (d : Data) (s : Source) → source_of lans earlier d ≡ Ok s → IsSourceRow lans d s × (has_source s.address earlier ≡ false)
+pub source_row_takes : (lans : List (List ℕ)) (earlier : List SourceRow) (d : Data) (s : SourceRow) → source_of lans earlier d ≡ Ok s → IsSourceRow lans d s × (has_source s.address earlier ≡ false)
 unfolding source_of
 source_row_takes lans earlier d s e =
     let t = bind_ok (table_of source_keys d) _ s e in
@@ -177,8 +175,8 @@ source_row_takes lans earlier d s e =
     let lan = bind_ok (ok_or (index_of lan_name.0 lans) UnknownName) _ s address.2 in
     let new = refusal_ok (has_source address.0 earlier) RepeatedName _ s lan.2 in
     let at = source_takes text.0 address.0 address.1 in
-    let made : Source = record { address = address.0; lan = lan.0 } in
-    subst (λ (x : Source). IsSourceRow lans d x × (has_source x.address earlier ≡ false)) (ok_is made s new.1) (
+    let made : SourceRow = record { address = address.0; lan = lan.0 } in
+    subst (λ (x : SourceRow). IsSourceRow lans d x × (has_source x.address earlier ≡ false)) (ok_is made s new.1) (
       record {
         members = t.0;
         lan_name = lan_name.0;
@@ -192,14 +190,14 @@ source_row_takes lans earlier d s e =
       new.0,
     )
 
-pub source_row_again : (lans : List (List ℕ)) (earlier : List Source) (d : Data) (s : Source) → IsSourceRow lans d s → has_source s.address earlier ≡ false → source_of lans earlier d ≡ Ok s
+pub source_row_again : (lans : List (List ℕ)) (earlier : List SourceRow) (d : Data) (s : SourceRow) → IsSourceRow lans d s → has_source s.address earlier ≡ false → source_of lans earlier d ≡ Ok s
 unfolding source_of
 source_row_again lans earlier d s is new =
     rw
     (table_of-again source_keys d is.members is.is_table, text_at-again (codes "address") is.members (dotted s.address) is.address, text_at-again (codes "lan") is.members is.lan_name is.lan_text, source_again s.address is.is_address is.may_send, is.lan, new)
     refl
 
-pub flow_takes : (sources : List Source) (earlier : List Flow) (d : Data) (f : Flow) → flow_of sources earlier d ≡ Ok f → IsFlow sources d f × (has_flow f.source f.group earlier ≡ false)
+pub flow_takes : (sources : List SourceRow) (earlier : List Flow) (d : Data) (f : Flow) → flow_of sources earlier d ≡ Ok f → IsFlow sources d f × (has_flow f.source f.group earlier ≡ false)
 unfolding flow_of
 flow_takes sources earlier d f e =
     let t = bind_ok (table_of flow_keys d) _ f e in
@@ -232,7 +230,7 @@ flow_takes sources earlier d f e =
       new.0,
     )
 
-pub flow_again : (sources : List Source) (earlier : List Flow) (d : Data) (f : Flow) → IsFlow sources d f → has_flow f.source f.group earlier ≡ false → flow_of sources earlier d ≡ Ok f
+pub flow_again : (sources : List SourceRow) (earlier : List Flow) (d : Data) (f : Flow) → IsFlow sources d f → has_flow f.source f.group earlier ≡ false → flow_of sources earlier d ≡ Ok f
 unfolding flow_of
 flow_again sources earlier d f is new =
     rw

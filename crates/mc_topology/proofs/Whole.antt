@@ -15,9 +15,7 @@ use Rattle.mc_topology.specs.declared.fault.Section.TheVariants as section
 use Rattle.mc_topology.specs.declared.fault.TopologyFaultKind.{TopologyFaultKind}
 use Rattle.mc_topology.specs.declared.fault.TopologyFaultKind.TheVariants.{NotToml, BadVersion, UnknownKey, NoFlow, TooMany}
 use Rattle.mc_topology.specs.declared.flow.Flow.{Flow}
-use Rattle.mc_topology.specs.declared.interface.Interface.{Interface}
-use Rattle.mc_topology.specs.declared.router.Router.{Router}
-use Rattle.mc_topology.specs.declared.source.Source.{Source}
+use Rattle.mc_topology.specs.Rows.{RouterRow, InterfaceRow, SourceRow}
 use Rattle.mc_topology.specs.Answer.{◌>>=◌, place, each}
 use Rattle.mc_topology.specs.Document.{has_only, rows_in, list_at, number_at, rows_at, optional_list_at}
 use Rattle.mc_topology.specs.Lans.{lan_of, lan_rows, lans_in}
@@ -47,27 +45,27 @@ module _ {X K : Type 0} (name : Section) (word : List ℕ) (most : ℕ) (one : L
   section_again : ((earlier : List X) (d : Data) (x : X) → Stands d x → list_any (λ y. test y x) earlier ≡ false → one earlier d ≡ Ok x) → (ms : Members) (xs : List X) → SectionStands word most Stands key ms xs → (place name 0 (rows_at word most ms) >>= each name one []) ≡ Ok xs
   section_again again ms xs s = rw (rows_at-again word most ms s.rows s.list s.few) (each_again name one Stands key test same again [] s.rows xs s.each s.distinct)
 
-routers_take : (ms : Members) (rs : List Router) → routers_in ms ≡ Ok rs → SectionStands (codes "router") 256 IsRouter router_key ms rs
+routers_take : (ms : Members) (rs : List RouterRow) → routers_in ms ≡ Ok rs → SectionStands (codes "router") 256 IsRouter router_key ms rs
 unfolding routers_in
 routers_take ms rs e = section_takes section.Router (codes "router") 256 router_of IsRouter router_key same_router same_router-Decides router_takes ms rs e
 
-routers_again : (ms : Members) (rs : List Router) → SectionStands (codes "router") 256 IsRouter router_key ms rs → routers_in ms ≡ Ok rs
+routers_again : (ms : Members) (rs : List RouterRow) → SectionStands (codes "router") 256 IsRouter router_key ms rs → routers_in ms ≡ Ok rs
 unfolding routers_in
 routers_again ms rs s = section_again section.Router (codes "router") 256 router_of IsRouter router_key same_router same_router-Decides router_again ms rs s
 
-interfaces_take : (lans : List (List ℕ)) (routers : List Router) (ms : Members) (is : List Interface) → interfaces_in lans routers ms ≡ Ok is → SectionStands (codes "interface") 8192 (IsInterface lans routers) key_of_interface ms is
+interfaces_take : (lans : List (List ℕ)) (routers : List RouterRow) (ms : Members) (is : List InterfaceRow) → interfaces_in lans routers ms ≡ Ok is → SectionStands (codes "interface") 8192 (IsInterface lans routers) key_of_interface ms is
 unfolding interfaces_in
 interfaces_take lans routers ms is e = section_takes section.Interface (codes "interface") 8192 (interface_of lans routers) (IsInterface lans routers) key_of_interface same_interface same_interface-Decides (interface_takes lans routers) ms is e
 
-interfaces_again : (lans : List (List ℕ)) (routers : List Router) (ms : Members) (is : List Interface) → SectionStands (codes "interface") 8192 (IsInterface lans routers) key_of_interface ms is → interfaces_in lans routers ms ≡ Ok is
+interfaces_again : (lans : List (List ℕ)) (routers : List RouterRow) (ms : Members) (is : List InterfaceRow) → SectionStands (codes "interface") 8192 (IsInterface lans routers) key_of_interface ms is → interfaces_in lans routers ms ≡ Ok is
 unfolding interfaces_in
 interfaces_again lans routers ms is s = section_again section.Interface (codes "interface") 8192 (interface_of lans routers) (IsInterface lans routers) key_of_interface same_interface same_interface-Decides (interface_again lans routers) ms is s
 
-sources_take : (lans : List (List ℕ)) (ms : Members) (ss : List Source) → sources_in lans ms ≡ Ok ss → SectionStands (codes "source") 4096 (IsSourceRow lans) source_key ms ss
+sources_take : (lans : List (List ℕ)) (ms : Members) (ss : List SourceRow) → sources_in lans ms ≡ Ok ss → SectionStands (codes "source") 4096 (IsSourceRow lans) source_key ms ss
 unfolding sources_in
 sources_take lans ms ss e = section_takes section.Source (codes "source") 4096 (source_of lans) (IsSourceRow lans) source_key same_source same_source-Decides (source_row_takes lans) ms ss e
 
-sources_again : (lans : List (List ℕ)) (ms : Members) (ss : List Source) → SectionStands (codes "source") 4096 (IsSourceRow lans) source_key ms ss → sources_in lans ms ≡ Ok ss
+sources_again : (lans : List (List ℕ)) (ms : Members) (ss : List SourceRow) → SectionStands (codes "source") 4096 (IsSourceRow lans) source_key ms ss → sources_in lans ms ≡ Ok ss
 unfolding sources_in
 sources_again lans ms ss s = section_again section.Source (codes "source") 4096 (source_of lans) (IsSourceRow lans) source_key same_source same_source-Decides (source_row_again lans) ms ss s
 
@@ -103,7 +101,7 @@ each_length Stands [] (x ∷ xs) s = absurd s
 each_length Stands (d ∷ ds) [] s = absurd s
 each_length Stands (d ∷ ds) (x ∷ xs) s = omega (arith, each_length Stands ds xs s.1)
 
-flows_take : (sources : List Source) (ms : Members) (fs : List Flow) → flows_in sources ms ≡ Ok fs → SectionStands (codes "flow") 4096 (IsFlow sources) flow_key ms fs × (0 < length fs)
+flows_take : (sources : List SourceRow) (ms : Members) (fs : List Flow) → flows_in sources ms ≡ Ok fs → SectionStands (codes "flow") 4096 (IsFlow sources) flow_key ms fs × (0 < length fs)
 unfolding flows_in flow_rows
 flows_take sources ms fs e =
     let a = bind_ok (place section.Flow 0 (flow_rows ms)) (each section.Flow (flow_of sources) []) fs e in
@@ -125,7 +123,7 @@ flows_take sources ms fs e =
       omega (arith, long, ap length same, each_length (IsFlow sources) a.0 fs stand'),
     )
 
-flows_again : (sources : List Source) (ms : Members) (fs : List Flow) → SectionStands (codes "flow") 4096 (IsFlow sources) flow_key ms fs → 0 < length fs → flows_in sources ms ≡ Ok fs
+flows_again : (sources : List SourceRow) (ms : Members) (fs : List Flow) → SectionStands (codes "flow") 4096 (IsFlow sources) flow_key ms fs → 0 < length fs → flows_in sources ms ≡ Ok fs
 unfolding flows_in flow_rows
 flows_again sources ms fs s some =
     let long = each_length (IsFlow sources) s.rows fs s.each in

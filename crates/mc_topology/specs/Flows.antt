@@ -2,7 +2,7 @@
 use Rattle.std.specs.Prelude.{ℕ, ℤ, pos, negsuc, ◌==◌, ◌&&◌, nat_le, List, [], ◌∷◌, length, codes, Bool, Result, Ok, Err, ok_or, if◌then◌else◌}
 use Rattle.std.specs.List.{list_any}
 use Rattle.toml.specs.Data.{Data, Members}
-use Rattle.mc_topology.specs.declared.source.Source.{Source}
+use Rattle.mc_topology.specs.Rows.{SourceRow}
 use Rattle.mc_topology.specs.declared.flow.Flow.{Flow}
 use Rattle.mc_topology.specs.declared.fault.Section.TheVariants as section
 use Rattle.mc_topology.specs.declared.fault.TopologyFaultKind.{TopologyFaultKind}
@@ -26,7 +26,7 @@ ttl_of (negsuc n) = Err BadTtl
 abbrev pub has_flow : ℕ → ℕ → List Flow → Bool
 has_flow source group flows = list_any (λ f. (f.source == source) && (f.group == group)) flows
 
-unfoldable pub flow_of : List Source → List Flow → Data → Result Flow TopologyFaultKind
+unfoldable pub flow_of : List SourceRow → List Flow → Data → Result Flow TopologyFaultKind
 flow_of sources earlier d = do
   table ← table_of flow_keys d
   source_text ← text_at (codes "source") table
@@ -44,7 +44,7 @@ flow_rows ms = do
   rows ← optional_list_at (codes "flow") ms
   if length rows == 0 then Err NoFlow else if nat_le (length rows) 4096 then Ok rows else Err TooMany
 
-unfoldable pub flows_in : List Source → Members → Result (List Flow) TopologyFault
+unfoldable pub flows_in : List SourceRow → Members → Result (List Flow) TopologyFault
 flows_in sources ms = do
   rows ← place section.Flow 0 (flow_rows ms)
   each section.Flow (flow_of sources) [] rows

@@ -6,9 +6,7 @@ use Rattle.mc_text.specs.Addr.{IsAddr, IsSource, IsForwardedGroup, dotted}
 use Rattle.mc_text.specs.declared.addr.Order.{Order}
 use Rattle.mc_text.specs.declared.addr.Order.TheVariants.{Little, Big}
 use Rattle.mc_topology.specs.declared.flow.Flow.{Flow}
-use Rattle.mc_topology.specs.declared.interface.Interface.{Interface}
-use Rattle.mc_topology.specs.declared.router.Router.{Router}
-use Rattle.mc_topology.specs.declared.source.Source.{Source}
+use Rattle.mc_topology.specs.Rows.{RouterRow, InterfaceRow, SourceRow}
 use Rattle.mc_topology.specs.Document.{has_only, rows_in}
 use Rattle.mc_topology.specs.Names.{is_name, is_device, index_of}
 use Rattle.mc_topology.specs.Routers.{router_keys, router_no_of}
@@ -62,7 +60,7 @@ IsOrder None order = order ≡ Little
 IsOrder (Some d) order = d ≡ string (order_text order)
 
 -- a table of a name and a byte order
-pub record IsRouter (d : Data) (r : Router) : Type 0 where
+pub record IsRouter (d : Data) (r : RouterRow) : Type 0 where
   pub members : Members
   pub is_table : IsTable router_keys d members
   pub name : HasText (codes "name") members r.name
@@ -70,7 +68,7 @@ pub record IsRouter (d : Data) (r : Router) : Type 0 where
   pub fits : IsTrue (is_name r.name)
 
 -- a table of the name of a router, a device and the name of a LAN
-pub record IsInterface (lans : List (List ℕ)) (routers : List Router) (d : Data) (i : Interface) : Type 0 where
+pub record IsInterface (lans : List (List ℕ)) (routers : List RouterRow) (d : Data) (i : InterfaceRow) : Type 0 where
   pub members : Members
   pub router_name : List ℕ
   pub lan_name : List ℕ
@@ -83,7 +81,7 @@ pub record IsInterface (lans : List (List ℕ)) (routers : List Router) (d : Dat
   pub lan : index_of lan_name lans ≡ Some i.lan
 
 -- a table of the address of a host that may send, and the name of a LAN
-pub record IsSourceRow (lans : List (List ℕ)) (d : Data) (s : Source) : Type 0 where
+pub record IsSourceRow (lans : List (List ℕ)) (d : Data) (s : SourceRow) : Type 0 where
   pub members : Members
   pub lan_name : List ℕ
   pub is_table : IsTable source_keys d members
@@ -94,7 +92,7 @@ pub record IsSourceRow (lans : List (List ℕ)) (d : Data) (s : Source) : Type 0
   pub lan : index_of lan_name lans ≡ Some s.lan
 
 -- a table of the address of one of the sources, the address of a group that routers forward and a time to live of 1 to 255
-pub record IsFlow (sources : List Source) (d : Data) (f : Flow) : Type 0 where
+pub record IsFlow (sources : List SourceRow) (d : Data) (f : Flow) : Type 0 where
   pub members : Members
   pub is_table : IsTable flow_keys d members
   pub source : HasText (codes "source") members (dotted f.source)

@@ -1,16 +1,12 @@
 -- What a topology is.
-use Rattle.std.specs.Prelude.{◌≡◌, ℕ, ◌<◌, ◌≤◌, Bool, true, false, List, ◌∷◌, length, map, refl, Some, slice_get}
+use Rattle.std.specs.Prelude.{◌≡◌, ℕ, ◌<◌, ◌≤◌, List, ◌∷◌, length, map, refl, Some, slice_get}
 use Rattle.std.specs.Cmp.Lexicographic.{slice_cmp}
-use Rattle.std.specs.Coded.{Coded, code_by, coded×, coded_bool, coded_ℕ, coded_list}
+use Rattle.std.specs.Coded.{Coded, code_by, coded×, coded_ℕ, coded_list}
 use Rattle.std.specs.FinMap as finite
 use Rattle.std.specs.Ordering.{nat_cmp}
 use Rattle.mc_text.specs.Addr.{IsAddr, IsSource, IsForwardedGroup}
-use Rattle.mc_text.specs.declared.addr.Order.{Order}
-use Rattle.mc_text.specs.declared.addr.Order.TheVariants.{Little, Big}
 use Rattle.mc_topology.specs.declared.flow.Flow.{Flow}
-use Rattle.mc_topology.specs.declared.interface.Interface.{Interface}
-use Rattle.mc_topology.specs.declared.router.Router.{Router}
-use Rattle.mc_topology.specs.declared.source.Source.{Source}
+use Rattle.mc_topology.specs.Rows.{RouterRow, InterfaceRow, SourceRow, router_code}
 
 -- the finite map from interfaces to the numbers of their LANs
 abbrev pub LanByInterface : Type 0
@@ -23,26 +19,26 @@ interface_key router device = router ∷ device
 -- The names of the LANs and the routers, each in order, the LAN of each interface, and the flows in order.
 pub record TopologyValue : Type 0 where
   pub lans : List (List ℕ)
-  pub routers : List Router
+  pub routers : List RouterRow
   pub interfaces : LanByInterface
   pub flows : List Flow
 
 -- What the five sections of a text stand for.
 pub record Sections : Type 0 where
   pub lans : List (List ℕ)
-  pub routers : List Router
-  pub interfaces : List Interface
-  pub sources : List Source
+  pub routers : List RouterRow
+  pub interfaces : List InterfaceRow
+  pub sources : List SourceRow
   pub flows : List Flow
 
-abbrev pub interface_entry : Interface → List ℕ × ℕ
+abbrev pub interface_entry : InterfaceRow → List ℕ × ℕ
 interface_entry i = (interface_key i.router i.device, i.lan)
 
-abbrev pub lan_by_interface : List Interface → LanByInterface
+abbrev pub lan_by_interface : List InterfaceRow → LanByInterface
 lan_by_interface interfaces = finite.from_entries (map interface_entry interfaces)
 
 -- the topology of these LANs, routers, interfaces and flows
-abbrev pub topology_with : List (List ℕ) → List Router → List Interface → List Flow → TopologyValue
+abbrev pub topology_with : List (List ℕ) → List RouterRow → List InterfaceRow → List Flow → TopologyValue
 topology_with lans routers interfaces flows = record { lans = lans; routers = routers; interfaces = lan_by_interface interfaces; flows = flows }
 
 -- the topology that the sections make
@@ -53,15 +49,15 @@ topology_of s = topology_with s.lans s.routers s.interfaces s.flows
 abbrev pub lan_key : List ℕ → List ℕ
 lan_key name = name
 
-abbrev pub router_key : Router → List ℕ
+abbrev pub router_key : RouterRow → List ℕ
 router_key r = r.name
 
 -- the router and the device of an interface,
-abbrev pub key_of_interface : Interface → List ℕ
+abbrev pub key_of_interface : InterfaceRow → List ℕ
 key_of_interface i = interface_key i.router i.device
 
 -- the address of a source,
-abbrev pub source_key : Source → ℕ
+abbrev pub source_key : SourceRow → ℕ
 source_key s = s.address
 
 -- and the source and the group of a flow
@@ -92,25 +88,7 @@ pub record IsTopology (t : TopologyValue) : Type 0 where
   pub interface_lans : (router lan : ℕ) (device : List ℕ) → finite.get t.interfaces (interface_key router device) ≡ Some lan → lan < length t.lans
   pub flows_among : (n : ℕ) (f : Flow) → slice_get t.flows n ≡ Some f → IsFlowAmong t.lans f
 
--- a topology is stored as the tuple of its fields, and so are a router and a flow
-abbrev pub is_big : Order → Bool
-is_big Little = false
-is_big Big = true
-
-abbrev pub order_of_big : Bool → Order
-order_of_big false = Little
-order_of_big true = Big
-
-pub order_of_big-is_big : (order : Order) → order_of_big (is_big order) ≡ order
-order_of_big-is_big Little = refl
-order_of_big-is_big Big = refl
-
-abbrev pub order_code : Coded Order
-order_code = code_by Bool coded_bool is_big order_of_big order_of_big-is_big
-
-abbrev pub router_code : Coded Router
-router_code = code_by (List ℕ × Order) (coded× (coded_list coded_ℕ) order_code) (λ r. (r.name, r.order)) (λ p. record { name = p.0; order = p.1 }) (λ _. refl)
-
+-- a topology is stored as the tuple of its fields, and so is a flow
 abbrev pub flow_code : Coded Flow
 flow_code =
     code_by (ℕ × (ℕ × (ℕ × ℕ))) (coded× coded_ℕ (coded× coded_ℕ (coded× coded_ℕ coded_ℕ)))
@@ -120,7 +98,7 @@ flow_code =
 
 abbrev pub topology_code : Coded TopologyValue
 topology_code =
-    code_by (List (List ℕ) × (List Router × (LanByInterface × List Flow)))
+    code_by (List (List ℕ) × (List RouterRow × (LanByInterface × List Flow)))
     (coded× (coded_list (coded_list coded_ℕ)) (coded× (coded_list router_code) (coded× (finite.code (coded_list coded_ℕ) coded_ℕ) (coded_list flow_code))))
     (λ t. (t.lans, (t.routers, (t.interfaces, t.flows))))
     (λ p. record { lans = p.0; routers = p.1.0; interfaces = p.1.1.0; flows = p.1.1.1 })

@@ -9,7 +9,7 @@ mod flow;
 mod flows;
 mod interface;
 mod interfaces;
-mod lan;
+mod lans;
 mod laws;
 mod name;
 mod number;

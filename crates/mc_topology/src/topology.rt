@@ -2,7 +2,6 @@
 
 ghost use Rattle.std.specs.Prelude.{◌≡◌, ◌<◌, ◌≤◌, length, Some, IfSome, option_map, slice_get};
 ghost use Rattle.std.specs.FinMap as finite;
-ghost use Rattle.std.specs.Str.{bytes_eq};
 ghost use Rattle.mc_topology.specs.Names.{index_of};
 ghost use Rattle.mc_topology.specs.Routers.{router_no_of};
 ghost use Rattle.mc_topology.specs.Topology.{interface_key, lan_by_interface, topology_with, IsFlowAmong, IsTopology};
@@ -10,7 +9,7 @@ ghost use Rattle.mc_topology.specs.Topology.{interface_key, lan_by_interface, to
 use crate::fault::TopologyFault;
 use crate::flow::Flow;
 use crate::interface::Interface;
-use crate::lan::lan_no_of;
+use crate::lans::lan_no_of;
 use crate::name::Name;
 use crate::number::{LanNo, RouterNo};
 use crate::read::reading_of;
@@ -42,19 +41,12 @@ impl Model for Topology {
         (topology_with s.lans.items s.routers.items s.interfaces.items s.flows.items) };
 }
 
-/// Whether the interface is that of a router and a device.
-fn is_at(interface: &Interface, router: RouterNo, device: &[u8]) -> bool
-    ensures { result ≡ bytes_eq (interface_key router device.now) (interface_key interface.now.router interface.now.device) }
-{
-    router == interface.router && device == interface.device.as_str().as_bytes()
-}
-
 /// The LAN of the interface of a router and a device.
-fn lan_at(interfaces: &[Interface], router: RouterNo, device: &[u8]) -> Option<LanNo>
+fn lan_of_interface(interfaces: &[Interface], router: RouterNo, device: &[u8]) -> Option<LanNo>
     ensures { result ≡ finite.get (lan_by_interface interfaces.now) (interface_key router device.now) }
 {
     for interface in interfaces {
-        if is_at(interface, router, device) {
+        if interface.is_at(router, device) {
             return Some(interface.lan);
         }
     }
@@ -133,7 +125,8 @@ impl Topology {
         requires { router < length self.now.routers }
         ensures { option_map (λ r. r.order) (slice_get self.now.routers router) ≡ Some result }
     {
-        self.routers[router.0 as usize].order
+        let found = &self.routers[router.0 as usize];
+        found.order
     }
 
     /// The LAN on which the interface of a router and a device lies, if the topology names it.
@@ -141,7 +134,7 @@ impl Topology {
         ensures lan { result ≡ finite.get self.now.interfaces (interface_key router device.now) }
         ensures listed { IfSome result (λ lan. lan < length self.now.lans) }
     {
-        lan_at(&self.interfaces, router, device)
+        lan_of_interface(&self.interfaces, router, device)
     }
 
     /// A flow by its number.
@@ -159,7 +152,8 @@ impl Topology {
         ensures name { option_map (λ r. r.name) (slice_get self.now.routers router) ≡ Some result.now }
         ensures number { router_no_of result.now self.now.routers ≡ Some router }
     {
-        self.routers[router.0 as usize].name.as_str()
+        let found = &self.routers[router.0 as usize];
+        found.name.as_str()
     }
 
     /// The name of a LAN.

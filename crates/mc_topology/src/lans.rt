@@ -26,7 +26,7 @@ pub(crate) fn lan_no_of(lans: &[Name], name: &str) -> Option<LanNo>
     Some(LanNo(place as u32))
 }
 
-/// The name of a LAN, which none of the earlier ones has.
+/// Reads the name of one LAN, which none of the earlier ones has.
 #[tactic(auto, unfolding(crate::specs::Lans::lan_of))]
 fn lan_of<'a>(earlier: &[Name], value: &'a Value) -> Result<&'a str, TopologyFaultKind>
     ensures { Answers (λ name. name.now) result (lan_of earlier.now (view value.now)) }
@@ -41,10 +41,11 @@ fn lan_of<'a>(earlier: &[Name], value: &'a Value) -> Result<&'a str, TopologyFau
     Ok(name)
 }
 
-/// The same, with the place of a fault.
+/// Reads the name of one LAN, and adds to a fault its section and number.
 fn lan_at<'a>(earlier: &[Name], value: &'a Value) -> Result<&'a str, TopologyFault>
     requires { length earlier.now ≤ MAX_LANS }
-    ensures { Answers (λ name. name.now) result (place Lans (length earlier.now + 1) (lan_of earlier.now (view value.now))) }
+    ensures { Answers (λ name. name.now) result
+        (place Lans (length earlier.now + 1) (lan_of earlier.now (view value.now))) }
 {
     let number = earlier.len() as u32 + 1;
     lan_of(earlier, value).map_err(|kind| kind.at(Section::Lans, number))

@@ -25,6 +25,10 @@ is_at router device i = (i.router == router) && bytes_eq i.device device
 abbrev pub has_interface : ℕ → List ℕ → List InterfaceRow → Bool
 has_interface router device interfaces = list_any (is_at router device) interfaces
 
+-- An interface. It has to be a table (else BadKind) of no other keys (UnknownKey). Then the keys: `router`,
+-- `device` and `lan`, in this order, each have to be there (MissingKey) and to be a text (BadKind). Then the
+-- values: a router has the first name (UnknownName), a device can have the second (BadName), a LAN has the
+-- third (UnknownName), and no earlier interface has the router and the device (RepeatedInterface).
 unfoldable pub interface_of : List (List ℕ) → List RouterRow → List InterfaceRow → Data → Result InterfaceRow TopologyFaultKind
 interface_of lans routers earlier d = do
   table ← table_of interface_keys d
@@ -34,6 +38,8 @@ interface_of lans routers earlier d = do
   router ← ok_or (router_no_of router_name routers) UnknownName
   if not (is_device device) then Err BadName else (ok_or (index_of lan_name lans) UnknownName >>= λ lan. if has_interface router device earlier then Err RepeatedInterface else Ok (record { router = router; device = device; lan = lan }))
 
+-- The interfaces: first their list, which has to be a list (else BadKind) of at most 8,192 (TooMany), at the
+-- number 0, then each interface from the front, at its number, counted from 1.
 unfoldable pub interfaces_in : List (List ℕ) → List RouterRow → Members → Result (List InterfaceRow) TopologyFault
 interfaces_in lans routers ms = do
   rows ← place section.Interface 0 (rows_at (codes "interface") 8192 ms)

@@ -31,6 +31,10 @@ has_router name routers = list_any (λ r. bytes_eq r.name name) routers
 abbrev pub router_no_of : List ℕ → List RouterRow → Option ℕ
 router_no_of name routers = position (λ r. bytes_eq r.name name) routers
 
+-- A router. It has to be a table (else BadKind) of no other keys (UnknownKey). Then the keys: `name` has to
+-- be there (MissingKey) and to be a text (BadKind), and so does `order` if it is there (BadKind). Then the
+-- values: the name can be one (BadName), the order is one of the two (BadKind), and no earlier router has
+-- the name (RepeatedName).
 unfoldable pub router_of : List RouterRow → Data → Result RouterRow TopologyFaultKind
 router_of earlier d = do
   table ← table_of router_keys d
@@ -38,6 +42,8 @@ router_of earlier d = do
   order_text ← optional_text_at (codes "order") table
   if not (is_name name) then Err BadName else (order_of order_text >>= λ order. if has_router name earlier then Err RepeatedName else Ok (record { name = name; order = order }))
 
+-- The routers: first their list, which has to be a list (else BadKind) of at most 256 (TooMany), at the
+-- number 0, then each router from the front, at its number, counted from 1.
 unfoldable pub routers_in : Members → Result (List RouterRow) TopologyFault
 routers_in ms = do
   rows ← place section.Router 0 (rows_at (codes "router") 256 ms)

@@ -63,7 +63,8 @@ fn flow_of(sources: &[Source], earlier: &[Flow], value: &Value) -> Result<Flow, 
 fn flow_at(sources: &[Source], earlier: &[Flow], value: &Value) -> Result<Flow, TopologyFault>
     requires { length earlier.now ≤ MAX_FLOWS }
     ensures { Answers (λ flow. flow) result
-        (place section.Flow (length earlier.now + 1) (flow_of sources.now earlier.now (view value.now))) }
+        (place section.Flow (length earlier.now + 1)
+        (flow_of sources.now earlier.now (view value.now))) }
 {
     let number = earlier.len() as u32 + 1;
     flow_of(sources, earlier, value).map_err(|kind| kind.at(Section::Flow, number))
@@ -107,7 +108,8 @@ pub(crate) fn flows_in(
     sources: &[Source],
     table: &Table,
 ) -> Result<Vec<Flow>, TopologyFault>
-    ensures flows { Gives (λ flows. flows.items) result (flows_in sources.now (table_view table.now)) }
+    ensures flows { Gives (λ flows. flows.items) result
+        (flows_in sources.now (table_view table.now)) }
     ensures few { IfOk result (λ flows. vec_len flows ≤ MAX_FLOWS) }
 {
     let rows = flow_rows(table).map_err(|kind| kind.at(Section::Flow, 0))?;

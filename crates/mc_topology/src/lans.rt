@@ -1,6 +1,6 @@
 //! The list of LANs.
 
-ghost use Rattle.std.specs.Prelude.{◌≡◌, ◌+◌, ◌≤◌, map, length, vec_len, [], IfOk};
+ghost use Rattle.std.specs.Prelude.{◌≡◌, ◌+◌, ◌<◌, ◌≤◌, map, length, vec_len, [], IfOk, IfSome};
 ghost use Rattle.toml.specs.View.{view, table_view};
 ghost use Rattle.mc_topology.specs.declared.fault.Section.TheVariants.{Lans};
 ghost use Rattle.mc_topology.specs.Answer.{Answers, Gives, place, each};
@@ -20,7 +20,8 @@ pub(crate) const MAX_LANS: usize = 1024;
 /// The number of the LAN with the name.
 pub(crate) fn lan_no_of(lans: &[Name], name: &str) -> Option<LanNo>
     requires { length lans.now ≤ MAX_LANS }
-    ensures { result ≡ index_of name.now lans.now }
+    ensures number { result ≡ index_of name.now lans.now }
+    ensures listed { IfSome result (λ lan. lan < length lans.now) }
 {
     let place = index_of(lans, name)?;
     Some(LanNo(place as u32))

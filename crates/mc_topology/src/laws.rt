@@ -31,7 +31,8 @@ pub fn lan_numbers_and_names_undo_each_other()
         index_of name t.lans ≡ Some lan → slice_get t.lans lan ≡ Some name }
 {}
 
-/// The same of routers: `router_no` and `router_name` undo each other.
+/// The number of a router's name is the router's number, and the name of that number is the name:
+/// `router_no` and `router_name` undo each other.
 pub fn router_numbers_and_names_undo_each_other()
     ensures number_of_name { (t : TopologyValue) (router : ℕ) (name : List ℕ) → IsTopology t →
         option_map (λ r. r.name) (slice_get t.routers router) ≡ Some name →

@@ -45,7 +45,8 @@ fn place_of(routers: &[Router], name: &str) -> Option<usize>
 /// The number of the router with the name.
 pub(crate) fn router_no_of(routers: &[Router], name: &str) -> Option<RouterNo>
     requires { length routers.now ≤ MAX_ROUTERS }
-    ensures { result ≡ router_no_of name.now routers.now }
+    ensures number { result ≡ router_no_of name.now routers.now }
+    ensures listed { IfSome result (λ router. router < length routers.now) }
 {
     let place = place_of(routers, name)?;
     Some(RouterNo(place as u32))

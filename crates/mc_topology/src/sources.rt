@@ -62,7 +62,8 @@ fn source_at(lans: &[Name], earlier: &[Source], value: &Value) -> Result<Source,
     requires few_lans { length lans.now ≤ MAX_LANS }
     requires few { length earlier.now ≤ MAX_SOURCES }
     ensures { Answers (λ source. source) result
-        (place section.Source (length earlier.now + 1) (source_of lans.now earlier.now (view value.now))) }
+        (place section.Source (length earlier.now + 1)
+        (source_of lans.now earlier.now (view value.now))) }
 {
     let number = earlier.len() as u32 + 1;
     source_of(lans, earlier, value).map_err(|kind| kind.at(Section::Source, number))

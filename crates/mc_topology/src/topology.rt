@@ -78,42 +78,45 @@ impl Topology {
         }
     }
 
-    /// Reads a topology. The sections are judged in the order of `Section`, the parts of a section from
-    /// the front, and the first rule that is broken is answered with its place. Of a table the keys are
-    /// judged first, and then the values.
+    /// Reads a topology: at most 16,777,216 bytes of TOML, 1,024 LANs, 256 routers, 8,192 interfaces,
+    /// 4,096 sources and 1 to 4,096 flows. The sections are judged in the order of `Section`, the parts
+    /// of a section from the front, and the first rule that is broken is answered with its place. Of a
+    /// table the keys are judged first, and then the values. `Memory`, at `top` 0, where a growth was
+    /// refused.
     pub fn read(alloc: Global, text: &[u8]) -> Result<Topology, TopologyFault>
         // What is read is what the text stands for.
         ensures found { IfOk result (TopologyStands text.now) }
         // A text that stands for a topology is read as that, unless memory runs out.
-        ensures only { (t : TopologyValue) → TopologyStands text.now t → Gives (λ x. x) result (Ok t) }
+        ensures only { (t : TopologyValue) → TopologyStands text.now t →
+            Gives (λ x. x) result (Ok t) }
         // Which fault it is.
         ensures fault { Gives (λ x. x) result (reading_of text.now) }
     {
         reading_of(alloc, text)
     }
 
-    /// Nothing at run time: that the topology keeps the rules, for the proofs of whoever holds it.
+    /// Does nothing. Its clause tells the proofs of whoever holds a topology what each topology keeps.
     pub fn rules(&self)
         ensures { IsTopology self.now }
     {
         let _ = &self.lans;
     }
 
-    /// How many LANs there are.
+    /// How many LANs there are, at most 1,024.
     pub fn lans(&self) -> u32
         ensures { result ≡ length self.now.lans }
     {
         self.lans.len() as u32
     }
 
-    /// How many routers there are.
+    /// How many routers there are, at most 256.
     pub fn routers(&self) -> u32
         ensures { result ≡ length self.now.routers }
     {
         self.routers.len() as u32
     }
 
-    /// How many flows there are.
+    /// How many flows there are, 1 to 4,096.
     pub fn flows(&self) -> u32
         ensures { result ≡ length self.now.flows }
     {
@@ -129,7 +132,8 @@ impl Topology {
         found.order
     }
 
-    /// The LAN on which the interface of a router and a device lies, if the topology names it.
+    /// The LAN on which the interface of a router and a device lies. None where the topology names no
+    /// interface of the router and the device.
     pub fn lan_of_device(&self, router: RouterNo, device: &[u8]) -> Option<LanNo>
         ensures lan { result ≡ finite.get self.now.interfaces (interface_key router device.now) }
         ensures listed { IfSome result (λ lan. lan < length self.now.lans) }
@@ -137,7 +141,7 @@ impl Topology {
         lan_of_interface(&self.interfaces, router, device)
     }
 
-    /// A flow by its number.
+    /// The flow with this number, counted from 0 in the order of the topology.
     pub fn flow(&self, flow: u32) -> &Flow
         requires { flow < length self.now.flows }
         ensures flow { slice_get self.now.flows flow ≡ Some result.now }
@@ -149,7 +153,8 @@ impl Topology {
     /// The name of a router.
     pub fn router_name(&self, router: RouterNo) -> &str
         requires { router < length self.now.routers }
-        ensures name { option_map (λ r. r.name) (slice_get self.now.routers router) ≡ Some result.now }
+        ensures name { option_map (λ r. r.name) (slice_get self.now.routers router) ≡
+            Some result.now }
         ensures number { router_no_of result.now self.now.routers ≡ Some router }
     {
         let found = &self.routers[router.0 as usize];
@@ -165,16 +170,18 @@ impl Topology {
         self.lans[lan.0 as usize].as_str()
     }
 
-    /// The number of the router with the name.
+    /// The number of the router with the name. None where no router has it.
     pub fn router_no(&self, name: &str) -> Option<RouterNo>
-        ensures { result ≡ router_no_of name.now self.now.routers }
+        ensures number { result ≡ router_no_of name.now self.now.routers }
+        ensures listed { IfSome result (λ router. router < length self.now.routers) }
     {
         router_no_of(&self.routers, name)
     }
 
-    /// The number of the LAN with the name.
+    /// The number of the LAN with the name. None where no LAN has it.
     pub fn lan_no(&self, name: &str) -> Option<LanNo>
-        ensures { result ≡ index_of name.now self.now.lans }
+        ensures number { result ≡ index_of name.now self.now.lans }
+        ensures listed { IfSome result (λ lan. lan < length self.now.lans) }
     {
         lan_no_of(&self.lans, name)
     }

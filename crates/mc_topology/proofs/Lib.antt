@@ -1,8 +1,11 @@
 pub mod AddressLemmas
+pub mod Distinct
 pub mod Each
 pub mod FlowLemmas
 pub mod Fields
 pub mod InterfaceLemmas
+pub mod Keys
+pub mod Kept
 pub mod NameLemmas
 pub mod Parts
 pub mod ReadLemmas

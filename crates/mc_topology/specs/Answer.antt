@@ -1,6 +1,7 @@
 -- Steps that may be refused, and how a call answers them.
 use Rattle.std.specs.Prelude.{◌≡◌, ◌≢◌, ℕ, ◌+◌, List, [], ◌∷◌, ◌++◌, length, Result, Ok, Err}
 use Rattle.mc_topology.specs.declared.fault.Section.{Section}
+use Rattle.mc_topology.specs.declared.fault.Section.TheVariants.{Top}
 use Rattle.mc_topology.specs.declared.fault.TopologyFaultKind.{TopologyFaultKind}
 use Rattle.mc_topology.specs.declared.fault.TopologyFaultKind.TheVariants.{Memory}
 use Rattle.mc_topology.specs.declared.fault.TopologyFault.{TopologyFault}
@@ -20,10 +21,14 @@ abbrev pub Answers : {X Y E : Type 0} → (X → Y) → Result X E → Result Y 
 Answers view (Ok x) step = step ≡ Ok (view x)
 Answers view (Err e) step = step ≡ Err e
 
+-- the fault that may stand in place of any answer of a call that takes memory
+abbrev pub out_of_memory : TopologyFault
+out_of_memory = record { section = Top; number = 0; kind = Memory }
+
 -- what a call answers, seen by view, unless memory runs out
 abbrev pub Gives : {X Y : Type 0} → (X → Y) → Result X TopologyFault → Result Y TopologyFault → Type 0
 Gives view (Ok x) step = step ≡ Ok (view x)
-Gives view (Err fault) step = fault.kind ≢ Memory → step ≡ Err fault
+Gives view (Err fault) step = fault ≢ out_of_memory → step ≡ Err fault
 
 -- The values of the parts of a section, each read beside those before it, or the first fault.
 unfoldable pub each : {D X : Type 0} → Section → (List X → D → Result X TopologyFaultKind) → List X → List D → Result (List X) TopologyFault

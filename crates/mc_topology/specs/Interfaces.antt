@@ -3,8 +3,7 @@ use Rattle.std.specs.Prelude.{ℕ, ◌==◌, ◌&&◌, not, List, [], ◌∷◌,
 use Rattle.std.specs.List.{list_any}
 use Rattle.std.specs.Str.{bytes_eq}
 use Rattle.toml.specs.Data.{Data, Members}
-use Rattle.mc_topology.specs.declared.router.Router.{Router}
-use Rattle.mc_topology.specs.declared.interface.Interface.{Interface}
+use Rattle.mc_topology.specs.Rows.{RouterRow, InterfaceRow}
 use Rattle.mc_topology.specs.declared.fault.Section.TheVariants as section
 use Rattle.mc_topology.specs.declared.fault.TopologyFaultKind.{TopologyFaultKind}
 use Rattle.mc_topology.specs.declared.fault.TopologyFaultKind.TheVariants.{BadName, UnknownName, RepeatedInterface}
@@ -19,14 +18,18 @@ abbrev pub interface_keys : List (List ℕ)
 interface_keys = codes "router" ∷ codes "device" ∷ codes "lan" ∷ []
 
 -- the interface is that of a router and a device
-abbrev pub is_at : ℕ → List ℕ → Interface → Bool
+abbrev pub is_at : ℕ → List ℕ → InterfaceRow → Bool
 is_at router device i = (i.router == router) && bytes_eq i.device device
 
 -- a router has an interface of the device
-abbrev pub has_interface : ℕ → List ℕ → List Interface → Bool
+abbrev pub has_interface : ℕ → List ℕ → List InterfaceRow → Bool
 has_interface router device interfaces = list_any (is_at router device) interfaces
 
-unfoldable pub interface_of : List (List ℕ) → List Router → List Interface → Data → Result Interface TopologyFaultKind
+-- An interface. It has to be a table (else BadKind) of no other keys (UnknownKey). Then the keys: `router`,
+-- `device` and `lan`, in this order, each have to be there (MissingKey) and to be a text (BadKind). Then the
+-- values: a router has the first name (UnknownName), a device can have the second (BadName), a LAN has the
+-- third (UnknownName), and no earlier interface has the router and the device (RepeatedInterface).
+unfoldable pub interface_of : List (List ℕ) → List RouterRow → List InterfaceRow → Data → Result InterfaceRow TopologyFaultKind
 interface_of lans routers earlier d = do
   table ← table_of interface_keys d
   router_name ← text_at (codes "router") table
@@ -35,7 +38,9 @@ interface_of lans routers earlier d = do
   router ← ok_or (router_no_of router_name routers) UnknownName
   if not (is_device device) then Err BadName else (ok_or (index_of lan_name lans) UnknownName >>= λ lan. if has_interface router device earlier then Err RepeatedInterface else Ok (record { router = router; device = device; lan = lan }))
 
-unfoldable pub interfaces_in : List (List ℕ) → List Router → Members → Result (List Interface) TopologyFault
+-- The interfaces: first their list, which has to be a list (else BadKind) of at most 8,192 (TooMany), at the
+-- number 0, then each interface from the front, at its number, counted from 1.
+unfoldable pub interfaces_in : List (List ℕ) → List RouterRow → Members → Result (List InterfaceRow) TopologyFault
 interfaces_in lans routers ms = do
   rows ← place section.Interface 0 (rows_at (codes "interface") 8192 ms)
   each section.Interface (interface_of lans routers) [] rows

@@ -9,18 +9,22 @@ use Rattle.mc_topology.specs.Answer.{◌>>=◌, place, each}
 use Rattle.mc_topology.specs.Document.{text_of, list_at}
 use Rattle.mc_topology.specs.Names.{is_name, is_among}
 
--- a LAN's name
+-- A LAN's name. It has to be a text (else BadKind), then one that can be a name (BadName), and then one
+-- that no earlier LAN has (RepeatedName).
 unfoldable pub lan_of : List (List ℕ) → Data → Result (List ℕ) TopologyFaultKind
 lan_of earlier d = do
   name ← text_of d
   if not (is_name name) then Err BadName else if is_among name earlier then Err RepeatedName else Ok name
 
--- at most 1,024 LANs
+-- The list has to be there (else MissingKey), then to be a list (BadKind), and then to have at most 1,024
+-- values (TooMany).
 unfoldable pub lan_rows : Members → Result (List Data) TopologyFaultKind
 lan_rows ms = do
   rows ← list_at (codes "lans") ms
   if nat_le (length rows) 1024 then Ok rows else Err TooMany
 
+-- The LANs: first their list, whose faults have the number 0, then each value from the front, whose faults
+-- have its number, counted from 1.
 unfoldable pub lans_in : Members → Result (List (List ℕ)) TopologyFault
 lans_in ms = do
   rows ← place Lans 0 (lan_rows ms)

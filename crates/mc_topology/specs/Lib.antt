@@ -7,6 +7,7 @@ pub mod Lans
 pub mod Names
 pub mod Routers
 pub mod Reading
+pub mod Rows
 pub mod Sources
 pub mod Stands
 pub mod Topology

@@ -12,7 +12,8 @@ is_name_byte b = ((is_ascii_alphanumeric b || (b == 45)) || (b == 95)) || (b == 
 unfoldable pub is_name : List ℕ → Bool
 is_name text = (nat_le 1 (length text) && nat_le (length text) 32) && list_all is_name_byte text
 
--- a byte that a device's name may have: none of 0x09 to 0x0D, no space, no `/` and no `:` (dev_valid_name in net/core/dev.c)
+-- a byte that a device's name may have: none of 0x09 to 0x0D, no space, no `/` and no `:`
+-- (after dev_valid_name in net/core/dev.c, without its ban of `.` and `..`)
 abbrev pub is_device_byte : ℕ → Bool
 is_device_byte b = not ((((nat_le 9 b && nat_le b 13) || (b == 32)) || (b == 47)) || (b == 58))
 

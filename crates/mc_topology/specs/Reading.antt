@@ -17,11 +17,12 @@ use Rattle.mc_topology.specs.Sources.{sources_in}
 use Rattle.mc_topology.specs.Flows.{flows_in}
 use Rattle.mc_topology.specs.Topology.{Sections, TopologyValue, topology_of}
 
--- a text is UTF-8
+-- a text is UTF-8 (else NotToml)
 unfoldable pub utf8_text : List ℕ → Result (List ℕ) TopologyFaultKind
 utf8_text text = if is_utf8 text then Ok text else Err NotToml
 
--- the table of a text of at most 16,777,216 bytes
+-- The table of a text, which has to have at most 16,777,216 bytes (else TooMany), and then to be TOML
+-- (NotToml).
 unfoldable pub document_of : List ℕ → Result Members TopologyFaultKind
 document_of text = if nat_le (length text) 16777216 then (utf8_text text >>= λ t. ok_or (parse_document t) NotToml) else Err TooMany
 
@@ -29,9 +30,12 @@ document_of text = if nat_le (length text) 16777216 then (utf8_text text >>= λ 
 abbrev pub top_keys : List (List ℕ)
 top_keys = codes "version" ∷ codes "lans" ∷ codes "router" ∷ codes "interface" ∷ codes "source" ∷ codes "flow" ∷ []
 
+-- The top has to have no other keys (else UnknownKey), and then `version` has to be there (MissingKey), to be
+-- a whole number (BadKind), and to be 1 (BadVersion).
 unfoldable pub version_in : Members → Result (Unit {0}) TopologyFaultKind
 version_in ms = if has_only top_keys ms then (number_at (codes "version") ms >>= λ version. if int_eq version (pos 1) then Ok tt else Err BadVersion) else Err UnknownKey
 
+-- the top at the number 0, and then the sections in this order, each with those that it names
 unfoldable pub sections_in : Members → Result Sections TopologyFault
 sections_in ms = do
   version ← place Top 0 (version_in ms)
@@ -42,8 +46,10 @@ sections_in ms = do
   flows ← flows_in sources ms
   Ok (record { lans = lans; routers = routers; interfaces = interfaces; sources = sources; flows = flows })
 
+-- the topology of a table
 unfoldable pub topology_in : Members → Result TopologyValue TopologyFault
 topology_in ms = sections_in ms >>= λ sections. Ok (topology_of sections)
 
+-- the topology of a text: first the text as a whole, at `top` 0, and then its table
 unfoldable pub reading_of : List ℕ → Result TopologyValue TopologyFault
 reading_of text = place Top 0 (document_of text) >>= topology_in

@@ -5,7 +5,7 @@ use Rattle.std.specs.Str.{bytes_eq}
 use Rattle.toml.specs.Data.{Data, Members}
 use Rattle.mc_text.specs.declared.addr.Order.{Order}
 use Rattle.mc_text.specs.declared.addr.Order.TheVariants.{Little, Big}
-use Rattle.mc_topology.specs.declared.router.Router.{Router}
+use Rattle.mc_topology.specs.Rows.{RouterRow}
 use Rattle.mc_topology.specs.declared.fault.Section.TheVariants as section
 use Rattle.mc_topology.specs.declared.fault.TopologyFaultKind.{TopologyFaultKind}
 use Rattle.mc_topology.specs.declared.fault.TopologyFaultKind.TheVariants.{BadKind, BadName, RepeatedName}
@@ -24,21 +24,27 @@ order_of None = Ok Little
 order_of (Some text) = if bytes_eq text (codes "little") then Ok Little else if bytes_eq text (codes "big") then Ok Big else Err BadKind
 
 -- a router has the name
-abbrev pub has_router : List ℕ → List Router → Bool
+abbrev pub has_router : List ℕ → List RouterRow → Bool
 has_router name routers = list_any (λ r. bytes_eq r.name name) routers
 
 -- the number of the router with the name
-abbrev pub router_no_of : List ℕ → List Router → Option ℕ
+abbrev pub router_no_of : List ℕ → List RouterRow → Option ℕ
 router_no_of name routers = position (λ r. bytes_eq r.name name) routers
 
-unfoldable pub router_of : List Router → Data → Result Router TopologyFaultKind
+-- A router. It has to be a table (else BadKind) of no other keys (UnknownKey). Then the keys: `name` has to
+-- be there (MissingKey) and to be a text (BadKind), and so does `order` if it is there (BadKind). Then the
+-- values: the name can be one (BadName), the order is one of the two (BadKind), and no earlier router has
+-- the name (RepeatedName).
+unfoldable pub router_of : List RouterRow → Data → Result RouterRow TopologyFaultKind
 router_of earlier d = do
   table ← table_of router_keys d
   name ← text_at (codes "name") table
   order_text ← optional_text_at (codes "order") table
   if not (is_name name) then Err BadName else (order_of order_text >>= λ order. if has_router name earlier then Err RepeatedName else Ok (record { name = name; order = order }))
 
-unfoldable pub routers_in : Members → Result (List Router) TopologyFault
+-- The routers: first their list, which has to be a list (else BadKind) of at most 256 (TooMany), at the
+-- number 0, then each router from the front, at its number, counted from 1.
+unfoldable pub routers_in : Members → Result (List RouterRow) TopologyFault
 routers_in ms = do
   rows ← place section.Router 0 (rows_at (codes "router") 256 ms)
   each section.Router router_of [] rows

@@ -2,7 +2,7 @@
 use Rattle.std.specs.Prelude.{ℕ, ◌==◌, List, [], ◌∷◌, codes, find, Bool, Option, option_map, Result, Ok, Err, ok_or, if◌then◌else◌}
 use Rattle.std.specs.List.{list_any}
 use Rattle.toml.specs.Data.{Data, Members}
-use Rattle.mc_topology.specs.declared.source.Source.{Source}
+use Rattle.mc_topology.specs.Rows.{SourceRow}
 use Rattle.mc_topology.specs.declared.fault.Section.TheVariants as section
 use Rattle.mc_topology.specs.declared.fault.TopologyFaultKind.{TopologyFaultKind}
 use Rattle.mc_topology.specs.declared.fault.TopologyFaultKind.TheVariants.{UnknownName, RepeatedName}
@@ -17,14 +17,18 @@ abbrev pub source_keys : List (List ℕ)
 source_keys = codes "address" ∷ codes "lan" ∷ []
 
 -- a source has the address
-abbrev pub has_source : ℕ → List Source → Bool
+abbrev pub has_source : ℕ → List SourceRow → Bool
 has_source address sources = list_any (λ s. s.address == address) sources
 
 -- the LAN of the source with the address
-abbrev pub lan_of_source : ℕ → List Source → Option ℕ
+abbrev pub lan_of_source : ℕ → List SourceRow → Option ℕ
 lan_of_source address sources = option_map (λ s. s.lan) (find (λ s. s.address == address) sources)
 
-unfoldable pub source_of : List (List ℕ) → List Source → Data → Result Source TopologyFaultKind
+-- A source. It has to be a table (else BadKind) of no other keys (UnknownKey). Then the keys: `address` and
+-- `lan`, in this order, each have to be there (MissingKey) and to be a text (BadKind). Then the values: the
+-- first is the address of a host that may send (BadAddress), a LAN has the name (UnknownName), and no
+-- earlier source has the address (RepeatedName).
+unfoldable pub source_of : List (List ℕ) → List SourceRow → Data → Result SourceRow TopologyFaultKind
 source_of lans earlier d = do
   table ← table_of source_keys d
   text ← text_at (codes "address") table
@@ -33,7 +37,9 @@ source_of lans earlier d = do
   lan ← ok_or (index_of lan_name lans) UnknownName
   if has_source address earlier then Err RepeatedName else Ok (record { address = address; lan = lan })
 
-unfoldable pub sources_in : List (List ℕ) → Members → Result (List Source) TopologyFault
+-- The sources: first their list, which has to be a list (else BadKind) of at most 4,096 (TooMany), at the
+-- number 0, then each source from the front, at its number, counted from 1.
+unfoldable pub sources_in : List (List ℕ) → Members → Result (List SourceRow) TopologyFault
 sources_in lans ms = do
   rows ← place section.Source 0 (rows_at (codes "source") 4096 ms)
   each section.Source (source_of lans) [] rows

@@ -1,22 +1,20 @@
 -- What a text stands for: the rules of a topology, over the table that TOML's reader gives.
-use Rattle.std.specs.Prelude.{◌≡◌, ℕ, pos, ◌<◌, ◌≤◌, List, [], ◌∷◌, ◌++◌, length, codes, false, IsTrue, IsUtf8, Option, Some, None}
+use Rattle.std.specs.Prelude.{◌≡◌, ℕ, pos, ◌<◌, ◌≤◌, List, [], ◌∷◌, length, codes, IsTrue, IsUtf8, Option, Some, None}
 use Rattle.toml.specs.Data.{Data, string, integer, array, table, Items, Members, get_member}
 use Rattle.toml.specs.Parse.{parse_document}
 use Rattle.mc_text.specs.Addr.{IsAddr, IsSource, IsForwardedGroup, dotted}
 use Rattle.mc_text.specs.declared.addr.Order.{Order}
 use Rattle.mc_text.specs.declared.addr.Order.TheVariants.{Little, Big}
 use Rattle.mc_topology.specs.declared.flow.Flow.{Flow}
-use Rattle.mc_topology.specs.declared.interface.Interface.{Interface}
-use Rattle.mc_topology.specs.declared.router.Router.{Router}
-use Rattle.mc_topology.specs.declared.source.Source.{Source}
+use Rattle.mc_topology.specs.Rows.{RouterRow, InterfaceRow, SourceRow}
 use Rattle.mc_topology.specs.Document.{has_only, rows_in}
-use Rattle.mc_topology.specs.Names.{is_name, is_device, is_among, index_of}
-use Rattle.mc_topology.specs.Routers.{router_keys, router_no_of, has_router}
-use Rattle.mc_topology.specs.Interfaces.{interface_keys, has_interface}
-use Rattle.mc_topology.specs.Sources.{source_keys, lan_of_source, has_source}
-use Rattle.mc_topology.specs.Flows.{flow_keys, has_flow}
+use Rattle.mc_topology.specs.Names.{is_name, is_device, index_of}
+use Rattle.mc_topology.specs.Routers.{router_keys, router_no_of}
+use Rattle.mc_topology.specs.Interfaces.{interface_keys}
+use Rattle.mc_topology.specs.Sources.{source_keys, lan_of_source}
+use Rattle.mc_topology.specs.Flows.{flow_keys}
 use Rattle.mc_topology.specs.Reading.{top_keys}
-use Rattle.mc_topology.specs.Topology.{Sections, TopologyValue, topology_of}
+use Rattle.mc_topology.specs.Topology.{Sections, TopologyValue, AreDistinctBy, lan_key, router_key, key_of_interface, source_key, flow_key, topology_of}
 
 -- ---- tables
 
@@ -38,20 +36,19 @@ pub record IsTable (known : List (List ℕ)) (d : Data) (ms : Members) : Type 0 
   pub members : d ≡ table ms
   pub keys : IsTrue (has_only known ms)
 
--- Each part of a section stands for its value, beside the values of the parts before it.
-abbrev pub EachStands : {X : Type 0} → (List X → Data → X → Type 0) → List X → List Data → List X → Type 0
-EachStands Stands earlier [] [] = Unit {0}
-EachStands Stands earlier [] (x ∷ xs) = ⊥
-EachStands Stands earlier (d ∷ ds) [] = ⊥
-EachStands Stands earlier (d ∷ ds) (x ∷ xs) = Stands earlier d x × EachStands Stands (earlier ++ x ∷ []) ds xs
+-- each row stands for its value
+abbrev pub EachStands : {X : Type 0} → (Data → X → Type 0) → List Data → List X → Type 0
+EachStands Stands [] [] = Unit {0}
+EachStands Stands [] (x ∷ xs) = ⊥
+EachStands Stands (d ∷ ds) [] = ⊥
+EachStands Stands (d ∷ ds) (x ∷ xs) = Stands d x × EachStands Stands ds xs
 
--- ---- the parts
+-- ---- the rows
 
--- a text that is a name, which no earlier LAN has
-pub record IsLan (earlier : List (List ℕ)) (d : Data) (name : List ℕ) : Type 0 where
+-- a text that can be a name
+pub record IsLan (d : Data) (name : List ℕ) : Type 0 where
   pub text : d ≡ string name
   pub fits : IsTrue (is_name name)
-  pub new : is_among name earlier ≡ false
 
 -- the text of a byte order, which is `little` where there is none
 abbrev pub order_text : Order → List ℕ
@@ -62,17 +59,16 @@ abbrev pub IsOrder : Option Data → Order → Type 0
 IsOrder None order = order ≡ Little
 IsOrder (Some d) order = d ≡ string (order_text order)
 
--- a table of a name, which no earlier router has, and a byte order
-pub record IsRouter (earlier : List Router) (d : Data) (r : Router) : Type 0 where
+-- a table of a name and a byte order
+pub record IsRouter (d : Data) (r : RouterRow) : Type 0 where
   pub members : Members
   pub is_table : IsTable router_keys d members
   pub name : HasText (codes "name") members r.name
   pub order : IsOrder (get_member (codes "order") members) r.order
   pub fits : IsTrue (is_name r.name)
-  pub new : has_router r.name earlier ≡ false
 
--- a table of the name of a router, a device and the name of a LAN, where no earlier interface has the router and the device
-pub record IsInterface (lans : List (List ℕ)) (routers : List Router) (earlier : List Interface) (d : Data) (i : Interface) : Type 0 where
+-- a table of the name of a router, a device and the name of a LAN
+pub record IsInterface (lans : List (List ℕ)) (routers : List RouterRow) (d : Data) (i : InterfaceRow) : Type 0 where
   pub members : Members
   pub router_name : List ℕ
   pub lan_name : List ℕ
@@ -83,10 +79,9 @@ pub record IsInterface (lans : List (List ℕ)) (routers : List Router) (earlier
   pub router : router_no_of router_name routers ≡ Some i.router
   pub fits : IsTrue (is_device i.device)
   pub lan : index_of lan_name lans ≡ Some i.lan
-  pub new : has_interface i.router i.device earlier ≡ false
 
--- a table of the address of a host that may send, which no earlier source has, and the name of a LAN
-pub record IsSourceRow (lans : List (List ℕ)) (earlier : List Source) (d : Data) (s : Source) : Type 0 where
+-- a table of the address of a host that may send, and the name of a LAN
+pub record IsSourceRow (lans : List (List ℕ)) (d : Data) (s : SourceRow) : Type 0 where
   pub members : Members
   pub lan_name : List ℕ
   pub is_table : IsTable source_keys d members
@@ -95,10 +90,9 @@ pub record IsSourceRow (lans : List (List ℕ)) (earlier : List Source) (d : Dat
   pub is_address : IsAddr s.address
   pub may_send : IsSource s.address
   pub lan : index_of lan_name lans ≡ Some s.lan
-  pub new : has_source s.address earlier ≡ false
 
--- a table of the address of a source, the address of a group that routers forward and a time to live of 1 to 255, where no earlier flow has the source and the group
-pub record IsFlow (sources : List Source) (earlier : List Flow) (d : Data) (f : Flow) : Type 0 where
+-- a table of the address of one of the sources, the address of a group that routers forward and a time to live of 1 to 255
+pub record IsFlow (sources : List SourceRow) (d : Data) (f : Flow) : Type 0 where
   pub members : Members
   pub is_table : IsTable flow_keys d members
   pub source : HasText (codes "source") members (dotted f.source)
@@ -110,33 +104,34 @@ pub record IsFlow (sources : List Source) (earlier : List Flow) (d : Data) (f : 
   pub is_group : IsForwardedGroup f.group
   pub ttl_from : 1 ≤ f.ttl
   pub ttl_to : f.ttl ≤ 255
-  pub new : has_flow f.source f.group earlier ≡ false
 
 -- ---- the whole
 
--- a list of at most 1,024 LANs, which has to be there
+-- a list of at most 1,024 names, no two of them one, which has to be there
 pub record LansStand (ms : Members) (lans : List (List ℕ)) : Type 0 where
   pub items : Items
   pub list : get_member (codes "lans") ms ≡ Some (array items)
   pub few : length (rows_in items) ≤ 1024
-  pub each : EachStands IsLan [] (rows_in items) lans
+  pub each : EachStands IsLan (rows_in items) lans
+  pub distinct : AreDistinctBy lan_key lans
 
--- a list of at most so many parts, which may be missing
-pub record SectionStands {X : Type 0} (key : List ℕ) (most : ℕ) (Stands : List X → Data → X → Type 0) (ms : Members) (xs : List X) : Type 0 where
+-- a list of at most so many rows, no two of one key, which may be missing
+pub record SectionStands {X K : Type 0} (name : List ℕ) (most : ℕ) (Stands : Data → X → Type 0) (key : X → K) (ms : Members) (xs : List X) : Type 0 where
   pub rows : List Data
-  pub list : AreRows (get_member key ms) rows
+  pub list : AreRows (get_member name ms) rows
   pub few : length rows ≤ most
-  pub each : EachStands Stands [] rows xs
+  pub each : EachStands Stands rows xs
+  pub distinct : AreDistinctBy key xs
 
 -- a table of version 1
 pub record DocumentStands (ms : Members) (s : Sections) : Type 0 where
   pub keys : IsTrue (has_only top_keys ms)
   pub version : HasNumber (codes "version") ms 1
   pub lans : LansStand ms s.lans
-  pub routers : SectionStands (codes "router") 256 IsRouter ms s.routers
-  pub interfaces : SectionStands (codes "interface") 8192 (IsInterface s.lans s.routers) ms s.interfaces
-  pub sources : SectionStands (codes "source") 4096 (IsSourceRow s.lans) ms s.sources
-  pub flows : SectionStands (codes "flow") 4096 (IsFlow s.sources) ms s.flows
+  pub routers : SectionStands (codes "router") 256 IsRouter router_key ms s.routers
+  pub interfaces : SectionStands (codes "interface") 8192 (IsInterface s.lans s.routers) key_of_interface ms s.interfaces
+  pub sources : SectionStands (codes "source") 4096 (IsSourceRow s.lans) source_key ms s.sources
+  pub flows : SectionStands (codes "flow") 4096 (IsFlow s.sources) flow_key ms s.flows
   pub some_flow : 0 < length s.flows
 
 -- a text of at most 16,777,216 bytes that TOML's reader takes

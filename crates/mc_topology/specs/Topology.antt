@@ -1,15 +1,12 @@
 -- What a topology is.
-use Rattle.std.specs.Prelude.{◌≡◌, ℕ, ◌≤◌, Bool, true, false, List, ◌∷◌, length, map, refl}
+use Rattle.std.specs.Prelude.{◌≡◌, ℕ, ◌<◌, ◌≤◌, List, ◌∷◌, length, map, refl, Some, slice_get}
 use Rattle.std.specs.Cmp.Lexicographic.{slice_cmp}
-use Rattle.std.specs.Coded.{Coded, code_by, coded×, coded_bool, coded_ℕ, coded_list}
+use Rattle.std.specs.Coded.{Coded, code_by, coded×, coded_ℕ, coded_list}
 use Rattle.std.specs.FinMap as finite
 use Rattle.std.specs.Ordering.{nat_cmp}
-use Rattle.mc_text.specs.declared.addr.Order.{Order}
-use Rattle.mc_text.specs.declared.addr.Order.TheVariants.{Little, Big}
+use Rattle.mc_text.specs.Addr.{IsAddr, IsSource, IsForwardedGroup}
 use Rattle.mc_topology.specs.declared.flow.Flow.{Flow}
-use Rattle.mc_topology.specs.declared.interface.Interface.{Interface}
-use Rattle.mc_topology.specs.declared.router.Router.{Router}
-use Rattle.mc_topology.specs.declared.source.Source.{Source}
+use Rattle.mc_topology.specs.Rows.{RouterRow, InterfaceRow, SourceRow, router_code}
 
 -- the finite map from interfaces to the numbers of their LANs
 abbrev pub LanByInterface : Type 0
@@ -22,53 +19,76 @@ interface_key router device = router ∷ device
 -- The names of the LANs and the routers, each in order, the LAN of each interface, and the flows in order.
 pub record TopologyValue : Type 0 where
   pub lans : List (List ℕ)
-  pub routers : List Router
+  pub routers : List RouterRow
   pub interfaces : LanByInterface
   pub flows : List Flow
 
 -- What the five sections of a text stand for.
 pub record Sections : Type 0 where
   pub lans : List (List ℕ)
-  pub routers : List Router
-  pub interfaces : List Interface
-  pub sources : List Source
+  pub routers : List RouterRow
+  pub interfaces : List InterfaceRow
+  pub sources : List SourceRow
   pub flows : List Flow
 
-abbrev pub interface_entry : Interface → List ℕ × ℕ
+abbrev pub interface_entry : InterfaceRow → List ℕ × ℕ
 interface_entry i = (interface_key i.router i.device, i.lan)
 
-abbrev pub lan_by_interface : List Interface → LanByInterface
+abbrev pub lan_by_interface : List InterfaceRow → LanByInterface
 lan_by_interface interfaces = finite.from_entries (map interface_entry interfaces)
+
+-- the topology of these LANs, routers, interfaces and flows
+abbrev pub topology_with : List (List ℕ) → List RouterRow → List InterfaceRow → List Flow → TopologyValue
+topology_with lans routers interfaces flows = record { lans = lans; routers = routers; interfaces = lan_by_interface interfaces; flows = flows }
 
 -- the topology that the sections make
 abbrev pub topology_of : Sections → TopologyValue
-topology_of s = record { lans = s.lans; routers = s.routers; interfaces = lan_by_interface s.interfaces; flows = s.flows }
+topology_of s = topology_with s.lans s.routers s.interfaces s.flows
 
--- the limits that a topology keeps
-pub record IsWithinLimits (lans : List (List ℕ)) (routers : List Router) (flows : List Flow) : Type 0 where
-  pub few_lans : length lans ≤ 1024
-  pub few_routers : length routers ≤ 256
-  pub few_flows : length flows ≤ 4096
+-- What tells two rows of a section apart: the name of a LAN and of a router,
+abbrev pub lan_key : List ℕ → List ℕ
+lan_key name = name
 
--- a topology is stored as the tuple of its fields, and so are a router and a flow
-abbrev pub is_big : Order → Bool
-is_big Little = false
-is_big Big = true
+abbrev pub router_key : RouterRow → List ℕ
+router_key r = r.name
 
-abbrev pub order_of_big : Bool → Order
-order_of_big false = Little
-order_of_big true = Big
+-- the router and the device of an interface,
+abbrev pub key_of_interface : InterfaceRow → List ℕ
+key_of_interface i = interface_key i.router i.device
 
-pub order_of_big-is_big : (order : Order) → order_of_big (is_big order) ≡ order
-order_of_big-is_big Little = refl
-order_of_big-is_big Big = refl
+-- the address of a source,
+abbrev pub source_key : SourceRow → ℕ
+source_key s = s.address
 
-abbrev pub order_code : Coded Order
-order_code = code_by Bool coded_bool is_big order_of_big order_of_big-is_big
+-- and the source and the group of a flow
+abbrev pub flow_key : Flow → ℕ × ℕ
+flow_key f = (f.source, f.group)
 
-abbrev pub router_code : Coded Router
-router_code = code_by (List ℕ × Order) (coded× (coded_list coded_ℕ) order_code) (λ r. (r.name, r.order)) (λ p. record { name = p.0; order = p.1 }) (λ _. refl)
+-- no two places of the list hold items of one key
+abbrev pub AreDistinctBy : {X K : Type 0} → (X → K) → List X → Type 0
+AreDistinctBy {X} {K} key xs = (i j : ℕ) (x y : X) → slice_get xs i ≡ Some x → slice_get xs j ≡ Some y → key x ≡ key y → i ≡ j
 
+-- a flow from a host that may send, on one of the LANs, to a group that routers forward, with a time to live of 1 to 255
+pub record IsFlowAmong (lans : List (List ℕ)) (f : Flow) : Type 0 where
+  pub lan : f.lan < length lans
+  pub is_address : IsAddr f.source
+  pub may_send : IsSource f.source
+  pub is_group : IsForwardedGroup f.group
+  pub ttl_from : 1 ≤ f.ttl
+  pub ttl_to : f.ttl ≤ 255
+
+-- What every topology keeps: at most 1,024 LANs and 256 routers, no two of one name, each interface on one of the LANs, and 1 to 4,096 flows.
+pub record IsTopology (t : TopologyValue) : Type 0 where
+  pub few_lans : length t.lans ≤ 1024
+  pub few_routers : length t.routers ≤ 256
+  pub some_flow : 0 < length t.flows
+  pub few_flows : length t.flows ≤ 4096
+  pub lan_names : AreDistinctBy lan_key t.lans
+  pub router_names : AreDistinctBy router_key t.routers
+  pub interface_lans : (router lan : ℕ) (device : List ℕ) → finite.get t.interfaces (interface_key router device) ≡ Some lan → lan < length t.lans
+  pub flows_among : (n : ℕ) (f : Flow) → slice_get t.flows n ≡ Some f → IsFlowAmong t.lans f
+
+-- a topology is stored as the tuple of its fields, and so is a flow
 abbrev pub flow_code : Coded Flow
 flow_code =
     code_by (ℕ × (ℕ × (ℕ × ℕ))) (coded× coded_ℕ (coded× coded_ℕ (coded× coded_ℕ coded_ℕ)))
@@ -78,7 +98,7 @@ flow_code =
 
 abbrev pub topology_code : Coded TopologyValue
 topology_code =
-    code_by (List (List ℕ) × (List Router × (LanByInterface × List Flow)))
+    code_by (List (List ℕ) × (List RouterRow × (LanByInterface × List Flow)))
     (coded× (coded_list (coded_list coded_ℕ)) (coded× (coded_list router_code) (coded× (finite.code (coded_list coded_ℕ) coded_ℕ) (coded_list flow_code))))
     (λ t. (t.lans, (t.routers, (t.interfaces, t.flows))))
     (λ p. record { lans = p.0; routers = p.1.0; interfaces = p.1.1.0; flows = p.1.1.1 })

@@ -21,7 +21,8 @@ fn is_known(known: &[&str], key: &str) -> bool
 
 /// Whether each key of the table is one of these.
 fn each_key_is_known(table: &Table, known: &[&str]) -> bool
-    ensures { result ≡ list_all (λ key. list_any (λ k. bytes_eq k.now (string_bytes key)) known.now) (keys table.now) }
+    ensures { result ≡
+        list_all (λ key. list_any (λ k. bytes_eq k.now (string_bytes key)) known.now) (keys table.now) }
 {
     table.keys().all(|key| is_known(known, key.as_str()))
 }
@@ -56,7 +57,8 @@ pub(crate) fn list_of(value: &Value) -> Result<&[Value], TopologyFaultKind>
 /// The table that a value is, if it has no other key than these.
 #[tactic(auto, unfolding(crate::specs::Document::table_of))]
 pub(crate) fn table_of<'a>(value: &'a Value, known: &[&str]) -> Result<&'a Table, TopologyFaultKind>
-    ensures { Answers (λ table. table_view table.now) result (table_of (map (λ k. k.now) known.now) (view value.now)) }
+    ensures { Answers (λ table. table_view table.now) result
+        (table_of (map (λ k. k.now) known.now) (view value.now)) }
 {
     match value.as_table() {
         None => Err(TopologyFaultKind::BadKind),
@@ -67,7 +69,8 @@ pub(crate) fn table_of<'a>(value: &'a Value, known: &[&str]) -> Result<&'a Table
 
 /// The value under a key.
 pub(crate) fn value_at<'a>(table: &'a Table, key: &str) -> Option<&'a Value>
-    ensures { option_map (λ value. view value.now) result ≡ get_member key.now (table_view table.now) }
+    ensures { option_map (λ value. view value.now) result ≡
+        get_member key.now (table_view table.now) }
 {
     table.get(key)
 }
@@ -107,7 +110,8 @@ pub(crate) fn number_at(table: &Table, key: &str) -> Result<i64, TopologyFaultKi
 /// The values of the list under a key.
 #[tactic(auto, unfolding(crate::specs::Document::list_at))]
 pub(crate) fn list_at<'a>(table: &'a Table, key: &str) -> Result<&'a [Value], TopologyFaultKind>
-    ensures { Answers (λ values. map view values.now) result (list_at key.now (table_view table.now)) }
+    ensures { Answers (λ values. map view values.now) result
+        (list_at key.now (table_view table.now)) }
 {
     match value_at(table, key) {
         Some(value) => list_of(value),
@@ -121,7 +125,8 @@ pub(crate) fn optional_text_at<'a>(
     table: &'a Table,
     key: &str,
 ) -> Result<Option<&'a str>, TopologyFaultKind>
-    ensures { Answers (option_map (λ text. text.now)) result (optional_text_at key.now (table_view table.now)) }
+    ensures { Answers (option_map (λ text. text.now)) result
+        (optional_text_at key.now (table_view table.now)) }
 {
     match value_at(table, key) {
         Some(value) => Ok(Some(text_of(value)?)),
@@ -135,7 +140,8 @@ pub(crate) fn optional_list_at<'a>(
     table: &'a Table,
     key: &str,
 ) -> Result<&'a [Value], TopologyFaultKind>
-    ensures { Answers (λ values. map view values.now) result (optional_list_at key.now (table_view table.now)) }
+    ensures { Answers (λ values. map view values.now) result
+        (optional_list_at key.now (table_view table.now)) }
 {
     match value_at(table, key) {
         Some(value) => list_of(value),
@@ -150,7 +156,8 @@ pub(crate) fn rows_at<'a>(
     key: &str,
     most: usize,
 ) -> Result<&'a [Value], TopologyFaultKind>
-    ensures rows { Answers (λ rows. map view rows.now) result (rows_at key.now most (table_view table.now)) }
+    ensures rows { Answers (λ rows. map view rows.now) result
+        (rows_at key.now most (table_view table.now)) }
     ensures few { IfOk result (λ rows. length rows.now ≤ most) }
 {
     let rows = optional_list_at(table, key)?;

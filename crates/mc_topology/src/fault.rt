@@ -1,80 +1,88 @@
 //! Why a topology is refused.
 
 ghost use Rattle.std.specs.Prelude.{◌≡◌};
-ghost use Rattle.mc_topology.specs.declared.fault.TopologyFaultKind.TheVariants.{Memory};
+ghost use Rattle.mc_topology.specs.Answer.{out_of_memory};
 
 use std::alloc::{AllocError, AllocFailed};
+use std::fmt;
 use thiserror::Error;
 
 /// The part of a topology that a fault lies in.
-#[derive(Clone, Copy, Debug, PartialEq, Eq, Error)]
+#[derive(Clone, Copy, Debug, PartialEq, Eq)]
 pub enum Section {
     /// The text as a whole, its keys and its version.
-    #[error("top")]
     Top,
     /// The list of LANs.
-    #[error("lans")]
     Lans,
     /// The routers.
-    #[error("router")]
     Router,
     /// The interfaces.
-    #[error("interface")]
     Interface,
     /// The sources.
-    #[error("source")]
     Source,
     /// The flows.
-    #[error("flow")]
     Flow,
+}
+
+impl fmt::Display for Section {
+    fn fmt<W: fmt::Write>(&self, f: &mut fmt::Formatter<W>) -> fmt::Result {
+        f.write_str(match self {
+            Section::Top => "top",
+            Section::Lans => "lans",
+            Section::Router => "router",
+            Section::Interface => "interface",
+            Section::Source => "source",
+            Section::Flow => "flow",
+        })
+    }
 }
 
 /// What is wrong with a topology.
 #[derive(Clone, Copy, Debug, PartialEq, Eq, Error)]
 pub enum TopologyFaultKind {
-    /// The text is no TOML.
+    /// (1) The text is no UTF-8 or no TOML (`top`, 0).
     #[error("NotToml")]
     NotToml,
-    /// The version isn't 1.
+    /// (2) The version isn't 1 (`top`, 0).
     #[error("BadVersion")]
     BadVersion,
-    /// A key isn't there.
+    /// (3) A key isn't there.
     #[error("MissingKey")]
     MissingKey,
-    /// A key stands there that has no meaning.
+    /// (4) A key stands there that has no meaning.
     #[error("UnknownKey")]
     UnknownKey,
-    /// A value is of the wrong type, or an order is neither `little` nor `big`.
+    /// (5) A value is of the wrong type, or an order is neither `little` nor `big`.
     #[error("BadKind")]
     BadKind,
-    /// A text can't be the name of a LAN, of a router or of a device.
+    /// (6) A text can't be the name of a LAN, of a router or of a device.
     #[error("BadName")]
     BadName,
-    /// An earlier LAN or router has the name, or an earlier source the address.
+    /// (7) An earlier LAN or router has the name, or an earlier source the address.
     #[error("RepeatedName")]
     RepeatedName,
-    /// No router, LAN or source has the name or address.
+    /// (8) No router, LAN or source has the name or address.
     #[error("UnknownName")]
     UnknownName,
-    /// An earlier interface has the router and the device.
+    /// (9) An earlier interface has the router and the device.
     #[error("RepeatedInterface")]
     RepeatedInterface,
-    /// A text isn't the address of a source or of a forwarded group.
+    /// (10) A text isn't the address of a source or of a forwarded group.
     #[error("BadAddress")]
     BadAddress,
-    /// A time to live isn't 1 to 255.
+    /// (11) A time to live isn't 1 to 255.
     #[error("BadTtl")]
     BadTtl,
-    /// There is no flow.
+    /// (12) There is no flow (`flow`, 0).
     #[error("NoFlow")]
     NoFlow,
-    /// An earlier flow has the source and the group.
+    /// (13) An earlier flow has the source and the group.
     #[error("RepeatedFlow")]
     RepeatedFlow,
-    /// The text has too many bytes, or a section too many parts.
+    /// (14) The text has too many bytes (`top`, 0), or a section too many parts (its number 0).
     #[error("TooMany")]
     TooMany,
-    /// Memory ran out.
+    /// (15) Memory ran out (`top`, 0).
     #[error("Memory")]
     Memory,
 }
@@ -106,7 +114,7 @@ pub struct TopologyFault {
 }
 
 impl From<AllocError> for TopologyFault {
-    ghost from_gives = { λ _ fault. fault.kind ≡ Memory };
+    ghost from_gives = { λ _ fault. fault ≡ out_of_memory };
 
     fn from(_refused: AllocError) -> TopologyFault {
         TopologyFaultKind::Memory.at(Section::Top, 0)
@@ -114,7 +122,7 @@ impl From<AllocError> for TopologyFault {
 }
 
 impl<T: Drop> From<AllocFailed<T>> for TopologyFault {
-    ghost from_gives = { λ _ fault. fault.kind ≡ Memory };
+    ghost from_gives = { λ _ fault. fault ≡ out_of_memory };
 
     fn from(_refused: AllocFailed<T>) -> TopologyFault {
         TopologyFaultKind::Memory.at(Section::Top, 0)

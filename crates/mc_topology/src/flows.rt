@@ -35,10 +35,10 @@ fn has_flow(flows: &[Flow], source: Addr, group: Addr) -> bool
         .any(|flow| flow.source == source && flow.group == group)
 }
 
-/// A flow whose source and group none of the earlier ones has.
+/// Reads one flow, whose source and group none of the earlier ones has.
 #[tactic(auto, unfolding(crate::specs::Flows::flow_of))]
 fn flow_of(sources: &[Source], earlier: &[Flow], value: &Value) -> Result<Flow, TopologyFaultKind>
-    ensures { Answers (λ f. f) result (flow_of sources.now earlier.now (view value.now)) }
+    ensures { Answers (λ flow. flow) result (flow_of sources.now earlier.now (view value.now)) }
 {
     let table = table_of(value, &["source", "group", "ttl"])?;
     let source_text = text_at(table, "source")?;
@@ -59,10 +59,12 @@ fn flow_of(sources: &[Source], earlier: &[Flow], value: &Value) -> Result<Flow, 
     })
 }
 
-/// The same, with the place of a fault.
+/// Reads one flow, and adds to a fault its section and number.
 fn flow_at(sources: &[Source], earlier: &[Flow], value: &Value) -> Result<Flow, TopologyFault>
     requires { length earlier.now ≤ MAX_FLOWS }
-    ensures { Answers (λ f. f) result (place section.Flow (length earlier.now + 1) (flow_of sources.now earlier.now (view value.now))) }
+    ensures { Answers (λ flow. flow) result
+        (place section.Flow (length earlier.now + 1)
+        (flow_of sources.now earlier.now (view value.now))) }
 {
     let number = earlier.len() as u32 + 1;
     flow_of(sources, earlier, value).map_err(|kind| kind.at(Section::Flow, number))
@@ -87,7 +89,8 @@ fn flow_rows(table: &Table) -> Result<&[Value], TopologyFaultKind>
 /// The flows of a list, one after the other.
 fn each_flow(alloc: Global, sources: &[Source], rows: &[Value]) -> Result<Vec<Flow>, TopologyFault>
     requires { length rows.now ≤ MAX_FLOWS }
-    ensures flows { Gives (λ flows. flows.items) result (each section.Flow (flow_of sources.now) [] (map view rows.now)) }
+    ensures flows { Gives (λ flows. flows.items) result
+        (each section.Flow (flow_of sources.now) [] (map view rows.now)) }
     ensures few { IfOk result (λ flows. vec_len flows ≤ MAX_FLOWS) }
 {
     let mut flows = Vec::new(alloc);
@@ -105,7 +108,8 @@ pub(crate) fn flows_in(
     sources: &[Source],
     table: &Table,
 ) -> Result<Vec<Flow>, TopologyFault>
-    ensures flows { Gives (λ flows. flows.items) result (flows_in sources.now (table_view table.now)) }
+    ensures flows { Gives (λ flows. flows.items) result
+        (flows_in sources.now (table_view table.now)) }
     ensures few { IfOk result (λ flows. vec_len flows ≤ MAX_FLOWS) }
 {
     let rows = flow_rows(table).map_err(|kind| kind.at(Section::Flow, 0))?;

@@ -8,10 +8,10 @@ ghost use Rattle.mc_topology.specs.Interfaces.{has_interface, interface_of, inte
 
 use crate::document::{rows_at, table_of, text_at};
 use crate::fault::{Section, TopologyFault, TopologyFaultKind};
-use crate::interface::{Interface, MAX_INTERFACES};
-use crate::lan::{MAX_LANS, lan_no_of};
+use crate::interface::{Interface, InterfaceText, MAX_INTERFACES};
+use crate::lans::{MAX_LANS, lan_no_of};
 use crate::name::{Name, is_device};
-use crate::number::{LanNo, RouterNo};
+use crate::number::RouterNo;
 use crate::router::{MAX_ROUTERS, Router};
 use crate::routers::router_no_of;
 use std::alloc::Global;
@@ -21,21 +21,23 @@ use toml::{Table, Value};
 fn has_interface(interfaces: &[Interface], router: RouterNo, device: &str) -> bool
     ensures { result ≡ has_interface router device.now interfaces.now }
 {
-    interfaces.iter().any(|interface| interface.router == router && interface.device.is(device))
+    interfaces
+        .iter()
+        .any(|interface| interface.is_at(router, device.as_bytes()))
 }
 
-/// The number of the router, the device and the number of the LAN of an interface, where no earlier
-/// one has the router and the device.
+/// Reads one interface, whose router and device none of the earlier ones has.
 #[tactic(auto, unfolding(crate::specs::Interfaces::interface_of))]
 fn interface_of<'a>(
     lans: &[Name],
     routers: &[Router],
     earlier: &[Interface],
     value: &'a Value,
-) -> Result<(u32, &'a str, u32), TopologyFaultKind>
+) -> Result<InterfaceText<'a>, TopologyFaultKind>
     requires few_lans { length lans.now ≤ MAX_LANS }
     requires few_routers { length routers.now ≤ MAX_ROUTERS }
-    ensures { Answers (λ i. record { router = i.0; device = i.1.now; lan = i.2 }) result (interface_of lans.now routers.now earlier.now (view value.now)) }
+    ensures { Answers (λ interface. interface) result
+        (interface_of lans.now routers.now earlier.now (view value.now)) }
 {
     let table = table_of(value, &["router", "device", "lan"])?;
     let router_name = text_at(table, "router")?;
@@ -49,20 +51,26 @@ fn interface_of<'a>(
     if has_interface(earlier, router, device) {
         return Err(TopologyFaultKind::RepeatedInterface);
     }
-    Ok((router.0, device, lan.0))
+    Ok(InterfaceText {
+        router,
+        device,
+        lan,
+    })
 }
 
-/// The same, with the place of a fault.
+/// Reads one interface, and adds to a fault its section and number.
 fn interface_at<'a>(
     lans: &[Name],
     routers: &[Router],
     earlier: &[Interface],
     value: &'a Value,
-) -> Result<(u32, &'a str, u32), TopologyFault>
+) -> Result<InterfaceText<'a>, TopologyFault>
     requires few_lans { length lans.now ≤ MAX_LANS }
     requires few_routers { length routers.now ≤ MAX_ROUTERS }
     requires few { length earlier.now ≤ MAX_INTERFACES }
-    ensures { Answers (λ i. record { router = i.0; device = i.1.now; lan = i.2 }) result (place section.Interface (length earlier.now + 1) (interface_of lans.now routers.now earlier.now (view value.now))) }
+    ensures { Answers (λ interface. interface) result
+        (place section.Interface (length earlier.now + 1)
+        (interface_of lans.now routers.now earlier.now (view value.now))) }
 {
     let number = earlier.len() as u32 + 1;
     interface_of(lans, routers, earlier, value).map_err(|kind| kind.at(Section::Interface, number))
@@ -78,16 +86,18 @@ fn each_interface(
     requires few_lans { length lans.now ≤ MAX_LANS }
     requires few_routers { length routers.now ≤ MAX_ROUTERS }
     requires few { length rows.now ≤ MAX_INTERFACES }
-    ensures { Gives (λ interfaces. interfaces.items) result (each section.Interface (interface_of lans.now routers.now) [] (map view rows.now)) }
+    ensures { Gives (λ interfaces. interfaces.items) result
+        (each section.Interface (interface_of lans.now routers.now) [] (map view rows.now)) }
 {
     let mut interfaces = Vec::new(alloc);
     for row in rows {
-        let (router, device, lan) = interface_at(lans, routers, &interfaces, row)?;
-        let device = Name::new(alloc, device)?;
+        let interface = interface_at(lans, routers, &interfaces, row)?;
+        let device = Name::new(alloc, interface.device)?;
+        let (router, lan) = (interface.router, interface.lan);
         interfaces.push(Interface {
-            router: RouterNo(router),
+            router,
             device,
-            lan: LanNo(lan),
+            lan,
         })?;
     }
     Ok(interfaces)
@@ -103,7 +113,8 @@ pub(crate) fn interfaces_in(
 ) -> Result<Vec<Interface>, TopologyFault>
     requires few_lans { length lans.now ≤ MAX_LANS }
     requires few_routers { length routers.now ≤ MAX_ROUTERS }
-    ensures { Gives (λ interfaces. interfaces.items) result (interfaces_in lans.now routers.now (table_view table.now)) }
+    ensures { Gives (λ interfaces. interfaces.items) result
+        (interfaces_in lans.now routers.now (table_view table.now)) }
 {
     let rows = rows_at(table, "interface", MAX_INTERFACES).map_err(|kind| kind.at(
         Section::Interface,

@@ -1,20 +1,43 @@
 //! What follows from the definitions alone, for whoever builds on them.
 
-ghost use Rattle.std.specs.Prelude.{◌≡◌, ℕ, List, Some, option_map, slice_get};
+ghost use Rattle.std.specs.Prelude.{◌≡◌, ◌↔◌, ℕ, List, Some, Ok, option_map, slice_get};
 ghost use Rattle.mc_topology.specs.Names.{index_of};
+ghost use Rattle.mc_topology.specs.Reading.{reading_of};
 ghost use Rattle.mc_topology.specs.Routers.{router_no_of};
 ghost use Rattle.mc_topology.specs.Stands.{TopologyStands};
-ghost use Rattle.mc_topology.specs.Topology.{TopologyValue};
+ghost use Rattle.mc_topology.specs.Topology.{TopologyValue, IsTopology};
 
-/// The name of a LAN's number is that of the LAN, and the number of a LAN's name is that of the LAN:
-/// `lan_no` and `lan_name` undo each other.
-pub fn lan_numbers_and_names_undo_each_other()
-    ensures number_of_name { (text : List ℕ) (t : TopologyValue) (lan : ℕ) (name : List ℕ) → TopologyStands text t → slice_get t.lans lan ≡ Some name → index_of name t.lans ≡ Some lan }
-    ensures name_of_number { (t : TopologyValue) (lan : ℕ) (name : List ℕ) → index_of name t.lans ≡ Some lan → slice_get t.lans lan ≡ Some name }
+/// Reading gives a topology exactly where the text stands for it, so a text stands for one topology at
+/// most.
+pub fn topologies_are_read_as_they_stand()
+    ensures read { (text : List ℕ) (t : TopologyValue) →
+        ((reading_of text ≡ Ok t) ↔ TopologyStands text t) }
+    ensures once { (text : List ℕ) (t u : TopologyValue) → TopologyStands text t →
+        TopologyStands text u → t ≡ u }
 {}
 
-/// The same of routers: `router_no` and `router_name` undo each other.
+/// What a text stands for keeps the rules of a topology, as `Topology::rules` says of each topology in
+/// memory.
+pub fn texts_stand_for_topologies()
+    ensures { (text : List ℕ) (t : TopologyValue) → TopologyStands text t → IsTopology t }
+{}
+
+/// The number of a LAN's name is the LAN's number, and the name of that number is the name: `lan_no` and
+/// `lan_name` undo each other.
+pub fn lan_numbers_and_names_undo_each_other()
+    ensures number_of_name { (t : TopologyValue) (lan : ℕ) (name : List ℕ) → IsTopology t →
+        slice_get t.lans lan ≡ Some name → index_of name t.lans ≡ Some lan }
+    ensures name_of_number { (t : TopologyValue) (lan : ℕ) (name : List ℕ) →
+        index_of name t.lans ≡ Some lan → slice_get t.lans lan ≡ Some name }
+{}
+
+/// The number of a router's name is the router's number, and the name of that number is the name:
+/// `router_no` and `router_name` undo each other.
 pub fn router_numbers_and_names_undo_each_other()
-    ensures number_of_name { (text : List ℕ) (t : TopologyValue) (router : ℕ) (name : List ℕ) → TopologyStands text t → option_map (λ r. r.name) (slice_get t.routers router) ≡ Some name → router_no_of name t.routers ≡ Some router }
-    ensures name_of_number { (t : TopologyValue) (router : ℕ) (name : List ℕ) → router_no_of name t.routers ≡ Some router → option_map (λ r. r.name) (slice_get t.routers router) ≡ Some name }
+    ensures number_of_name { (t : TopologyValue) (router : ℕ) (name : List ℕ) → IsTopology t →
+        option_map (λ r. r.name) (slice_get t.routers router) ≡ Some name →
+        router_no_of name t.routers ≡ Some router }
+    ensures name_of_number { (t : TopologyValue) (router : ℕ) (name : List ℕ) →
+        router_no_of name t.routers ≡ Some router →
+        option_map (λ r. r.name) (slice_get t.routers router) ≡ Some name }
 {}

@@ -9,7 +9,7 @@ mod flow;
 mod flows;
 mod interface;
 mod interfaces;
-mod lan;
+mod lans;
 mod laws;
 mod name;
 mod number;
@@ -22,7 +22,10 @@ mod topology;
 
 pub use fault::{Section, TopologyFault, TopologyFaultKind};
 pub use flow::Flow;
-pub use laws::{lan_numbers_and_names_undo_each_other, router_numbers_and_names_undo_each_other};
+pub use laws::{
+    lan_numbers_and_names_undo_each_other, router_numbers_and_names_undo_each_other,
+    texts_stand_for_topologies, topologies_are_read_as_they_stand,
+};
 pub use number::{LanNo, RouterNo};
 pub use topology::Topology;
 

@@ -10,7 +10,7 @@ use crate::document::{has_only, number_at};
 use crate::fault::{Section, TopologyFault, TopologyFaultKind};
 use crate::flows::flows_in;
 use crate::interfaces::interfaces_in;
-use crate::lan::lans_in;
+use crate::lans::lans_in;
 use crate::routers::routers_in;
 use crate::sources::sources_in;
 use crate::topology::Topology;

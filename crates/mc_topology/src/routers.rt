@@ -10,7 +10,7 @@ use crate::document::{optional_text_at, rows_at, table_of, text_at};
 use crate::fault::{Section, TopologyFault, TopologyFaultKind};
 use crate::name::{Name, is_name};
 use crate::number::RouterNo;
-use crate::router::{MAX_ROUTERS, Router};
+use crate::router::{MAX_ROUTERS, Router, RouterText};
 use mc_text::Order;
 use std::alloc::Global;
 use toml::{Table, Value};
@@ -45,19 +45,17 @@ fn place_of(routers: &[Router], name: &str) -> Option<usize>
 /// The number of the router with the name.
 pub(crate) fn router_no_of(routers: &[Router], name: &str) -> Option<RouterNo>
     requires { length routers.now ≤ MAX_ROUTERS }
-    ensures { result ≡ router_no_of name.now routers.now }
+    ensures number { result ≡ router_no_of name.now routers.now }
+    ensures listed { IfSome result (λ router. router < length routers.now) }
 {
     let place = place_of(routers, name)?;
     Some(RouterNo(place as u32))
 }
 
-/// The name and the byte order of a router, whose name none of the earlier ones has.
+/// Reads one router, whose name none of the earlier ones has.
 #[tactic(auto, unfolding(crate::specs::Routers::router_of))]
-fn router_of<'a>(
-    earlier: &[Router],
-    value: &'a Value,
-) -> Result<(&'a str, Order), TopologyFaultKind>
-    ensures { Answers (λ router. record { name = router.0.now; order = router.1 }) result (router_of earlier.now (view value.now)) }
+fn router_of<'a>(earlier: &[Router], value: &'a Value) -> Result<RouterText<'a>, TopologyFaultKind>
+    ensures { Answers (λ router. router) result (router_of earlier.now (view value.now)) }
 {
     let table = table_of(value, &["name", "order"])?;
     let name = text_at(table, "name")?;
@@ -69,13 +67,14 @@ fn router_of<'a>(
     if has_router(earlier, name) {
         return Err(TopologyFaultKind::RepeatedName);
     }
-    Ok((name, order))
+    Ok(RouterText { name, order })
 }
 
-/// The same, with the place of a fault.
-fn router_at<'a>(earlier: &[Router], value: &'a Value) -> Result<(&'a str, Order), TopologyFault>
+/// Reads one router, and adds to a fault its section and number.
+fn router_at<'a>(earlier: &[Router], value: &'a Value) -> Result<RouterText<'a>, TopologyFault>
     requires { length earlier.now ≤ MAX_ROUTERS }
-    ensures { Answers (λ router. record { name = router.0.now; order = router.1 }) result (place section.Router (length earlier.now + 1) (router_of earlier.now (view value.now))) }
+    ensures { Answers (λ router. router) result
+        (place section.Router (length earlier.now + 1) (router_of earlier.now (view value.now))) }
 {
     let number = earlier.len() as u32 + 1;
     router_of(earlier, value).map_err(|kind| kind.at(Section::Router, number))
@@ -84,13 +83,15 @@ fn router_at<'a>(earlier: &[Router], value: &'a Value) -> Result<(&'a str, Order
 /// The routers of a list, one after the other.
 fn each_router(alloc: Global, rows: &[Value]) -> Result<Vec<Router>, TopologyFault>
     requires { length rows.now ≤ MAX_ROUTERS }
-    ensures routers { Gives (λ routers. routers.items) result (each section.Router router_of [] (map view rows.now)) }
+    ensures routers { Gives (λ routers. routers.items) result
+        (each section.Router router_of [] (map view rows.now)) }
     ensures few { IfOk result (λ routers. vec_len routers ≤ MAX_ROUTERS) }
 {
     let mut routers = Vec::new(alloc);
     for row in rows {
-        let (name, order) = router_at(&routers, row)?;
-        let name = Name::new(alloc, name)?;
+        let router = router_at(&routers, row)?;
+        let name = Name::new(alloc, router.name)?;
+        let order = router.order;
         routers.push(Router { name, order })?;
     }
     Ok(routers)

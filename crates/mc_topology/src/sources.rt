@@ -9,7 +9,7 @@ ghost use Rattle.mc_topology.specs.Sources.{has_source, lan_of_source, source_of
 use crate::address::source_address_of;
 use crate::document::{rows_at, table_of, text_at};
 use crate::fault::{Section, TopologyFault, TopologyFaultKind};
-use crate::lan::{MAX_LANS, lan_no_of};
+use crate::lans::{MAX_LANS, lan_no_of};
 use crate::name::Name;
 use crate::number::LanNo;
 use crate::source::{MAX_SOURCES, Source};
@@ -39,11 +39,12 @@ pub(crate) fn lan_of_source(sources: &[Source], address: Addr) -> Option<LanNo>
     Some(source.lan)
 }
 
-/// The address and the LAN of a source, whose address none of the earlier ones has.
+/// Reads one source, whose address none of the earlier ones has.
 #[tactic(auto, unfolding(crate::specs::Sources::source_of))]
 fn source_of(lans: &[Name], earlier: &[Source], value: &Value) -> Result<Source, TopologyFaultKind>
     requires { length lans.now ≤ MAX_LANS }
-    ensures { Answers (λ s. s) result (source_of lans.now earlier.now (view value.now)) }
+    ensures { Answers (λ source. source) result
+        (source_of lans.now earlier.now (view value.now)) }
 {
     let table = table_of(value, &["address", "lan"])?;
     let text = text_at(table, "address")?;
@@ -56,11 +57,13 @@ fn source_of(lans: &[Name], earlier: &[Source], value: &Value) -> Result<Source,
     Ok(Source { address, lan })
 }
 
-/// The same, with the place of a fault.
+/// Reads one source, and adds to a fault its section and number.
 fn source_at(lans: &[Name], earlier: &[Source], value: &Value) -> Result<Source, TopologyFault>
     requires few_lans { length lans.now ≤ MAX_LANS }
     requires few { length earlier.now ≤ MAX_SOURCES }
-    ensures { Answers (λ s. s) result (place section.Source (length earlier.now + 1) (source_of lans.now earlier.now (view value.now))) }
+    ensures { Answers (λ source. source) result
+        (place section.Source (length earlier.now + 1)
+        (source_of lans.now earlier.now (view value.now))) }
 {
     let number = earlier.len() as u32 + 1;
     source_of(lans, earlier, value).map_err(|kind| kind.at(Section::Source, number))
@@ -70,7 +73,8 @@ fn source_at(lans: &[Name], earlier: &[Source], value: &Value) -> Result<Source,
 fn each_source(alloc: Global, lans: &[Name], rows: &[Value]) -> Result<Vec<Source>, TopologyFault>
     requires few_lans { length lans.now ≤ MAX_LANS }
     requires few { length rows.now ≤ MAX_SOURCES }
-    ensures { Gives (λ sources. sources.items) result (each section.Source (source_of lans.now) [] (map view rows.now)) }
+    ensures { Gives (λ sources. sources.items) result
+        (each section.Source (source_of lans.now) [] (map view rows.now)) }
 {
     let mut sources = Vec::new(alloc);
     for row in rows {

@@ -1,16 +1,15 @@
 //! A topology and what it answers.
 
-ghost use Rattle.std.specs.Prelude.{◌≡◌, ◌<◌, ◌≤◌, length, Some, option_map, slice_get};
+ghost use Rattle.std.specs.Prelude.{◌≡◌, ◌<◌, ◌≤◌, length, Some, IfSome, option_map, slice_get};
 ghost use Rattle.std.specs.FinMap as finite;
-ghost use Rattle.std.specs.Str.{bytes_eq};
 ghost use Rattle.mc_topology.specs.Names.{index_of};
 ghost use Rattle.mc_topology.specs.Routers.{router_no_of};
-ghost use Rattle.mc_topology.specs.Topology.{interface_key, lan_by_interface, IsWithinLimits};
+ghost use Rattle.mc_topology.specs.Topology.{interface_key, lan_by_interface, topology_with, IsFlowAmong, IsTopology};
 
 use crate::fault::TopologyFault;
 use crate::flow::Flow;
 use crate::interface::Interface;
-use crate::lan::lan_no_of;
+use crate::lans::lan_no_of;
 use crate::name::Name;
 use crate::number::{LanNo, RouterNo};
 use crate::read::reading_of;
@@ -30,30 +29,24 @@ pub struct Topology {
 }
 
 impl Model for Topology {
-    ghost use Rattle.mc_topology.specs.Topology.{TopologyValue, topology_code, lan_by_interface, IsWithinLimits};
+    ghost use Rattle.mc_topology.specs.Topology.{TopologyValue, topology_code, topology_with, IsTopology};
 
     ghost Value = { TopologyValue };
 
     ghost coded = { topology_code };
 
-    ghost view = { λ s. record { lans = s.lans.items; routers = s.routers.items; interfaces = lan_by_interface s.interfaces.items; flows = s.flows.items } };
+    ghost view = { λ s. topology_with s.lans.items s.routers.items s.interfaces.items s.flows.items };
 
-    ghost invariant = { λ s. IsWithinLimits s.lans.items s.routers.items s.flows.items };
-}
-
-/// Whether the interface is that of a router and a device.
-fn is_at(interface: &Interface, router: RouterNo, device: &[u8]) -> bool
-    ensures { result ≡ bytes_eq (interface_key router device.now) (interface_key interface.now.router interface.now.device) }
-{
-    router == interface.router && device == interface.device.as_str().as_bytes()
+    ghost invariant = { λ s. IsTopology
+        (topology_with s.lans.items s.routers.items s.interfaces.items s.flows.items) };
 }
 
 /// The LAN of the interface of a router and a device.
-fn lan_at(interfaces: &[Interface], router: RouterNo, device: &[u8]) -> Option<LanNo>
+fn lan_of_interface(interfaces: &[Interface], router: RouterNo, device: &[u8]) -> Option<LanNo>
     ensures { result ≡ finite.get (lan_by_interface interfaces.now) (interface_key router device.now) }
 {
     for interface in interfaces {
-        if is_at(interface, router, device) {
+        if interface.is_at(router, device) {
             return Some(interface.lan);
         }
     }
@@ -74,8 +67,8 @@ impl Topology {
         interfaces: Vec<Interface>,
         flows: Vec<Flow>,
     ) -> Topology
-        requires { IsWithinLimits lans.items routers.items flows.items }
-        ensures { result ≡ record { lans = lans.items; routers = routers.items; interfaces = lan_by_interface interfaces.items; flows = flows.items } }
+        requires { IsTopology (topology_with lans.items routers.items interfaces.items flows.items) }
+        ensures { result ≡ topology_with lans.items routers.items interfaces.items flows.items }
     {
         Topology {
             lans,
@@ -85,35 +78,45 @@ impl Topology {
         }
     }
 
-    /// Reads a topology. The sections are judged in the order of `Section`, the parts of a section from
-    /// the front, and the first rule that is broken is answered with its place. Of a table the keys are
-    /// judged first, and then the values.
+    /// Reads a topology: at most 16,777,216 bytes of TOML, 1,024 LANs, 256 routers, 8,192 interfaces,
+    /// 4,096 sources and 1 to 4,096 flows. The sections are judged in the order of `Section`, the parts
+    /// of a section from the front, and the first rule that is broken is answered with its place. Of a
+    /// table the keys are judged first, and then the values. `Memory`, at `top` 0, where a growth was
+    /// refused.
     pub fn read(alloc: Global, text: &[u8]) -> Result<Topology, TopologyFault>
         // What is read is what the text stands for.
         ensures found { IfOk result (TopologyStands text.now) }
         // A text that stands for a topology is read as that, unless memory runs out.
-        ensures only { (t : TopologyValue) → TopologyStands text.now t → Gives (λ x. x) result (Ok t) }
+        ensures only { (t : TopologyValue) → TopologyStands text.now t →
+            Gives (λ x. x) result (Ok t) }
         // Which fault it is.
-        ensures exact { Gives (λ x. x) result (reading_of text.now) }
+        ensures fault { Gives (λ x. x) result (reading_of text.now) }
     {
         reading_of(alloc, text)
     }
 
-    /// How many LANs there are.
+    /// Does nothing. Its clause tells the proofs of whoever holds a topology what each topology keeps.
+    pub fn rules(&self)
+        ensures { IsTopology self.now }
+    {
+        let _ = &self.lans;
+    }
+
+    /// How many LANs there are, at most 1,024.
     pub fn lans(&self) -> u32
         ensures { result ≡ length self.now.lans }
     {
         self.lans.len() as u32
     }
 
-    /// How many routers there are.
+    /// How many routers there are, at most 256.
     pub fn routers(&self) -> u32
         ensures { result ≡ length self.now.routers }
     {
         self.routers.len() as u32
     }
 
-    /// How many flows there are.
+    /// How many flows there are, 1 to 4,096.
     pub fn flows(&self) -> u32
         ensures { result ≡ length self.now.flows }
     {
@@ -125,20 +128,24 @@ impl Topology {
         requires { router < length self.now.routers }
         ensures { option_map (λ r. r.order) (slice_get self.now.routers router) ≡ Some result }
     {
-        self.routers[router.0 as usize].order
+        let found = &self.routers[router.0 as usize];
+        found.order
     }
 
-    /// The LAN on which the interface of a router and a device lies, if the topology names it.
+    /// The LAN on which the interface of a router and a device lies. None where the topology names no
+    /// interface of the router and the device.
     pub fn lan_of_device(&self, router: RouterNo, device: &[u8]) -> Option<LanNo>
-        ensures { result ≡ finite.get self.now.interfaces (interface_key router device.now) }
+        ensures lan { result ≡ finite.get self.now.interfaces (interface_key router device.now) }
+        ensures listed { IfSome result (λ lan. lan < length self.now.lans) }
     {
-        lan_at(&self.interfaces, router, device)
+        lan_of_interface(&self.interfaces, router, device)
     }
 
-    /// A flow by its number.
+    /// The flow with this number, counted from 0 in the order of the topology.
     pub fn flow(&self, flow: u32) -> &Flow
         requires { flow < length self.now.flows }
-        ensures { slice_get self.now.flows flow ≡ Some result.now }
+        ensures flow { slice_get self.now.flows flow ≡ Some result.now }
+        ensures among { IsFlowAmong self.now.lans result.now }
     {
         &self.flows[flow as usize]
     }
@@ -146,29 +153,35 @@ impl Topology {
     /// The name of a router.
     pub fn router_name(&self, router: RouterNo) -> &str
         requires { router < length self.now.routers }
-        ensures { option_map (λ r. r.name) (slice_get self.now.routers router) ≡ Some result.now }
+        ensures name { option_map (λ r. r.name) (slice_get self.now.routers router) ≡
+            Some result.now }
+        ensures number { router_no_of result.now self.now.routers ≡ Some router }
     {
-        self.routers[router.0 as usize].name.as_str()
+        let found = &self.routers[router.0 as usize];
+        found.name.as_str()
     }
 
     /// The name of a LAN.
     pub fn lan_name(&self, lan: LanNo) -> &str
         requires { lan < length self.now.lans }
-        ensures { slice_get self.now.lans lan ≡ Some result.now }
+        ensures name { slice_get self.now.lans lan ≡ Some result.now }
+        ensures number { index_of result.now self.now.lans ≡ Some lan }
     {
         self.lans[lan.0 as usize].as_str()
     }
 
-    /// The number of the router with the name.
+    /// The number of the router with the name. None where no router has it.
     pub fn router_no(&self, name: &str) -> Option<RouterNo>
-        ensures { result ≡ router_no_of name.now self.now.routers }
+        ensures number { result ≡ router_no_of name.now self.now.routers }
+        ensures listed { IfSome result (λ router. router < length self.now.routers) }
     {
         router_no_of(&self.routers, name)
     }
 
-    /// The number of the LAN with the name.
+    /// The number of the LAN with the name. None where no LAN has it.
     pub fn lan_no(&self, name: &str) -> Option<LanNo>
-        ensures { result ≡ index_of name.now self.now.lans }
+        ensures number { result ≡ index_of name.now self.now.lans }
+        ensures listed { IfSome result (λ lan. lan < length self.now.lans) }
     {
         lan_no_of(&self.lans, name)
     }

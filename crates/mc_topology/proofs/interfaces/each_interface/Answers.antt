@@ -6,17 +6,17 @@ use Rattle.mc_topology.specs.Interfaces.{interface_of}
 use Rattle.mc_topology.proofs.Each.{each_next, each_refused, each_done}
 use Rattle.mc_topology.proofs.interfaces.each_interface.Goals as goal
 
-pub returns-in_err-router : goal.returns-in_err-router
-returns-in_err-router c =
+pub returns-in_err-interface : goal.returns-in_err-interface
+returns-in_err-interface c =
     let p = err_from_is_err_and c.from_residual.result c.from_residual.ensures.1 in
-    let refused = each_refused section.Interface (interface_of c.args.lans.now c.args.routers.now) view c.loop-row.interfaces.items c.args.rows.now c.loop-row.row-index c.row-item.result c.in_err-router.field-0.0 c.loop-row-test.true c.row-item.is (rw (← c.deref.ensures.value) (c.in_err-router.ensures)) in
+    let refused = each_refused section.Interface (interface_of c.args.lans.now c.args.routers.now) view c.loop-row.interfaces.items c.args.rows.now c.loop-row.row-index c.row-item.result c.in_err-interface.field-0.0 c.loop-row-test.true c.row-item.is (rw (← c.deref.ensures.value) (c.in_err-interface.ensures)) in
     rw (p.1, p.2) (λ _. sym c.loop-row.invariant.rows ∙ refused)
 
 pub loop-row-preserved : goal.loop-row-preserved
 loop-row-preserved c =
-    let next = each_next section.Interface (interface_of c.args.lans.now c.args.routers.now) view c.loop-row.interfaces.items c.args.rows.now c.loop-row.row-index c.row-item.result (record { router = c.in_ok-router.router; device = c.in_ok-router.device.now; lan = c.in_ok-router.lan }) c.loop-row-test.true c.row-item.is (rw (← c.deref.ensures.value) (c.in_ok-router.ensures)) in
+    let next = each_next section.Interface (interface_of c.args.lans.now c.args.routers.now) view c.loop-row.interfaces.items c.args.rows.now c.loop-row.row-index c.row-item.result c.in_ok-interface.interface c.loop-row-test.true c.row-item.is (rw (← c.deref.ensures.value) (c.in_ok-interface.ensures)) in
     record {
-      rows = rw (c.in_ok-push.ensures.items, c.in_ok-device.ensures) (sym next ∙ c.loop-row.invariant.rows);
+      rows = rw (c.in_ok-push.ensures.items, c.in_ok-device.ensures, c.interface.view_is) (sym next ∙ c.loop-row.invariant.rows);
       count = omega (arith, c.in_ok-push.ensures.len);
     }
 

@@ -1,6 +1,6 @@
 //! The list of LANs.
 
-ghost use Rattle.std.specs.Prelude.{◌≡◌, ◌+◌, ◌≤◌, map, length, vec_len, [], IfOk};
+ghost use Rattle.std.specs.Prelude.{◌≡◌, ◌+◌, ◌<◌, ◌≤◌, map, length, vec_len, [], IfOk, IfSome};
 ghost use Rattle.toml.specs.View.{view, table_view};
 ghost use Rattle.mc_topology.specs.declared.fault.Section.TheVariants.{Lans};
 ghost use Rattle.mc_topology.specs.Answer.{Answers, Gives, place, each};
@@ -20,13 +20,14 @@ pub(crate) const MAX_LANS: usize = 1024;
 /// The number of the LAN with the name.
 pub(crate) fn lan_no_of(lans: &[Name], name: &str) -> Option<LanNo>
     requires { length lans.now ≤ MAX_LANS }
-    ensures { result ≡ index_of name.now lans.now }
+    ensures number { result ≡ index_of name.now lans.now }
+    ensures listed { IfSome result (λ lan. lan < length lans.now) }
 {
     let place = index_of(lans, name)?;
     Some(LanNo(place as u32))
 }
 
-/// The name of a LAN, which none of the earlier ones has.
+/// Reads the name of one LAN, which none of the earlier ones has.
 #[tactic(auto, unfolding(crate::specs::Lans::lan_of))]
 fn lan_of<'a>(earlier: &[Name], value: &'a Value) -> Result<&'a str, TopologyFaultKind>
     ensures { Answers (λ name. name.now) result (lan_of earlier.now (view value.now)) }
@@ -41,10 +42,11 @@ fn lan_of<'a>(earlier: &[Name], value: &'a Value) -> Result<&'a str, TopologyFau
     Ok(name)
 }
 
-/// The same, with the place of a fault.
+/// Reads the name of one LAN, and adds to a fault its section and number.
 fn lan_at<'a>(earlier: &[Name], value: &'a Value) -> Result<&'a str, TopologyFault>
     requires { length earlier.now ≤ MAX_LANS }
-    ensures { Answers (λ name. name.now) result (place Lans (length earlier.now + 1) (lan_of earlier.now (view value.now))) }
+    ensures { Answers (λ name. name.now) result
+        (place Lans (length earlier.now + 1) (lan_of earlier.now (view value.now))) }
 {
     let number = earlier.len() as u32 + 1;
     lan_of(earlier, value).map_err(|kind| kind.at(Section::Lans, number))

@@ -4,7 +4,7 @@ use Rattle.toml.specs.View.{view}
 use Rattle.mc_topology.specs.declared.fault.Section.TheVariants.{Lans}
 use Rattle.mc_topology.specs.Lans.{lan_of}
 use Rattle.mc_topology.proofs.Each.{each_next, each_refused, each_done}
-use Rattle.mc_topology.proofs.lan.each_lan.Goals as goal
+use Rattle.mc_topology.proofs.lans.each_lan.Goals as goal
 
 pub returns-in_err-name-clause-lans : goal.returns-in_err-name-clause-lans
 returns-in_err-name-clause-lans c =

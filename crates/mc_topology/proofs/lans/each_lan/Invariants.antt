@@ -3,7 +3,7 @@ use Rattle.toml.specs.View.{view}
 use Rattle.mc_topology.specs.declared.fault.Section.TheVariants.{Lans}
 use Rattle.mc_topology.specs.Answer.{each}
 use Rattle.mc_topology.specs.Lans.{lan_of}
-use Rattle.mc_topology.proofs.lan.each_lan.Given as goal
+use Rattle.mc_topology.proofs.lans.each_lan.Given as goal
 
 abbrev pub invariant-loop-row : goal.invariant-loop-row
 invariant-loop-row l = record {

@@ -1,0 +1,66 @@
+-- The tests by which the rows of a section are told apart.
+use Rattle.std.proofs.Common.{◌≡◌, ℕ, ◌&&◌, Bool, true, List, ◌∷◌, refl, ap}
+use Rattle.std.specs.Prelude.{◌==◌}
+use Rattle.std.specs.Bool.{Decides}
+use Rattle.std.specs.Cmp.{unsigned_Decides}
+use Rattle.std.specs.Str.{bytes_eq}
+use Rattle.std.proofs.lemmas.Bool.{and_parts}
+use Rattle.std.proofs.lemmas.Slice.Eq.{bytes_eq-Decides}
+use Rattle.mc_topology.specs.declared.flow.Flow.{Flow}
+use Rattle.mc_topology.specs.Rows.{RouterRow, InterfaceRow, SourceRow}
+use Rattle.mc_topology.specs.Interfaces.{is_at}
+use Rattle.mc_topology.specs.Topology.{interface_key, lan_key, router_key, key_of_interface, source_key, flow_key}
+
+abbrev pub same_lan : List ℕ → List ℕ → Bool
+same_lan y x = bytes_eq y x
+
+pub same_lan-Decides : (y x : List ℕ) → Decides (same_lan y x) (lan_key y ≡ lan_key x)
+same_lan-Decides y x = bytes_eq-Decides y x
+
+abbrev pub same_router : RouterRow → RouterRow → Bool
+same_router y x = bytes_eq y.name x.name
+
+pub same_router-Decides : (y x : RouterRow) → Decides (same_router y x) (router_key y ≡ router_key x)
+same_router-Decides y x = bytes_eq-Decides y.name x.name
+
+abbrev pub same_interface : InterfaceRow → InterfaceRow → Bool
+same_interface y x = is_at x.router x.device y
+
+-- an interface is that of a router and a device exactly if it has their key
+pub is_at-Decides : (router : ℕ) (device : List ℕ) (i : InterfaceRow) → Decides (is_at router device i) (key_of_interface i ≡ interface_key router device)
+is_at-Decides router device i = (
+  λ e.
+      let (same_router, same_device) = and_parts _ _ e in
+      let one : i.router ≡ router = (unsigned_Decides i.router router).0 same_router in
+      let other : i.device ≡ device = (bytes_eq-Decides i.device device).0 same_device in
+      rw (one, other) refl,
+  λ e.
+      let one : i.router ≡ router = cc in
+      let other : i.device ≡ device = cc in
+      rw ((unsigned_Decides i.router router).1 one) ((bytes_eq-Decides i.device device).1 other),
+)
+
+pub same_interface-Decides : (y x : InterfaceRow) → Decides (same_interface y x) (key_of_interface y ≡ key_of_interface x)
+same_interface-Decides y x = is_at-Decides x.router x.device y
+
+abbrev pub same_source : SourceRow → SourceRow → Bool
+same_source y x = y.address == x.address
+
+pub same_source-Decides : (y x : SourceRow) → Decides (same_source y x) (source_key y ≡ source_key x)
+same_source-Decides y x = unsigned_Decides y.address x.address
+
+abbrev pub same_flow : Flow → Flow → Bool
+same_flow y x = (y.source == x.source) && (y.group == x.group)
+
+pub same_flow-Decides : (y x : Flow) → Decides (same_flow y x) (flow_key y ≡ flow_key x)
+same_flow-Decides y x = (
+  λ e.
+      let (source, group) = and_parts _ _ e in
+      let one : y.source ≡ x.source = (unsigned_Decides y.source x.source).0 source in
+      let other : y.group ≡ x.group = (unsigned_Decides y.group x.group).0 group in
+      rw (one, other) refl,
+  λ e.
+      let one : y.source ≡ x.source = ap (λ (p : ℕ × ℕ). p.0) e in
+      let other : y.group ≡ x.group = ap (λ (p : ℕ × ℕ). p.1) e in
+      rw ((unsigned_Decides y.source x.source).1 one) ((unsigned_Decides y.group x.group).1 other),
+)

@@ -1,0 +1,49 @@
+-- What the rows of a topology's sections stand for.
+use Rattle.std.specs.Prelude.{◌≡◌, ℕ, Bool, true, false, List, refl}
+use Rattle.std.specs.Coded.{Coded, code_by, coded×, coded_bool, coded_ℕ, coded_list}
+use Rattle.mc_text.specs.declared.addr.Order.{Order}
+use Rattle.mc_text.specs.declared.addr.Order.TheVariants.{Little, Big}
+
+-- a router's name and the byte order of its machine
+pub record RouterRow : Type 0 where
+  pub name : List ℕ
+  pub order : Order
+
+-- a device of the router with this number, on the LAN with this number
+pub record InterfaceRow : Type 0 where
+  pub router : ℕ
+  pub device : List ℕ
+  pub lan : ℕ
+
+-- the address of a host that sends, on the LAN with this number
+pub record SourceRow : Type 0 where
+  pub address : ℕ
+  pub lan : ℕ
+
+-- a row is stored as the tuple of its fields
+abbrev pub is_big : Order → Bool
+is_big Little = false
+is_big Big = true
+
+abbrev pub order_of_big : Bool → Order
+order_of_big false = Little
+order_of_big true = Big
+
+pub order_of_big-is_big : (order : Order) → order_of_big (is_big order) ≡ order
+order_of_big-is_big Little = refl
+order_of_big-is_big Big = refl
+
+abbrev pub order_code : Coded Order
+order_code = code_by Bool coded_bool is_big order_of_big order_of_big-is_big
+
+abbrev pub router_code : Coded RouterRow
+router_code = code_by (List ℕ × Order) (coded× (coded_list coded_ℕ) order_code) (λ r. (r.name, r.order)) (λ p. record { name = p.0; order = p.1 }) (λ _. refl)
+
+abbrev pub interface_code : Coded InterfaceRow
+interface_code =
+    code_by (ℕ × (List ℕ × ℕ)) (coded× coded_ℕ (coded× (coded_list coded_ℕ) coded_ℕ)) (λ i. (i.router, (i.device, i.lan)))
+    (λ p. record { router = p.0; device = p.1.0; lan = p.1.1 })
+    (λ _. refl)
+
+abbrev pub source_code : Coded SourceRow
+source_code = code_by (ℕ × ℕ) (coded× coded_ℕ coded_ℕ) (λ s. (s.address, s.lan)) (λ p. record { address = p.0; lan = p.1 }) (λ _. refl)

@@ -36,7 +36,9 @@ interface_of lans routers earlier d = do
   device ← text_at (codes "device") table
   lan_name ← text_at (codes "lan") table
   router ← ok_or (router_no_of router_name routers) UnknownName
-  if not (is_device device) then Err BadName else (ok_or (index_of lan_name lans) UnknownName >>= λ lan. if has_interface router device earlier then Err RepeatedInterface else Ok (record { router = router; device = device; lan = lan }))
+  if not (is_device device) then Err BadName else do
+    lan ← ok_or (index_of lan_name lans) UnknownName
+    if has_interface router device earlier then Err RepeatedInterface else Ok (record { router = router; device = device; lan = lan })
 
 -- The interfaces: first their list, which has to be a list (else BadKind) of at most 8,192 (TooMany), at the
 -- number 0, then each interface from the front, at its number, counted from 1.

@@ -40,7 +40,9 @@ router_of earlier d = do
   table ← table_of router_keys d
   name ← text_at (codes "name") table
   order_text ← optional_text_at (codes "order") table
-  if not (is_name name) then Err BadName else (order_of order_text >>= λ order. if has_router name earlier then Err RepeatedName else Ok (record { name = name; order = order }))
+  if not (is_name name) then Err BadName else do
+    order ← order_of order_text
+    if has_router name earlier then Err RepeatedName else Ok (record { name = name; order = order })
 
 -- The routers: first their list, which has to be a list (else BadKind) of at most 256 (TooMany), at the
 -- number 0, then each router from the front, at its number, counted from 1.

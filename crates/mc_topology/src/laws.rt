@@ -16,8 +16,8 @@ pub fn topologies_are_read_as_they_stand()
         TopologyStands text u → t ≡ u }
 {}
 
-/// What a text stands for keeps the rules of a topology, as `Topology::rules` says of each topology in
-/// memory.
+/// What a text stands for keeps the rules of a topology. Of each topology in memory the clauses `rules` of
+/// `lans`, `routers` and `flows` say so.
 pub fn texts_stand_for_topologies()
     ensures { (text : List ℕ) (t : TopologyValue) → TopologyStands text t → IsTopology t }
 {}

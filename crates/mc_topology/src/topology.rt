@@ -95,30 +95,26 @@ impl Topology {
         reading_of(alloc, text)
     }
 
-    /// Does nothing. Its clause tells the proofs of whoever holds a topology what each topology keeps.
-    pub fn rules(&self)
-        ensures { IsTopology self.now }
-    {
-        let _ = &self.lans;
-    }
-
     /// How many LANs there are, at most 1,024.
     pub fn lans(&self) -> u32
-        ensures { result ≡ length self.now.lans }
+        ensures count { result ≡ length self.now.lans }
+        ensures rules { IsTopology self.now }
     {
         self.lans.len() as u32
     }
 
     /// How many routers there are, at most 256.
     pub fn routers(&self) -> u32
-        ensures { result ≡ length self.now.routers }
+        ensures count { result ≡ length self.now.routers }
+        ensures rules { IsTopology self.now }
     {
         self.routers.len() as u32
     }
 
     /// How many flows there are, 1 to 4,096.
     pub fn flows(&self) -> u32
-        ensures { result ≡ length self.now.flows }
+        ensures count { result ≡ length self.now.flows }
+        ensures rules { IsTopology self.now }
     {
         self.flows.len() as u32
     }

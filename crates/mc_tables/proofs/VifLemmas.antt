@@ -14,10 +14,11 @@ use Rattle.std.proofs.lemmas.List.Elements.{filter_map-append}
 use Rattle.std.proofs.lemmas.Map.Keys.{IsDistinct-push}
 use Rattle.mc_text.specs.Lines.{LineText}
 use Rattle.mc_text.specs.Words.{words_of}
+use Rattle.mc_text.specs.DeviceName.{is_device_name}
 use Rattle.mc_tables.specs.declared.fault.TableFaultKind.TheVariants.{Unended, WordCount, BadIndex, BadDevice, BadCounter, BadFlags, BadAddress, RepeatedIndex, RepeatedDevice}
 use Rattle.mc_tables.specs.declared.fault.TableFault.{TableFault}
 use Rattle.mc_tables.specs.Memory.{out_of_memory}
-use Rattle.mc_tables.specs.TableWords.{is_counter, is_hexadecimal, is_device, number_in}
+use Rattle.mc_tables.specs.TableWords.{is_counter, is_hexadecimal, number_in}
 use Rattle.mc_tables.specs.TableLines.{EachTells, lines_in, rows_after}
 use Rattle.mc_tables.specs.VifTable.{VifText, is_tunnel, is_register, device_of, WordsTellVif, LineTellsVif, AreVifRows, StandsForVifs}
 use Rattle.mc_tables.specs.VifReading.{device_in, flags_in, vif_in_words, index_repeats, device_repeats, vif_in_line, vif_at, vif_rows_in, vifs_in}
@@ -38,7 +39,7 @@ words_found (index ∷ device ∷ bytes_in ∷ packets_in ∷ bytes_out ∷ pack
     let f = bind_ok (flags_in flags) _ row c4.1 in
     let l = demand_then (is_hexadecimal 8 8 local) BadAddress _ row f.2 in
     let r = demand_then (is_hexadecimal 8 8 remote) BadAddress _ row l.1 in
-    let name = if_ok (is_device device) BadDevice device d.0 d.1 in
+    let name = if_ok (is_device_name device) BadDevice device d.0 d.1 in
     let bits = if_ok (is_hexadecimal 5 8 flags) BadFlags (digits_value 16 flags) f.0 f.1 in
     let made : ℕ × VifText = (i.0, record { device = d.0; tunnel = is_tunnel f.0; register = is_register f.0 }) in
     let same : made ≡ row = ok_is made row r.1 in

@@ -12,6 +12,7 @@ pub mod OutgoingSteps
 pub mod RowLookups
 pub mod CacheWords
 pub use Rattle.mc_text.specs.Addr
+pub use Rattle.mc_text.specs.DeviceName
 pub use Rattle.mc_text.specs.AddressWord
 pub use Rattle.mc_text.specs.Lines
 pub use Rattle.mc_text.specs.Number

@@ -40,17 +40,6 @@ abbrev pub number_in : ℕ → ℕ → List ℕ → Option ℕ
 number_in least most word =
     if is_decimal word && (nat_le least (digits_value 10 word) && nat_le (digits_value 10 word) most) then Some (digits_value 10 word) else None
 
--- ---- devices
-
--- a byte that a device's name may have: no space, tab, line feed or the like (0x09 to 0x0D), `/` or `:`
-abbrev pub is_device_byte : ℕ → Bool
-is_device_byte b = not ((nat_le 9 b && nat_le b 13) || ((b == 32) || ((b == 47) || (b == 58))))
-
--- a device as the profile takes it: 1 to 15 bytes (IFNAMSIZ of linux/if.h), none of those that dev_valid_name
--- (net/core/dev.c) refuses in ASCII; the kernel also refuses `.` and `..`
-abbrev pub is_device : List ℕ → Bool
-is_device word = (nat_le 1 (length word) && nat_le (length word) 15) && list_all is_device_byte word
-
 -- ---- addresses
 
 -- the word shows the address a

@@ -8,17 +8,18 @@ use Rattle.std.specs.Str.Parse.{digits_value}
 use Rattle.std.specs.FinMap.{FinMap, from_entries}
 use Rattle.mc_text.specs.Lines.{LineText}
 use Rattle.mc_text.specs.Words.{words_of}
+use Rattle.mc_text.specs.DeviceName.{is_device_name}
 use Rattle.mc_tables.specs.declared.fault.TableFault.{TableFault}
 use Rattle.mc_tables.specs.declared.fault.TableFaultKind.{TableFaultKind}
 use Rattle.mc_tables.specs.declared.fault.TableFaultKind.TheVariants.{Unended, WordCount, BadIndex, BadDevice, BadCounter, BadFlags, BadAddress, RepeatedIndex, RepeatedDevice}
 use Rattle.mc_tables.specs.Steps.{◌>>=◌, demand, at_line}
-use Rattle.mc_tables.specs.TableWords.{is_counter, is_hexadecimal, is_device, number_in}
+use Rattle.mc_tables.specs.TableWords.{is_counter, is_hexadecimal, number_in}
 use Rattle.mc_tables.specs.TableLines.{is_among, lines_in, rows_after}
 use Rattle.mc_tables.specs.VifTable.{VifText, is_tunnel, is_register, device_of}
 
 -- the device's name that the word is
 abbrev pub device_in : List ℕ → Result (List ℕ) TableFaultKind
-device_in word = if is_device word then Ok word else Err BadDevice
+device_in word = if is_device_name word then Ok word else Err BadDevice
 
 -- the flags that it writes
 abbrev pub flags_in : List ℕ → Result ℕ TableFaultKind

@@ -9,7 +9,8 @@ use Rattle.std.specs.Coded.{Coded, code_by, coded×, coded_list, coded_ℕ, code
 use Rattle.std.specs.FinMap.{FinMap, from_entries}
 use Rattle.mc_text.specs.Lines.{LineText}
 use Rattle.mc_text.specs.Words.{words_of}
-use Rattle.mc_tables.specs.TableWords.{is_counter, is_hexadecimal, is_device, WritesNumber}
+use Rattle.mc_text.specs.DeviceName.{is_device_name}
+use Rattle.mc_tables.specs.TableWords.{is_counter, is_hexadecimal, WritesNumber}
 use Rattle.mc_tables.specs.TableLines.{HasHeader, EachTells}
 
 -- a virtual interface of the kernel: its device, and whether it is a tunnel or a register interface
@@ -45,7 +46,7 @@ pub record WritesFlags (word : List ℕ) (vif : VifText) : Type 0 where
 -- (or interface index) and remote address.
 abbrev pub WordsTellVif : List (List ℕ) → ℕ × VifText → Type 0
 WordsTellVif (index ∷ device ∷ bytes_in ∷ packets_in ∷ bytes_out ∷ packets_out ∷ flags ∷ local ∷ remote ∷ []) row =
-    WritesNumber 0 31 index row.0 × (IsTrue (is_device device) × (row.1.device ≡ device))
+    WritesNumber 0 31 index row.0 × (IsTrue (is_device_name device) × (row.1.device ≡ device))
     × IsTrue (is_counter bytes_in) × IsTrue (is_counter packets_in) × IsTrue (is_counter bytes_out) × IsTrue (is_counter packets_out)
     × WritesFlags flags row.1 × IsTrue (is_hexadecimal 8 8 local) × IsTrue (is_hexadecimal 8 8 remote)
 WordsTellVif words row = ⊥

@@ -1,15 +1,9 @@
 //! A virtual interface, as the kernel's table has it.
 
 ghost use Rattle.std.specs.Prelude.{◌≡◌, ◌≤◌, length};
-ghost use Rattle.std.specs.List.{list_all};
-ghost use Rattle.mc_tables.specs.TableWords.{is_device_byte, is_device};
 ghost use Rattle.mc_tables.specs.VifTable.{is_tunnel, is_register};
 
-use crate::table_words::has_length;
 use std::marker::Model;
-
-/// The longest name of a device, in bytes (`IFNAMSIZ` of linux/if.h less the zero at its end).
-const MAX_DEVICE: usize = 15;
 
 /// A network device's name, or `none`.
 #[derive(Debug, Drop)]
@@ -48,25 +42,6 @@ impl DeviceName {
     {
         &self.bytes[..self.length as usize]
     }
-}
-
-/// Whether the word is a device as the profile takes it.
-pub fn is_device_name(word: &[u8]) -> bool
-    ensures { result ≡ is_device word.now }
-{
-    has_length(word, 1, MAX_DEVICE) && are_name_bytes(word)
-}
-
-fn are_name_bytes(word: &[u8]) -> bool
-    ensures { result ≡ list_all is_device_byte word.now }
-{
-    word.iter().all(|byte| is_name_byte(*byte))
-}
-
-fn is_name_byte(byte: u8) -> bool
-    ensures { result ≡ is_device_byte byte }
-{
-    !matches!(byte, 0x09..=0x0D | b' ' | b'/' | b':')
 }
 
 /// A virtual interface of the kernel's multicast routing.

@@ -13,9 +13,9 @@ ghost use Rattle.mc_tables.specs.VifWords.{word_list};
 
 use crate::fault::TableFaultKind;
 use crate::table_words::{MAX_VIF, check_counter, is_hexadecimal_word, number};
-use crate::vif::{DeviceName, Vif, is_device_name};
+use crate::vif::{DeviceName, Vif};
 use crate::vif_row::VifRow;
-use mc_text::Words;
+use mc_text::{Words, is_device_name};
 use std::str;
 
 /// The words of a line, by what they are.

@@ -4,6 +4,7 @@ pub mod Bundle
 pub mod BundleReading
 pub mod BundleWriting
 pub mod Device
+pub mod DeviceName
 pub mod DeviceState
 pub mod Lines
 pub mod LineView

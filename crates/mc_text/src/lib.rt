@@ -1,7 +1,7 @@
 //! Texts as operators and kernels write them: addresses, lines, words and numbers; the devices that bytes
-//! come from and go to; and the bundle, the one stream of named parts. Of multicast it knows two ranges of
-//! addresses alone: the groups that routers forward and the sources that hosts may send from. Nothing here
-//! knows of a domain.
+//! come from and go to; the names of network devices; and the bundle, the one stream of named parts. Of
+//! multicast it knows two ranges of addresses alone: the groups that routers forward and the sources that
+//! hosts may send from. Nothing here knows of a domain.
 #![tactic(auto)]
 
 mod addr;
@@ -10,6 +10,7 @@ mod bundle_fault;
 mod bundle_laws;
 mod bundle_output;
 mod device;
+mod device_name;
 mod first_place;
 mod from_reader;
 mod input_bytes;
@@ -30,6 +31,7 @@ pub use bundle_fault::BundleFault;
 pub use bundle_laws::{one_list_of_parts, written_is_read};
 pub use bundle_output::write_bundle;
 pub use device::{DeviceFault, Input, Output};
+pub use device_name::is_device_name;
 pub use from_reader::FromReader;
 pub use input_bytes::{ReadFault, read_to_limit};
 pub use laws::{addresses_are_ordered_by_octets, lines_end_at_line_feeds, lines_make_their_text};

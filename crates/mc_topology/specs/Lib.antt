@@ -12,6 +12,7 @@ pub mod Sources
 pub mod Stands
 pub mod Topology
 pub use Rattle.mc_text.specs.Addr
+pub use Rattle.mc_text.specs.DeviceName
 pub use Rattle.toml.specs.Data
 pub use Rattle.toml.specs.View
 pub use Rattle.toml.specs.Parse

@@ -3,8 +3,9 @@
 ghost use Rattle.std.specs.Prelude.{◌≡◌, ◌<◌, length, IfOk, IfSome};
 ghost use Rattle.std.specs.List.{list_all};
 ghost use Rattle.std.specs.Str.{bytes_eq};
-ghost use Rattle.mc_topology.specs.Names.{is_name_byte, is_name, is_device_byte, is_device, is_among, index_of};
+ghost use Rattle.mc_topology.specs.Names.{is_name_byte, is_name, is_device, is_among, index_of};
 
+use mc_text::is_device_name;
 use std::alloc::{AllocError, Global};
 use std::marker::Model;
 
@@ -72,29 +73,12 @@ pub(crate) fn is_name(text: &str) -> bool
     has_name_bytes(text)
 }
 
-/// Whether a device's name may have the byte.
-fn is_device_byte(byte: u8) -> bool
-    ensures { result ≡ is_device_byte byte }
-{
-    !((9..=13).contains(&byte) || byte == b' ' || byte == b'/' || byte == b':')
-}
-
-/// Whether a device's name may have each byte of the text.
-fn has_device_bytes(text: &str) -> bool
-    ensures { result ≡ list_all is_device_byte text.now }
-{
-    text.as_bytes().iter().all(|byte| is_device_byte(*byte))
-}
-
-/// Whether the text can be a device's: 1 to 15 bytes without white space, `/` and `:`, and not `none`.
-#[tactic(auto, using(std::proofs::lemmas::Bool::Decides::nat_tests), unfolding(crate::specs::Names::is_device))]
+/// Whether the text can be a device's: a device's name, and not `none`.
+#[tactic(auto, unfolding(crate::specs::Names::is_device))]
 pub(crate) fn is_device(text: &str) -> bool
     ensures { result ≡ is_device text.now }
 {
-    if text.is_empty() || text.len() > 15 || !has_device_bytes(text) {
-        return false;
-    }
-    text != "none"
+    is_device_name(text.as_bytes()) && text != "none"
 }
 
 /// Whether the text is one of the names.

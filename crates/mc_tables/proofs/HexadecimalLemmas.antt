@@ -1,5 +1,5 @@
 -- The number that hexadecimal digits write.
-use Rattle.std.proofs.Common.{◌≡◌, ℕ, ◌*◌, ◌^◌, lit<, ◌<◌, ◌≤◌, true, false, ltb, inl, inr, List, [], ◌∷◌, length, Result, Ok, Err, refl, ap, ◌∙◌, subst, sym, arith}
+use Rattle.std.proofs.Common.{◌≡◌, ℕ, ◌^◌, lit<, ◌<◌, ◌≤◌, true, false, ltb, inl, inr, List, [], ◌∷◌, length, Result, Ok, Err, refl, ap, ◌∙◌, subst, sym, arith}
 use Rattle.std.specs.Prelude.{◌==◌, nat_le}
 use Rattle.std.specs.Int.{is_in_range}
 use Rattle.std.specs.Char.{digit_value, is_ascii_hexdigit}

@@ -45,9 +45,6 @@ pub device_repeats_is : (earlier : List (ℕ × VifText)) (row : ℕ × VifText)
 device_repeats_is earlier row some =
     device_among row.1.device earlier some ∙ ap (λ b. is_among bytes_eq (cond b None (Some row.1.device)) (filter_map device_of earlier)) (sym some)
 
-pub device_none_repeats : (earlier : List (ℕ × VifText)) (row : ℕ × VifText) → bytes_eq row.1.device no_device ≡ true → false ≡ device_repeats earlier row
-device_none_repeats earlier row none = ap (λ b. is_among bytes_eq (cond b None (Some row.1.device)) (filter_map device_of earlier)) (sym none)
-
 -- ---- the map
 
 none_same : {K : Type 0} (same : K → K → Bool) (key : K) (keys : List K) → AllByRecursion (λ other. same key other ≡ false) keys → list_any (same key) keys ≡ false

@@ -34,6 +34,7 @@ oif_in word = oif_in_parts (slice_split (λ b. b == 58) word)
 abbrev pub oif_repeats : List (ℕ × ℕ) → ℕ × ℕ → Bool
 oif_repeats earlier oif = list_any (nat_eq oif.0) (map (λ other. other.0) earlier)
 
+-- the outgoing vif of a word after the earlier ones
 abbrev pub oif_after : List (ℕ × ℕ) → List ℕ → Result (ℕ × ℕ) TableFaultKind
 oif_after earlier word = do
   oif ← oif_in word

@@ -1,5 +1,5 @@
 -- What a text stands for keeps the rules of a topology.
-use Rattle.std.proofs.Common.{◌≡◌, ℕ, zero, suc, ◌<◌, ◌≤◌, Bool, true, false, cond, List, [], ◌∷◌, length, Some, None, Ok, refl, subst, ◌∙◌, sym, arith, option_map}
+use Rattle.std.proofs.Common.{◌≡◌, ℕ, zero, suc, ◌<◌, Bool, true, false, cond, List, [], ◌∷◌, length, Some, Ok, refl, subst, ◌∙◌, sym, arith, option_map}
 use Rattle.std.specs.Prelude.{◌==◌, slice_get, find}
 use Rattle.std.specs.Str.{bytes_eq}
 use Rattle.toml.specs.Data.{Data, Members}

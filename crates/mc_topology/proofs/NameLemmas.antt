@@ -1,5 +1,5 @@
 -- Names and numbers undo each other.
-use Rattle.std.proofs.Common.{◌≡◌, ℕ, ◌<◌, Bool, true, false, List, [], ◌∷◌, length, get_or, Option, Some, None, option_map, refl, sym, ap, subst, ◌∙◌, arith}
+use Rattle.std.proofs.Common.{◌≡◌, ℕ, ◌<◌, Bool, true, false, List, [], ◌∷◌, length, get_or, Option, Some, None, option_map, refl, ap, subst, ◌∙◌, arith}
 use Rattle.std.specs.Prelude.{position, slice_get}
 use Rattle.std.specs.List.{position_or_len}
 use Rattle.std.specs.Str.{bytes_eq}

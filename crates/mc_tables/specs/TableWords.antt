@@ -1,15 +1,14 @@
 -- The words of the kernel's tables: what each kind of word is, and the value that it writes.
-use Rattle.std.specs.Prelude.{ℕ, ◌≤◌, ◌^◌, ◌==◌, nat_lt, nat_le, Bool, ◌&&◌, List, length, drop, reverse, slice_index, Option, Some, None, Result, Ok, Err, if◌then◌else◌}
+use Rattle.std.specs.Prelude.{ℕ, ◌≤◌, ◌==◌, nat_le, Bool, ◌&&◌, List, length, drop, reverse, slice_index, Option, Some, None, Result, Ok, Err, if◌then◌else◌}
 use Rattle.std.specs.Char.{is_ascii_digit, is_ascii_hexdigit}
 use Rattle.std.specs.List.{list_all}
 use Rattle.std.specs.Int.{w32, from_be_bytes}
-use Rattle.std.specs.Str.{bytes_eq}
 use Rattle.std.specs.Str.Parse.{digits_value}
 use Rattle.mc_text.specs.Hex.{decode_of}
 use Rattle.mc_text.specs.declared.addr.Order.{Order}
 use Rattle.mc_text.specs.declared.addr.Order.TheVariants.{Little, Big}
 use Rattle.mc_text.specs.Addr.{IsAddr}
-use Rattle.mc_text.specs.AddressWord.{printed_octets, IsAddressWord}
+use Rattle.mc_text.specs.AddressWord.{IsAddressWord}
 use Rattle.mc_text.specs.Number.{IsDecimal}
 
 -- ---- words whose value is not used
@@ -51,11 +50,10 @@ abbrev pub octets_in_order : Order → List ℕ → List ℕ
 octets_in_order Big octets = octets
 octets_in_order Little octets = reverse octets
 
-abbrev pub address_printed : Order → List ℕ → ℕ → Option ℕ
-address_printed order octets a = if bytes_eq (printed_octets order a) octets && nat_lt a (2 ^ 32) then Some a else None
-
+-- the address of four octets
 abbrev pub address_of_octets : {E : Type 0} → Order → Result (List ℕ) E → Option ℕ
-address_of_octets order (Ok octets) = address_printed order octets (from_be_bytes w32 (octets_in_order order octets))
+address_of_octets order (Ok octets) =
+    if length octets == 4 then Some (from_be_bytes w32 (octets_in_order order octets)) else None
 address_of_octets order (Err e) = None
 
 -- the address that the word shows

@@ -27,7 +27,8 @@ octets_fit a (suc (suc (suc (suc k)))) = omega arith
 pub octets_of-from : (octets : List ℕ) → length octets ≡ 4 → ((k : ℕ) → get_or octets k 0 < 256) → octets_of (from_be_bytes w32 octets) ≡ octets
 octets_of-from octets four fit = be_bytes_4 octets _ four fit refl
 
-from_octets_fits : (octets : List ℕ) → ((k : ℕ) → get_or octets k 0 < 256) → IsAddr (from_be_bytes w32 octets)
+-- and is one of 32 bits
+pub from_octets_fits : (octets : List ℕ) → ((k : ℕ) → get_or octets k 0 < 256) → IsAddr (from_be_bytes w32 octets)
 from_octets_fits octets fit = omega (arith, fit 0, fit 1, fit 2, fit 3)
 
 pub from-octets_of : (a : ℕ) → IsAddr a → from_be_bytes w32 (octets_of a) ≡ a
@@ -83,6 +84,10 @@ decodes word bytes out r four e h = rw (decode_sized-four word bytes four e) at 
 -- where decoding failed no four bytes are written
 pub not_decoded : (word bytes out : List ℕ) (r : Result (Unit {0}) FromHexError) → length bytes ≡ 4 → decode_of word ≡ Ok bytes → MatchResult (decode_sized word 4) (λ bs. (r ≡ Ok tt) × (out ≡ bs)) (λ e. r ≡ Err e) → result_ok r ≡ None → ⊥
 not_decoded word bytes out r four e h none = let ok = ap result_ok (decodes word bytes out r four e h).0 in absurd cc
+
+-- what digits are decoded to are bytes
+pub decoded_fit : (word octets : List ℕ) → decode_of word ≡ Ok octets → (k : ℕ) → get_or octets k 0 < 256
+decoded_fit word octets e = (decode_of-ok word octets e).3
 
 -- a word's bytes are four, in either order
 pub length-printed_octets : (order : Order) (a : ℕ) → length (printed_octets order a) ≡ 4

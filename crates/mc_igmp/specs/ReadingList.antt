@@ -32,7 +32,8 @@ digits_read line (Err e) = Err (fault_at line 0 BadHex)
 unfoldable pub bytes_of_line : LineText → Result (List ℕ) ListFault
 bytes_of_line line =
     if not line.ended then Err (fault_at line.number 0 Unended)
-    else if nat_lt 65536 line.number || nat_lt 131030 (length line.bytes) then Err (fault_at line.number 0 TooLarge)
+    else if nat_lt 65536 line.number || nat_lt 131030 (length line.bytes)
+    then Err (fault_at line.number 0 TooLarge)
     else digits_read line.number (decode_of line.bytes)
 
 -- the number of the first record that tells of a change, where the first record has the number `number`

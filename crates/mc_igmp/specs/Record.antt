@@ -31,7 +31,8 @@ record_size bytes = 8 + 4 * source_count bytes + 4 * slice_index bytes 1
 abbrev pub record_at : List ℕ → Record
 record_at bytes = record {
   kind = kind_of (slice_index bytes 0);
-  group = from_be_bytes w32 (slice_index bytes 4 ∷ slice_index bytes 5 ∷ slice_index bytes 6 ∷ slice_index bytes 7 ∷ []);
+  group = from_be_bytes w32
+      (slice_index bytes 4 ∷ slice_index bytes 5 ∷ slice_index bytes 6 ∷ slice_index bytes 7 ∷ []);
   sources = addresses_in (take (4 * source_count bytes) (drop 8 bytes));
 }
 

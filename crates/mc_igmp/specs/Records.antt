@@ -28,7 +28,8 @@ then_after number (Some x) others = others x.1
 -- where the first has the number `number`
 unfoldable pub after_records : ℕ → ℕ → List ℕ → Result (List ℕ) ℕ
 after_records number zero bytes = Ok bytes
-after_records number (suc count) bytes = then_after number (read_record bytes) (after_records (number + 1) count)
+after_records number (suc count) bytes =
+    then_after number (read_record bytes) (after_records (number + 1) count)
 
 -- the bytes are `count` records, and nothing else
 abbrev pub IsWhole : ℕ → List ℕ → Type 0

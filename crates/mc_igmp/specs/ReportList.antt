@@ -32,7 +32,8 @@ abbrev pub AreMessageLines : List LineText → List Message → Type 0
 AreMessageLines [] [] = Unit {0}
 AreMessageLines [] (message ∷ messages) = ⊥
 AreMessageLines (line ∷ lines) [] = ⊥
-AreMessageLines (line ∷ lines) (message ∷ messages) = IsMessageLine line message × AreMessageLines lines messages
+AreMessageLines (line ∷ lines) (message ∷ messages) =
+    IsMessageLine line message × AreMessageLines lines messages
 
 -- the text's lines are messages, one a line, and these are all their records
 pub record IsReportList (text : List ℕ) (records : List Record) : Type 0 where

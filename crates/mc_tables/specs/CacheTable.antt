@@ -52,7 +52,8 @@ pub record RowText : Type 0 where
   pub origin : ℕ
   pub entry : Option Entry
 
--- Words tell a row: group, origin, incoming vif, packets, bytes, packets from a wrong vif, and the outgoing vifs.
+-- Words tell a row: group, origin, incoming vif, packets, bytes, packets from a wrong vif, and the outgoing
+-- vifs.
 abbrev pub WordsTellRow : Order → List (List ℕ) → RowText → Type 0
 WordsTellRow order (group ∷ origin ∷ iif ∷ packets ∷ bytes ∷ wrong ∷ outgoing) row =
     WritesAddress order group row.group × WritesAddress order origin row.origin
@@ -76,7 +77,9 @@ same_key = eq_by_cmp key_cmp
 
 -- the source, the group and the entry of a resolved row whose source isn't 0.0.0.0
 abbrev pub exact_entry : RowText → Option ((ℕ × ℕ) × Entry)
-exact_entry row = if row.origin == 0 then None else option_map (λ entry. ((row.origin, row.group), entry)) row.entry
+exact_entry row =
+    if row.origin == 0 then None
+    else option_map (λ entry. ((row.origin, row.group), entry)) row.entry
 
 abbrev pub key_of : RowText → Option (ℕ × ℕ)
 key_of row = option_map (λ exact. exact.0) (exact_entry row)
@@ -101,14 +104,18 @@ pub record CacheText : Type 0 where
   pub wildcards : set.FinSet nat_cmp
 
 abbrev pub table_of : List RowText → CacheText
-table_of rows = record { entries = map.from_entries (filter_map exact_entry rows); wildcards = set.from_list (filter_map wildcard_of rows) }
+table_of rows = record {
+  entries = map.from_entries (filter_map exact_entry rows);
+  wildcards = set.from_list (filter_map wildcard_of rows);
+}
 
--- What each entry of a table is: vifs from 0 to 31, of which the outgoing ones ascend, so that none stands twice, and
--- thresholds from 1 to 254.
+-- What each entry of a table is: vifs from 0 to 31, of which the outgoing ones ascend, so that none stands
+-- twice, and thresholds from 1 to 254.
 pub record IsEntry (entry : Entry) : Type 0 where
   pub incoming : entry.iif ≤ 31
   pub ascending : IsStrictlyIncreasing (map_list (λ oif. oif.vif) entry.oifs)
-  pub ranges : AllByRecursion (λ oif. (oif.vif ≤ 31) × (1 ≤ oif.threshold) × (oif.threshold ≤ 254)) entry.oifs
+  pub ranges : AllByRecursion
+      (λ oif. (oif.vif ≤ 31) × (1 ≤ oif.threshold) × (oif.threshold ≤ 254)) entry.oifs
 
 -- a text stands for a table
 pub record StandsForCache (order : Order) (text : List ℕ) (table : CacheText) : Type 0 where
@@ -118,12 +125,17 @@ pub record StandsForCache (order : Order) (text : List ℕ) (table : CacheText) 
 
 -- a table is stored as its fields
 abbrev pub oif_code : Coded Oif
-oif_code = code_by (ℕ × ℕ) (coded× coded_ℕ coded_ℕ) (λ o. (o.vif, o.threshold)) (λ p. record { vif = p.0; threshold = p.1 }) (λ _. refl)
+oif_code =
+    code_by (ℕ × ℕ) (coded× coded_ℕ coded_ℕ) (λ o. (o.vif, o.threshold))
+    (λ p. record { vif = p.0; threshold = p.1 }) (λ _. refl)
 
 abbrev pub entry_code : Coded Entry
-entry_code = code_by (ℕ × List Oif) (coded× coded_ℕ (coded_list oif_code)) (λ e. (e.iif, e.oifs)) (λ p. record { iif = p.0; oifs = p.1 }) (λ _. refl)
+entry_code =
+    code_by (ℕ × List Oif) (coded× coded_ℕ (coded_list oif_code)) (λ e. (e.iif, e.oifs))
+    (λ p. record { iif = p.0; oifs = p.1 }) (λ _. refl)
 
 abbrev pub cache_code : Coded CacheText
 cache_code =
-    code_by (map.FinMap key_cmp Entry × set.FinSet nat_cmp) (coded× (map.code (coded× coded_ℕ coded_ℕ) entry_code) (set.code coded_ℕ))
+    code_by (map.FinMap key_cmp Entry × set.FinSet nat_cmp)
+    (coded× (map.code (coded× coded_ℕ coded_ℕ) entry_code) (set.code coded_ℕ))
     (λ t. (t.entries, t.wildcards)) (λ p. record { entries = p.0; wildcards = p.1 }) (λ _. refl)

@@ -41,12 +41,17 @@ is_among same (Some key) earlier = list_any (same key) earlier
 -- the lines after the header
 abbrev pub header_in : List ℕ → List LineText → Result (List LineText) TableFault
 header_in first [] = Err (record { line = 1; kind = NoHeader })
-header_in first (header ∷ lines) = at_line 1 (demand header.ended Unended >>= λ _. demand (begins_with first (words_of header.bytes)) NoHeader) >>= λ _. Ok lines
+header_in first (header ∷ lines) =
+    at_line 1 (demand header.ended Unended >>= λ _.
+    demand (begins_with first (words_of header.bytes)) NoHeader) >>= λ _. Ok lines
 
 abbrev pub lines_in : List ℕ → List ℕ → Result (List LineText) TableFault
-lines_in first text = if nat_lt 16777216 (length text) then Err (record { line = 0; kind = TooLarge }) else header_in first (lines_of text)
+lines_in first text =
+    if nat_lt 16777216 (length text) then Err (record { line = 0; kind = TooLarge })
+    else header_in first (lines_of text)
 
 -- the rows of the lines, each of which is read after the earlier ones
 abbrev pub rows_after : {L R E : Type 0} → (List R → L → Result R E) → List R → List L → Result (List R) E
 rows_after row_in earlier [] = Ok earlier
-rows_after row_in earlier (line ∷ lines) = row_in earlier line >>= λ row. rows_after row_in (earlier ++ row ∷ []) lines
+rows_after row_in earlier (line ∷ lines) =
+    row_in earlier line >>= λ row. rows_after row_in (earlier ++ row ∷ []) lines

@@ -19,11 +19,14 @@ unsigned word = if slice_index word 0 == 45 then drop 1 word else word
 
 -- one to twenty decimal digits, with one `-` before them allowed
 abbrev pub is_counter : List ℕ → Bool
-is_counter word = (nat_le 1 (length (unsigned word)) && nat_le (length (unsigned word)) 20) && list_all is_ascii_digit (unsigned word)
+is_counter word =
+    (nat_le 1 (length (unsigned word)) && nat_le (length (unsigned word)) 20)
+    && list_all is_ascii_digit (unsigned word)
 
 -- so many hexadecimal digits of either case, and nothing else
 abbrev pub is_hexadecimal : ℕ → ℕ → List ℕ → Bool
-is_hexadecimal least most word = (nat_le least (length word) && nat_le (length word) most) && list_all is_ascii_hexdigit word
+is_hexadecimal least most word =
+    (nat_le least (length word) && nat_le (length word) most) && list_all is_ascii_hexdigit word
 
 -- ---- numbers
 
@@ -37,7 +40,9 @@ is_decimal word = nat_le 1 (length word) && list_all is_ascii_digit word
 -- the number that it writes
 abbrev pub number_in : ℕ → ℕ → List ℕ → Option ℕ
 number_in least most word =
-    if is_decimal word && (nat_le least (digits_value 10 word) && nat_le (digits_value 10 word) most) then Some (digits_value 10 word) else None
+    if is_decimal word && (nat_le least (digits_value 10 word) && nat_le (digits_value 10 word) most)
+    then Some (digits_value 10 word)
+    else None
 
 -- ---- addresses
 

@@ -22,7 +22,8 @@ pub record VifText : Type 0 where
 -- a vif is stored as its fields
 abbrev pub vif_code : Coded VifText
 vif_code =
-    code_by (List ℕ × (Bool × Bool)) (coded× (coded_list coded_ℕ) (coded× coded_bool coded_bool)) (λ v. (v.device, (v.tunnel, v.register)))
+    code_by (List ℕ × (Bool × Bool)) (coded× (coded_list coded_ℕ) (coded× coded_bool coded_bool))
+    (λ v. (v.device, (v.tunnel, v.register)))
     (λ p. record { device = p.0; tunnel = p.1.0; register = p.1.1 }) (λ _. refl)
 
 -- VIFF_TUNNEL (0x1) and VIFF_REGISTER (0x4) of linux/mroute.h
@@ -47,7 +48,8 @@ pub record WritesFlags (word : List ℕ) (vif : VifText) : Type 0 where
 abbrev pub WordsTellVif : List (List ℕ) → ℕ × VifText → Type 0
 WordsTellVif (index ∷ device ∷ bytes_in ∷ packets_in ∷ bytes_out ∷ packets_out ∷ flags ∷ local ∷ remote ∷ []) row =
     WritesNumber 0 31 index row.0 × (IsTrue (is_device_name device) × (row.1.device ≡ device))
-    × IsTrue (is_counter bytes_in) × IsTrue (is_counter packets_in) × IsTrue (is_counter bytes_out) × IsTrue (is_counter packets_out)
+    × IsTrue (is_counter bytes_in) × IsTrue (is_counter packets_in)
+    × IsTrue (is_counter bytes_out) × IsTrue (is_counter packets_out)
     × WritesFlags flags row.1 × IsTrue (is_hexadecimal 8 8 local) × IsTrue (is_hexadecimal 8 8 remote)
 WordsTellVif words row = ⊥
 

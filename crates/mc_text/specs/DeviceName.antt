@@ -6,7 +6,7 @@ use Rattle.std.specs.List.{list_all}
 abbrev pub is_byte_of_device : ℕ → Bool
 is_byte_of_device b = not ((nat_le 9 b && nat_le b 13) || ((b == 32) || ((b == 47) || (b == 58))))
 
--- 1 to 15 bytes (IFNAMSIZ of linux/if.h), none of those that dev_valid_name (net/core/dev.c) refuses in ASCII; the
--- kernel also refuses `.` and `..`
+-- 1 to 15 bytes (IFNAMSIZ of linux/if.h), none of those that dev_valid_name (net/core/dev.c) refuses in
+-- ASCII; the kernel also refuses `.` and `..`
 abbrev pub is_device_name : List ℕ → Bool
 is_device_name name = (nat_le 1 (length name) && nat_le (length name) 15) && list_all is_byte_of_device name

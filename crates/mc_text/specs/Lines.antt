@@ -12,8 +12,10 @@ pub record LineText : Type 0 where
 -- line feed is a line that none ends, if it is not empty.
 abbrev pub numbered : ℕ → List (List ℕ) → List LineText
 numbered n [] = []
-numbered n (part ∷ []) = if length part == 0 then [] else record { number = n; bytes = part; ended = false } ∷ []
-numbered n (part ∷ next ∷ more) = record { number = n; bytes = part; ended = true } ∷ numbered (n + 1) (next ∷ more)
+numbered n (part ∷ []) =
+    if length part == 0 then [] else record { number = n; bytes = part; ended = false } ∷ []
+numbered n (part ∷ next ∷ more) =
+    record { number = n; bytes = part; ended = true } ∷ numbered (n + 1) (next ∷ more)
 
 -- the lines of a text whose first has the number n
 abbrev pub lines_from : ℕ → List ℕ → List LineText

@@ -31,6 +31,9 @@ Gives view (Ok x) step = step ≡ Ok (view x)
 Gives view (Err fault) step = fault ≢ out_of_memory → step ≡ Err fault
 
 -- The values of the parts of a section, each read beside those before it, or the first fault.
-unfoldable pub each : {D X : Type 0} → Section → (List X → D → Result X TopologyFaultKind) → List X → List D → Result (List X) TopologyFault
+unfoldable pub each : {D X : Type 0} → Section → (List X → D → Result X TopologyFaultKind)
+    → List X → List D → Result (List X) TopologyFault
 each section one earlier [] = Ok earlier
-each section one earlier (d ∷ ds) = place section (length earlier + 1) (one earlier d) >>= λ x. each section one (earlier ++ x ∷ []) ds
+each section one earlier (d ∷ ds) =
+    place section (length earlier + 1) (one earlier d) >>= λ x.
+    each section one (earlier ++ x ∷ []) ds

@@ -41,7 +41,8 @@ flow_of sources earlier d = do
   lan ← ok_or (lan_of_source source sources) UnknownName
   group ← group_address_of group_text
   ttl ← ttl_of number
-  if has_flow source group earlier then Err RepeatedFlow else Ok (record { source = source; lan = lan; group = group; ttl = ttl })
+  if has_flow source group earlier then Err RepeatedFlow
+      else Ok (record { source = source; lan = lan; group = group; ttl = ttl })
 
 -- The list has to be a list (else BadKind), then of one flow at least (NoFlow), and then of at most 4,096
 -- (TooMany).

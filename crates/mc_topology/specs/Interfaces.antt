@@ -29,7 +29,8 @@ has_interface router device interfaces = list_any (is_at router device) interfac
 -- `device` and `lan`, in this order, each have to be there (MissingKey) and to be a text (BadKind). Then the
 -- values: a router has the first name (UnknownName), a device can have the second (BadName), a LAN has the
 -- third (UnknownName), and no earlier interface has the router and the device (RepeatedInterface).
-unfoldable pub interface_of : List (List ℕ) → List RouterRow → List InterfaceRow → Data → Result InterfaceRow TopologyFaultKind
+unfoldable pub interface_of : List (List ℕ) → List RouterRow → List InterfaceRow → Data
+    → Result InterfaceRow TopologyFaultKind
 interface_of lans routers earlier d = do
   table ← table_of interface_keys d
   router_name ← text_at (codes "router") table
@@ -38,11 +39,13 @@ interface_of lans routers earlier d = do
   router ← ok_or (router_no_of router_name routers) UnknownName
   if not (is_device device) then Err BadName else do
     lan ← ok_or (index_of lan_name lans) UnknownName
-    if has_interface router device earlier then Err RepeatedInterface else Ok (record { router = router; device = device; lan = lan })
+    if has_interface router device earlier then Err RepeatedInterface
+        else Ok (record { router = router; device = device; lan = lan })
 
 -- The interfaces: first their list, which has to be a list (else BadKind) of at most 8,192 (TooMany), at the
 -- number 0, then each interface from the front, at its number, counted from 1.
-unfoldable pub interfaces_in : List (List ℕ) → List RouterRow → Members → Result (List InterfaceRow) TopologyFault
+unfoldable pub interfaces_in : List (List ℕ) → List RouterRow → Members
+    → Result (List InterfaceRow) TopologyFault
 interfaces_in lans routers ms = do
   rows ← place section.Interface 0 (rows_at (codes "interface") 8192 ms)
   each section.Interface (interface_of lans routers) [] rows

@@ -24,16 +24,24 @@ utf8_text text = if is_utf8 text then Ok text else Err NotToml
 -- The table of a text, which has to have at most 16,777,216 bytes (else TooMany), and then to be TOML
 -- (NotToml).
 unfoldable pub document_of : List ℕ → Result Members TopologyFaultKind
-document_of text = if nat_le (length text) 16777216 then (utf8_text text >>= λ t. ok_or (parse_document t) NotToml) else Err TooMany
+document_of text =
+    if nat_le (length text) 16777216 then (utf8_text text >>= λ t. ok_or (parse_document t) NotToml)
+    else Err TooMany
 
 -- the keys of a topology
 abbrev pub top_keys : List (List ℕ)
-top_keys = codes "version" ∷ codes "lans" ∷ codes "router" ∷ codes "interface" ∷ codes "source" ∷ codes "flow" ∷ []
+top_keys =
+    codes "version" ∷ codes "lans" ∷ codes "router" ∷ codes "interface" ∷ codes "source"
+    ∷ codes "flow" ∷ []
 
 -- The top has to have no other keys (else UnknownKey), and then `version` has to be there (MissingKey), to be
 -- a whole number (BadKind), and to be 1 (BadVersion).
 unfoldable pub version_in : Members → Result (Unit {0}) TopologyFaultKind
-version_in ms = if has_only top_keys ms then (number_at (codes "version") ms >>= λ version. if int_eq version (pos 1) then Ok tt else Err BadVersion) else Err UnknownKey
+version_in ms =
+    if has_only top_keys ms
+    then (number_at (codes "version") ms >>= λ version.
+    if int_eq version (pos 1) then Ok tt else Err BadVersion)
+    else Err UnknownKey
 
 -- the top at the number 0, and then the sections in this order, each with those that it names
 unfoldable pub sections_in : Members → Result Sections TopologyFault

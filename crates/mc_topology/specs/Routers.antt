@@ -21,7 +21,10 @@ router_keys = codes "name" ∷ codes "order" ∷ []
 -- a byte order by its text, which is `little` where there is none
 unfoldable pub order_of : Option (List ℕ) → Result Order TopologyFaultKind
 order_of None = Ok Little
-order_of (Some text) = if bytes_eq text (codes "little") then Ok Little else if bytes_eq text (codes "big") then Ok Big else Err BadKind
+order_of (Some text) =
+    if bytes_eq text (codes "little") then Ok Little
+    else if bytes_eq text (codes "big") then Ok Big
+    else Err BadKind
 
 -- a router has the name
 abbrev pub has_router : List ℕ → List RouterRow → Bool

@@ -37,13 +37,18 @@ abbrev pub order_code : Coded Order
 order_code = code_by Bool coded_bool is_big order_of_big order_of_big-is_big
 
 abbrev pub router_code : Coded RouterRow
-router_code = code_by (List ℕ × Order) (coded× (coded_list coded_ℕ) order_code) (λ r. (r.name, r.order)) (λ p. record { name = p.0; order = p.1 }) (λ _. refl)
+router_code =
+    code_by (List ℕ × Order) (coded× (coded_list coded_ℕ) order_code) (λ r. (r.name, r.order))
+    (λ p. record { name = p.0; order = p.1 }) (λ _. refl)
 
 abbrev pub interface_code : Coded InterfaceRow
 interface_code =
-    code_by (ℕ × (List ℕ × ℕ)) (coded× coded_ℕ (coded× (coded_list coded_ℕ) coded_ℕ)) (λ i. (i.router, (i.device, i.lan)))
+    code_by (ℕ × (List ℕ × ℕ)) (coded× coded_ℕ (coded× (coded_list coded_ℕ) coded_ℕ))
+    (λ i. (i.router, (i.device, i.lan)))
     (λ p. record { router = p.0; device = p.1.0; lan = p.1.1 })
     (λ _. refl)
 
 abbrev pub source_code : Coded SourceRow
-source_code = code_by (ℕ × ℕ) (coded× coded_ℕ coded_ℕ) (λ s. (s.address, s.lan)) (λ p. record { address = p.0; lan = p.1 }) (λ _. refl)
+source_code =
+    code_by (ℕ × ℕ) (coded× coded_ℕ coded_ℕ) (λ s. (s.address, s.lan))
+    (λ p. record { address = p.0; lan = p.1 }) (λ _. refl)

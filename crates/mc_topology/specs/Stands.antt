@@ -68,7 +68,8 @@ pub record IsRouter (d : Data) (r : RouterRow) : Type 0 where
   pub fits : IsTrue (is_name r.name)
 
 -- a table of the name of a router, a device and the name of a LAN
-pub record IsInterface (lans : List (List ℕ)) (routers : List RouterRow) (d : Data) (i : InterfaceRow) : Type 0 where
+pub record IsInterface (lans : List (List ℕ)) (routers : List RouterRow) (d : Data)
+    (i : InterfaceRow) : Type 0 where
   pub members : Members
   pub router_name : List ℕ
   pub lan_name : List ℕ
@@ -91,7 +92,8 @@ pub record IsSourceRow (lans : List (List ℕ)) (d : Data) (s : SourceRow) : Typ
   pub may_send : IsSource s.address
   pub lan : index_of lan_name lans ≡ Some s.lan
 
--- a table of the address of one of the sources, the address of a group that routers forward and a time to live of 1 to 255
+-- a table of the address of one of the sources, the address of a group that routers forward and a time to
+-- live of 1 to 255
 pub record IsFlow (sources : List SourceRow) (d : Data) (f : Flow) : Type 0 where
   pub members : Members
   pub is_table : IsTable flow_keys d members
@@ -116,7 +118,8 @@ pub record LansStand (ms : Members) (lans : List (List ℕ)) : Type 0 where
   pub distinct : AreDistinctBy lan_key lans
 
 -- a list of at most so many rows, no two of one key, which may be missing
-pub record SectionStands {X K : Type 0} (name : List ℕ) (most : ℕ) (Stands : Data → X → Type 0) (key : X → K) (ms : Members) (xs : List X) : Type 0 where
+pub record SectionStands {X K : Type 0} (name : List ℕ) (most : ℕ) (Stands : Data → X → Type 0)
+    (key : X → K) (ms : Members) (xs : List X) : Type 0 where
   pub rows : List Data
   pub list : AreRows (get_member name ms) rows
   pub few : length rows ≤ most
@@ -129,7 +132,8 @@ pub record DocumentStands (ms : Members) (s : Sections) : Type 0 where
   pub version : HasNumber (codes "version") ms 1
   pub lans : LansStand ms s.lans
   pub routers : SectionStands (codes "router") 256 IsRouter router_key ms s.routers
-  pub interfaces : SectionStands (codes "interface") 8192 (IsInterface s.lans s.routers) key_of_interface ms s.interfaces
+  pub interfaces : SectionStands (codes "interface") 8192 (IsInterface s.lans s.routers)
+      key_of_interface ms s.interfaces
   pub sources : SectionStands (codes "source") 4096 (IsSourceRow s.lans) source_key ms s.sources
   pub flows : SectionStands (codes "flow") 4096 (IsFlow s.sources) flow_key ms s.flows
   pub some_flow : 0 < length s.flows

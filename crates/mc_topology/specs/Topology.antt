@@ -39,7 +39,12 @@ lan_by_interface interfaces = finite.from_entries (map interface_entry interface
 
 -- the topology of these LANs, routers, interfaces and flows
 abbrev pub topology_with : List (List ℕ) → List RouterRow → List InterfaceRow → List Flow → TopologyValue
-topology_with lans routers interfaces flows = record { lans = lans; routers = routers; interfaces = lan_by_interface interfaces; flows = flows }
+topology_with lans routers interfaces flows = record {
+  lans = lans;
+  routers = routers;
+  interfaces = lan_by_interface interfaces;
+  flows = flows;
+}
 
 -- the topology that the sections make
 abbrev pub topology_of : Sections → TopologyValue
@@ -66,9 +71,11 @@ flow_key f = (f.source, f.group)
 
 -- no two places of the list hold items of one key
 abbrev pub AreDistinctBy : {X K : Type 0} → (X → K) → List X → Type 0
-AreDistinctBy {X} {K} key xs = (i j : ℕ) (x y : X) → slice_get xs i ≡ Some x → slice_get xs j ≡ Some y → key x ≡ key y → i ≡ j
+AreDistinctBy {X} {K} key xs =
+    (i j : ℕ) (x y : X) → slice_get xs i ≡ Some x → slice_get xs j ≡ Some y → key x ≡ key y → i ≡ j
 
--- a flow from a host that may send, on one of the LANs, to a group that routers forward, with a time to live of 1 to 255
+-- a flow from a host that may send, on one of the LANs, to a group that routers forward, with a time to live
+-- of 1 to 255
 pub record IsFlowAmong (lans : List (List ℕ)) (f : Flow) : Type 0 where
   pub lan : f.lan < length lans
   pub is_address : IsAddr f.source
@@ -77,7 +84,8 @@ pub record IsFlowAmong (lans : List (List ℕ)) (f : Flow) : Type 0 where
   pub ttl_from : 1 ≤ f.ttl
   pub ttl_to : f.ttl ≤ 255
 
--- What every topology keeps: at most 1,024 LANs and 256 routers, no two of one name, each interface on one of the LANs, and 1 to 4,096 flows.
+-- What every topology keeps: at most 1,024 LANs and 256 routers, no two of one name, each interface on one of
+-- the LANs, and 1 to 4,096 flows.
 pub record IsTopology (t : TopologyValue) : Type 0 where
   pub few_lans : length t.lans ≤ 1024
   pub few_routers : length t.routers ≤ 256
@@ -85,7 +93,8 @@ pub record IsTopology (t : TopologyValue) : Type 0 where
   pub few_flows : length t.flows ≤ 4096
   pub lan_names : AreDistinctBy lan_key t.lans
   pub router_names : AreDistinctBy router_key t.routers
-  pub interface_lans : (router lan : ℕ) (device : List ℕ) → finite.get t.interfaces (interface_key router device) ≡ Some lan → lan < length t.lans
+  pub interface_lans : (router lan : ℕ) (device : List ℕ)
+      → finite.get t.interfaces (interface_key router device) ≡ Some lan → lan < length t.lans
   pub flows_among : (n : ℕ) (f : Flow) → slice_get t.flows n ≡ Some f → IsFlowAmong t.lans f
 
 -- a topology is stored as the tuple of its fields, and so is a flow
@@ -99,7 +108,8 @@ flow_code =
 abbrev pub topology_code : Coded TopologyValue
 topology_code =
     code_by (List (List ℕ) × (List RouterRow × (LanByInterface × List Flow)))
-    (coded× (coded_list (coded_list coded_ℕ)) (coded× (coded_list router_code) (coded× (finite.code (coded_list coded_ℕ) coded_ℕ) (coded_list flow_code))))
+    (coded× (coded_list (coded_list coded_ℕ)) (coded× (coded_list router_code)
+    (coded× (finite.code (coded_list coded_ℕ) coded_ℕ) (coded_list flow_code))))
     (λ t. (t.lans, (t.routers, (t.interfaces, t.flows))))
     (λ p. record { lans = p.0; routers = p.1.0; interfaces = p.1.1.0; flows = p.1.1.1 })
     (λ _. refl)

@@ -9,4 +9,5 @@ IsAllowed (Wants group source) = IsForwardedGroup group × IsSource source
 
 -- the words after `wants` are the group and the source of the task
 abbrev pub AreWords : List ℕ → List ℕ → Task → Type 0
-AreWords group_word source_word (Wants group source) = (group_word ≡ dotted group) × (source_word ≡ dotted source)
+AreWords group_word source_word (Wants group source) =
+    (group_word ≡ dotted group) × (source_word ≡ dotted source)

@@ -15,7 +15,8 @@ answer_line false = codes "not wanted" ++ 10 ∷ []
 
 -- the text is a report list, and this says whether its LAN wants what the source sends to the group
 abbrev pub IsAnswer : List ℕ → ℕ → ℕ → Bool → Type 0
-IsAnswer text group source wanted = (records : List Record) × IsReportList text records × (IsTrue wanted ↔ Wants records group source)
+IsAnswer text group source wanted =
+    (records : List Record) × IsReportList text records × (IsTrue wanted ↔ Wants records group source)
 
 -- The answer is right. A list is refused only for the first fault that stands in it. The other faults are
 -- those of the devices, and want of memory.
@@ -28,7 +29,9 @@ Answers text group source (Err Memory) = Unit {0}
 
 -- a proper part of the right answer's line was written, from its front
 abbrev pub WritesPart : Option (List ℕ) → ℕ → ℕ → Option (List ℕ) → Option (List ℕ) → Type 0
-WritesPart told group source old new = (wanted : Bool) × IfSome told (λ text. IsAnswer text group source wanted) × AppendsPart old new (answer_line wanted)
+WritesPart told group source old new =
+    (wanted : Bool) × IfSome told (λ text. IsAnswer text group source wanted)
+    × AppendsPart old new (answer_line wanted)
 
 -- the input failed once in a run that answers Read, and the output once in one that answers Write
 abbrev pub failed_reads : Result Bool RunFault → ℕ → ℕ

@@ -44,7 +44,8 @@ pub fn run_wants<R: Input, W: Output>(
     // No more is read than the greatest list and one byte, whatever the answer.
     ensures consumed { ConsumesUpTo (MAX_TEXT + 1) (R.told input.old) (R.told input.new) }
     // The answer's line is written whole, or a part of it where the output failed, or else nothing.
-    ensures written { IfOk result (λ wanted. Appends (W.took output.old) (W.took output.new) (answer_line wanted)) }
+    ensures written { IfOk result (λ wanted.
+        Appends (W.took output.old) (W.took output.new) (answer_line wanted)) }
     ensures part { result ≡ Err RunFault.Write
         → WritesPart (R.told input.old) group source (W.took output.old) (W.took output.new) }
     ensures unwritten { IfErr result (λ fault. fault ≢ RunFault.Write → output.new ≡ output.old) }

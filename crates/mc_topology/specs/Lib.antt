@@ -8,6 +8,7 @@ pub mod Names
 pub mod Routers
 pub mod Reading
 pub mod Rows
+pub mod SectionText
 pub mod Sources
 pub mod Stands
 pub mod Topology

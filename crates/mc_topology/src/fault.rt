@@ -1,7 +1,8 @@
 //! Why a topology is refused.
 
-ghost use Rattle.std.specs.Prelude.{◌≡◌};
+ghost use Rattle.std.specs.Prelude.{◌≡◌, Some};
 ghost use Rattle.mc_topology.specs.Answer.{out_of_memory};
+ghost use Rattle.mc_topology.specs.SectionText.{section_text};
 
 use std::alloc::{AllocError, AllocFailed};
 use std::fmt;
@@ -25,6 +26,8 @@ pub enum Section {
 }
 
 impl fmt::Display for Section {
+    ghost output = { λ section. Some (section_text section) };
+
     fn fmt<W: fmt::Write>(&self, f: &mut fmt::Formatter<W>) -> fmt::Result {
         f.write_str(match self {
             Section::Top => "top",

@@ -85,7 +85,7 @@ pub record IsFlowAmong (lans : List (List ℕ)) (f : Flow) : Type 0 where
   pub ttl_to : f.ttl ≤ 255
 
 -- What every topology keeps: at most 1,024 LANs and 256 routers, no two of one name, each interface on one of
--- the LANs, and 1 to 4,096 flows.
+-- the LANs, and 1 to 4,096 flows, each as above.
 pub record IsTopology (t : TopologyValue) : Type 0 where
   pub few_lans : length t.lans ≤ 1024
   pub few_routers : length t.routers ≤ 256

@@ -2,7 +2,11 @@ pub mod LawLemmas
 pub mod LineLemmas
 pub mod WordLemmas
 pub mod ResultLemmas
+pub mod StepLemmas
 pub mod AddrLemmas
+pub mod AddressReading
+pub mod AddressTests
+pub mod NumberReading
 pub mod Written
 pub mod BundleWords
 pub mod BundleLines
@@ -10,6 +14,6 @@ pub mod BundlePlaces
 pub mod BundleLaws
 pub mod BundleCode
 pub mod BundleLoop
-pub mod BundleWritten
+pub mod Pieces
 pub mod BundleLimits
 pub mod ReadingOn

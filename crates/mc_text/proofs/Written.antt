@@ -8,9 +8,13 @@ use Rattle.std.specs.Io.KnownBytes.{Appends}
 use Rattle.mc_text.specs.Device.{failed_by_write}
 
 -- what was taken in two writes, one after the other, is the text's front
-pub takes_on : (a b c : Option (List ℕ)) (text : List ℕ) (n m : ℕ) → Appends a b (take n text) → Appends b c (take m (drop n text)) → Appends a c (take (n + m) text)
-takes_on a b c text n m first second = subst (Appends a c) (sym (take-add n m text)) (Appends-trans a b c (take n text) (take m (drop n text)) first second)
+pub takes_on : (a b c : Option (List ℕ)) (text : List ℕ) (n m : ℕ) → Appends a b (take n text)
+    → Appends b c (take m (drop n text)) → Appends a c (take (n + m) text)
+takes_on a b c text n m first second =
+    subst (Appends a c) (sym (take-add n m text))
+    (Appends-trans a b c (take n text) (take m (drop n text)) first second)
 
 -- a write that takes a byte is no failure
-pub not_failed : (n : ℕ) (text : List ℕ) (before : ℕ) → 0 < n → failed_by_write (Ok n) text before ≡ before
+pub not_failed : (n : ℕ) (text : List ℕ) (before : ℕ) → 0 < n
+    → failed_by_write (Ok n) text before ≡ before
 not_failed n text before h = grind (arith, nat_tests)

@@ -1,6 +1,6 @@
 -- An address is the number of 32 bits whose most significant octet is its first, so that addresses are
 -- ordered by their octets as the numbers are.
-use Rattle.std.specs.Prelude.{◌≢◌, ℕ, ◌+◌, ◌*◌, ◌/◌, ◌<◌, ◌≤◌, ◌^◌, List}
+use Rattle.std.specs.Prelude.{◌≢◌, ℕ, ◌+◌, ◌*◌, ◌/◌, ◌<◌, ◌≤◌, ◌^◌, ◌==◌, ◌&&◌, not, nat_lt, nat_le, Bool, List}
 use Rattle.std.specs.Int.{w32, to_be_bytes}
 use Rattle.std.specs.Net.Text.{ipv4_text}
 
@@ -19,6 +19,10 @@ dotted a = ipv4_text (octets_of a)
 abbrev pub IsForwardedGroup : ℕ → Type 0
 IsForwardedGroup a = (224 * 2 ^ 24 + 2 ^ 8 ≤ a) × (a < 240 * 2 ^ 24)
 
+-- the same as a test
+abbrev pub is_forwarded_group : ℕ → Bool
+is_forwarded_group a = nat_le (224 * 2 ^ 24 + 2 ^ 8) a && nat_lt a (240 * 2 ^ 24)
+
 -- the first octet
 abbrev pub first_octet : ℕ → ℕ
 first_octet a = a / 2 ^ 24
@@ -26,3 +30,8 @@ first_octet a = a / 2 ^ 24
 -- an address that a host may send from: its first octet is 1 to 223, and not 127 (RFC 1122, section 3.2.1.3)
 abbrev pub IsSource : ℕ → Type 0
 IsSource a = (1 ≤ first_octet a) × (first_octet a ≤ 223) × (first_octet a ≢ 127)
+
+-- the same as a test
+abbrev pub is_source : ℕ → Bool
+is_source a =
+    (nat_le 1 (first_octet a) && nat_le (first_octet a) 223) && not (first_octet a == 127)

@@ -1,18 +1,13 @@
 -- Reading a bundle from the front, with the first fault that is met.
 use Rattle.std.specs.Prelude.{◌≡◌, ℕ, zero, suc, ◌+◌, ◌-◌, ◌==◌, ◌&&◌, ◌||◌, nat_lt, nat_le, not, Bool, List, [], ◌∷◌, length, take, drop, slice_index, position, codes, Option, Some, None, Result, Ok, Err, if◌then◌else◌}
-use Rattle.std.specs.Char.{is_ascii_digit}
 use Rattle.std.specs.List.{list_all}
 use Rattle.std.specs.Str.{bytes_eq}
 use Rattle.std.specs.Str.Parse.{digits_value}
 use Rattle.mc_text.specs.declared.bundle_fault.BundleFault.{BundleFault}
 use Rattle.mc_text.specs.declared.bundle_fault.BundleFault.TheVariants as faults
+use Rattle.mc_text.specs.Number.{is_decimal}
+use Rattle.mc_text.specs.Steps.{◌>>=◌}
 use Rattle.mc_text.specs.Bundle.{PartText, is_name_byte, max_name, max_line, max_part, max_bundle, max_parts}
-
--- a step, and what follows it unless it has a fault
-infixl 10 ◌>>=◌
-abbrev pub ◌>>=◌ : {A B : Type 0} → Result A BundleFault → (A → Result B BundleFault) → Result B BundleFault
-(Ok x) >>= f = f x
-(Err e) >>= f = Err e
 
 -- A function's fault is the one that reading gives. Want of memory says nothing of reading.
 abbrev pub Fails : {Y : Type 0} → BundleFault → Result Y BundleFault → Type 0
@@ -44,8 +39,7 @@ is_part_name name =
 -- one digit or more, and no needless leading zero
 abbrev pub is_length : List ℕ → Bool
 is_length word =
-    nat_le 1 (length word) && list_all is_ascii_digit word
-    && ((length word == 1) || not (slice_index word 0 == 48))
+    is_decimal word && ((length word == 1) || not (slice_index word 0 == 48))
 
 -- the name and the length that two words say, if they are a name and a length
 abbrev pub name_and_length : List ℕ → List ℕ → Option (List ℕ × ℕ)

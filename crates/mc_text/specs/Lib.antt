@@ -1,4 +1,5 @@
 pub mod Addr
+pub mod AddressReading
 pub mod AddressWord
 pub mod Bundle
 pub mod BundleReading
@@ -14,5 +15,6 @@ pub mod PartName
 pub mod PartView
 pub mod PlaceView
 pub mod ReadFault
+pub mod Steps
 pub mod Words
 pub use Rattle.hex.specs.Hex

@@ -2,6 +2,10 @@
 use Rattle.std.specs.Prelude.{◌≢◌, ℕ, ◌+◌, ◌<◌, ◌==◌, IsTrue, MatchBool, Bool, true, false, List, [], ◌∷◌, ◌++◌, length, if◌then◌else◌}
 use Rattle.std.specs.List.{slice_split, flat_map, AllByRecursion}
 
+-- the greatest length of a text that is read as lines, in bytes
+abbrev pub max_text : ℕ
+max_text = 16777216
+
 -- a line without where it lies in memory
 pub record LineText : Type 0 where
   pub number : ℕ

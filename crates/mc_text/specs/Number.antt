@@ -1,7 +1,19 @@
 -- Numbers in decimal.
-use Rattle.std.specs.Prelude.{◌≡◌, ℕ, List}
+use Rattle.std.specs.Prelude.{◌≡◌, ℕ, ◌&&◌, nat_le, Bool, List, length, Option, Some, None, if◌then◌else◌}
+use Rattle.std.specs.Char.{is_ascii_digit}
+use Rattle.std.specs.List.{list_all}
 use Rattle.std.specs.Str.Parse.{IsNumeral, digits_value}
 
 -- one decimal digit or more, and nothing else, which write the number n
 abbrev pub IsDecimal : List ℕ → ℕ → Type 0
 IsDecimal word n = IsNumeral 10 word × (digits_value 10 word ≡ n)
+
+-- whether the word is one decimal digit or more, and nothing else
+abbrev pub is_decimal : List ℕ → Bool
+is_decimal word = nat_le 1 (length word) && list_all is_ascii_digit word
+
+-- the number that the word writes in decimal, if it is at most max
+unfoldable pub number_up_to : ℕ → List ℕ → Option ℕ
+number_up_to max word =
+    if is_decimal word && nat_le (digits_value 10 word) max
+    then Some (digits_value 10 word) else None

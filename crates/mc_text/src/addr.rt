@@ -1,9 +1,10 @@
 //! IPv4 addresses, as people write them and as a kernel's tables show them.
 
-ghost use Rattle.std.specs.Prelude.{◌≡◌, ℕ, ◌<◌, ◌^◌, ◌↔◌, List, length, IsTrue, IfSome, Some, Ok};
+ghost use Rattle.std.specs.Prelude.{◌≡◌, ℕ, ◌<◌, ◌^◌, ◌==◌, ◌↔◌, List, length, IsTrue, IfSome, Some, Ok};
 ghost use Rattle.std.specs.Int.{w32, from_be_bytes};
 ghost use Rattle.hex.specs.Hex.{decode_of};
-ghost use Rattle.mc_text.specs.Addr.{IsAddr, IsForwardedGroup, IsSource, octets_of, dotted};
+ghost use Rattle.mc_text.specs.Addr.{IsAddr, IsForwardedGroup, IsSource, is_forwarded_group, is_source, octets_of, dotted};
+ghost use Rattle.mc_text.specs.AddressReading.{address_of_text, address_of_word};
 ghost use Rattle.mc_text.specs.AddressWord.{IsAddressWord};
 
 use std::fmt;
@@ -44,6 +45,34 @@ fn four_bytes(word: &[u8]) -> Option<[u8; 4]>
     Some(bytes)
 }
 
+/// The address that a dotted text writes.
+fn address_written(text: &[u8]) -> Option<Addr>
+    ensures found { IfSome result (λ a. text.now ≡ dotted a) }
+    ensures in_range { IfSome result IsAddr }
+    ensures only { (a : ℕ) → IsAddr a → text.now ≡ dotted a → result ≡ Some a }
+{
+    let parsed = Ipv4Addr::parse_ascii(text).ok()?;
+    Some(Addr {
+        bits: parsed.to_bits(),
+    })
+}
+
+/// The address that a kernel's word shows.
+fn address_shown(word: &[u8], order: Order) -> Option<Addr>
+    ensures found { IfSome result (λ a. IsAddressWord order word.now a) }
+    ensures in_range { IfSome result IsAddr }
+    ensures only { (a : ℕ) → IsAddr a → IsAddressWord order word.now a → result ≡ Some a }
+{
+    let bytes = four_bytes(word)?;
+    Some(match order {
+        Order::Big => Addr::from_octets(bytes),
+        Order::Little => {
+            let [first, second, third, fourth] = bytes;
+            Addr::from_octets([fourth, third, second, first])
+        }
+    })
+}
+
 impl Addr {
     /// Reads four decimal numbers from 0 to 255 without leading zeros, with dots between them.
     pub fn parse_dotted(text: &[u8]) -> Option<Addr>
@@ -52,11 +81,9 @@ impl Addr {
         ensures in_range { IfSome result IsAddr }
         // What is written so is read.
         ensures only { (a : ℕ) → IsAddr a → text.now ≡ dotted a → result ≡ Some a }
+        ensures value { result ≡ address_of_text text.now }
     {
-        let parsed = Ipv4Addr::parse_ascii(text).ok()?;
-        Some(Addr {
-            bits: parsed.to_bits(),
-        })
+        address_written(text)
     }
 
     /// Reads an address word of `/proc/net/ip_mr_vif` and `/proc/net/ip_mr_cache`: eight hexadecimal
@@ -66,15 +93,9 @@ impl Addr {
         ensures found { IfSome result (λ a. IsAddressWord order word.now a) }
         ensures in_range { IfSome result IsAddr }
         ensures only { (a : ℕ) → IsAddr a → IsAddressWord order word.now a → result ≡ Some a }
+        ensures value { result ≡ address_of_word order word.now }
     {
-        let bytes = four_bytes(word)?;
-        Some(match order {
-            Order::Big => Addr::from_octets(bytes),
-            Order::Little => {
-                let [first, second, third, fourth] = bytes;
-                Addr::from_octets([fourth, third, second, first])
-            }
-        })
+        address_shown(word, order)
     }
 
     /// The address with these octets, of which the first is the most significant.
@@ -91,7 +112,8 @@ impl Addr {
     /// Whether routers forward this group: 224.0.1.0 to 239.255.255.255. The groups 224.0.0.0 to
     /// 224.0.0.255 before them stay on their LAN (RFC 5771, section 4).
     pub fn is_forwarded_group(self) -> bool
-        ensures { IsTrue result ↔ IsForwardedGroup self }
+        ensures means { IsTrue result ↔ IsForwardedGroup self }
+        ensures value { result ≡ is_forwarded_group self }
     {
         (0xE000_0100..=0xEFFF_FFFF).contains(&self.bits)
     }
@@ -99,10 +121,18 @@ impl Addr {
     /// Whether a host may send from this address: its first octet is 1 to 223, and not 127
     /// (RFC 1122, section 3.2.1.3).
     pub fn is_source(self) -> bool
-        ensures { IsTrue result ↔ IsSource self }
+        ensures means { IsTrue result ↔ IsSource self }
+        ensures value { result ≡ is_source self }
     {
         let first = self.bits >> 24;
         (1..=223).contains(&first) && first != 127
+    }
+
+    /// Whether it is 0.0.0.0, which stands for no address.
+    pub fn is_unspecified(self) -> bool
+        ensures { result ≡ (self == 0) }
+    {
+        self.bits == 0
     }
 
     /// The four octets, the most significant first: each is 0 to 255.

@@ -28,7 +28,7 @@ pub(crate) const MAX_BUNDLE: usize = 268_435_456;
 /// The greatest number of parts.
 pub(crate) const MAX_PARTS: usize = 1_538;
 
-// Where reading stands: how many parts and how many bytes may still come, and the bytes that do.
+/// Where reading stands: how many parts and how many bytes may still come, and the bytes that do.
 #[derive(Clone, Copy)]
 struct Place<'a> {
     parts: usize,
@@ -36,7 +36,7 @@ struct Place<'a> {
     rest: &'a [u8],
 }
 
-// The bytes of a part, and those after its line feed.
+/// The bytes of a part, and those after its line feed.
 #[tactic(auto, unfolding(crate::specs::BundleReading::part_bytes_at))]
 fn part_bytes_at(size: usize, rest: &[u8]) -> Result<(&[u8], &[u8]), BundleFault>
     ensures { Gives (λ x. (x.0.now, x.1.now)) result (part_bytes_of size rest.now) }
@@ -50,7 +50,7 @@ fn part_bytes_at(size: usize, rest: &[u8]) -> Result<(&[u8], &[u8]), BundleFault
     Ok((&rest[..size], &rest[size + 1..]))
 }
 
-// The part whose line was read, and the place after it.
+/// The part whose line was read, and the place after it.
 fn part_at<'a>(
     place: &Place<'a>,
     line: &[u8],
@@ -78,7 +78,7 @@ fn part_at<'a>(
     Ok(Some((Part { name, bytes }, next)))
 }
 
-// Nothing may follow the line `end`.
+/// Nothing may follow the line `end`.
 fn end_at(place: &Place<'_>, after: &[u8]) -> Result<(), BundleFault>
     ensures { Gives (λ _. None) result (end_place (place_text place.now) after.now) }
 {
@@ -91,7 +91,7 @@ fn end_at(place: &Place<'_>, after: &[u8]) -> Result<(), BundleFault>
     Ok(())
 }
 
-// The part at a place and the place after it, or nothing at the end.
+/// The part at a place and the place after it, or nothing at the end.
 #[tactic(auto, unfolding(crate::specs::BundleReading::place_of))]
 fn place_at<'a>(place: &Place<'a>) -> Result<Option<(Part<'a>, Place<'a>)>, BundleFault>
     ensures { Gives (option_map found_text) result (place_of (place_text place.now)) }
@@ -107,7 +107,7 @@ fn place_at<'a>(place: &Place<'a>) -> Result<Option<(Part<'a>, Place<'a>)>, Bund
     }
 }
 
-// The parts from a text's first part line on.
+/// The parts from a text's first part line on.
 fn parts_of(alloc: Global, text: &[u8]) -> Result<Vec<Part<'_>>, BundleFault>
     ensures { Gives (λ parts. part_texts parts.items) result
         (parts_from max_parts (max_bundle - 17) text.now) }
@@ -169,7 +169,7 @@ impl<'a> Bundle<'a> {
         Bundle::from_text(alloc, text)
     }
 
-    // The same, with all three said at once.
+    /// The same, with all three said at once.
     #[tactic(auto, unfolding(crate::specs::BundleReading::bundle_of))]
     fn from_text(alloc: Global, text: &'a [u8]) -> Result<Bundle<'a>, BundleFault>
         ensures { Gives (λ bundle. bundle) result (bundle_of text.now) }

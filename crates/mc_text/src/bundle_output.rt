@@ -1,6 +1,6 @@
 //! Writing a bundle.
 
-ghost use Rattle.std.specs.Prelude.{◌≡◌, ◌≢◌, ◌+◌, ◌↔◌, ◌⊎◌, ◌<◌, ◌≤◌, length, OnOk, OnErr, IfErr, IsErrOf};
+ghost use Rattle.std.specs.Prelude.{◌≡◌, ◌≢◌, ◌+◌, ◌++◌, codes, flat_map, ◌↔◌, ◌⊎◌, ◌<◌, ◌≤◌, length, OnOk, OnErr, IfErr, IsErrOf};
 ghost use Rattle.std.specs.Bool.{OnTrue, OnFalse};
 ghost use Rattle.std.specs.Io.KnownBytes.{Appends};
 ghost use Rattle.std.specs.List.{AllByRecursion};
@@ -12,7 +12,7 @@ ghost use Rattle.mc_text.specs.PartView.{part_text, part_texts};
 use crate::bundle::{END_LINE, MAGIC, MAX_BUNDLE, MAX_PART, MAX_PARTS};
 use crate::bundle_fault::BundleFault;
 use crate::device::{DeviceFault, Output};
-use crate::output_bytes::write_all;
+use crate::output_bytes::{write_all, write_pieces};
 use crate::part::Part;
 use itoa::Buffer;
 
@@ -43,13 +43,10 @@ pub fn write_bundle<W: Output>(parts: &[Part<'_>], output: &mut W) -> Result<(),
     if !are_within_limits(parts) {
         return Err(BundleFault::TooLarge);
     }
-    match write_parts(output, parts) {
-        Ok(()) => Ok(()),
-        Err(_) => Err(BundleFault::Write),
-    }
+    write_parts(output, parts).map_err(|_| BundleFault::Write)
 }
 
-// Whether the parts are within a bundle's limits.
+/// Whether the parts are within a bundle's limits.
 fn are_within_limits(parts: &[Part<'_>]) -> bool
     ensures within { OnTrue result (AreWithinLimits (part_texts parts.now)) }
     ensures names { OnTrue result
@@ -69,7 +66,7 @@ fn are_within_limits(parts: &[Part<'_>]) -> bool
     size <= MAX_BUNDLE
 }
 
-// How many bytes a part takes, with its line.
+/// How many bytes a part takes, with its line.
 fn size_of_part(part: &Part<'_>) -> usize
     requires { length part.now.bytes.now ≤ MAX_PART }
     ensures size { result ≡ length (part_spelling (part_text part.now)) }
@@ -82,7 +79,7 @@ fn size_of_part(part: &Part<'_>) -> usize
     line + 1 + part.bytes.len() + 1
 }
 
-// Writes the bundle of the parts, whatever they are.
+/// Writes the bundle of the parts, whatever they are.
 fn write_parts<W: Output>(output: &mut W, parts: &[Part<'_>]) -> Result<(), DeviceFault>
     requires { W.failed output.old < u64.MAX }
     ensures same { W.names output.new ≡ W.names output.old }
@@ -99,7 +96,7 @@ fn write_parts<W: Output>(output: &mut W, parts: &[Part<'_>]) -> Result<(), Devi
     write_all(output, END_LINE)
 }
 
-// Writes a part, with its line.
+/// Writes a part, with its line.
 fn write_part<W: Output>(output: &mut W, part: &Part<'_>) -> Result<(), DeviceFault>
     requires { W.failed output.old < u64.MAX }
     ensures same { W.names output.new ≡ W.names output.old }
@@ -111,11 +108,13 @@ fn write_part<W: Output>(output: &mut W, part: &Part<'_>) -> Result<(), DeviceFa
 {
     let mut buffer = Buffer::new();
     let digits = buffer.format(part.bytes.len()).as_bytes();
-    write_all(output, b"part ")?;
-    write_all(output, part.name.as_bytes())?;
-    write_all(output, b" ")?;
-    write_all(output, digits)?;
-    write_all(output, b"\n")?;
-    write_all(output, part.bytes)?;
-    write_all(output, b"\n")
+    write_pieces(output, &pieces_of(part.name.as_bytes(), digits, part.bytes))
+}
+
+/// The pieces of a part.
+fn pieces_of<'a>(name: &'a [u8], digits: &'a [u8], bytes: &'a [u8]) -> [&'a [u8]; 7]
+    ensures { flat_map (λ piece. piece.now) result
+        ≡ (codes "part " ++ (name.now ++ (codes " " ++ digits.now)) ++ codes "\n") ++ (bytes.now ++ codes "\n") }
+{
+    [b"part ", name, b" ", digits, b"\n", bytes, b"\n"]
 }

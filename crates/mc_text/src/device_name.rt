@@ -16,14 +16,14 @@ pub fn is_device_name(name: &[u8]) -> bool
     !name.is_empty() && name.len() <= MAX_DEVICE_NAME && are_bytes_of_devices(name)
 }
 
-// Whether a device's name may have each of the bytes.
+/// Whether a device's name may have each of the bytes.
 fn are_bytes_of_devices(bytes: &[u8]) -> bool
     ensures { result ≡ list_all is_byte_of_device bytes.now }
 {
     bytes.iter().all(|byte| is_byte_of_device(*byte))
 }
 
-// Whether a device's name may have the byte.
+/// Whether a device's name may have the byte.
 fn is_byte_of_device(byte: u8) -> bool
     ensures { result ≡ is_byte_of_device byte }
 {

@@ -6,19 +6,16 @@ ghost use Rattle.mc_text.specs.ReadFault.{ConsumesUpTo, failed_by_reading, Reads
 
 use crate::device::Input;
 use std::alloc::Global;
-use thiserror::Error;
 
 /// How many bytes are asked of an input at once.
 const PIECE: usize = 65_536;
 
 /// Why an input could not be read.
-#[derive(Clone, Copy, Debug, PartialEq, Eq, Error)]
+#[derive(Clone, Copy, Debug, PartialEq, Eq)]
 pub enum ReadFault {
     /// The input answered an error.
-    #[error("the device failed")]
     Read,
     /// Memory ran out.
-    #[error("no memory")]
     Memory,
 }
 
@@ -53,7 +50,7 @@ pub fn read_to_limit<R: Input>(
     Ok(bytes)
 }
 
-// Reads on, through the buffer, until the bytes are as many as the limit or the input is at its end.
+/// Reads on, through the buffer, until the bytes are as many as the limit or the input is at its end.
 fn fill_to_limit<R: Input>(
     input: &mut R,
     bytes: &mut Vec<u8>,

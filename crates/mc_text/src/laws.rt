@@ -1,17 +1,27 @@
 //! What follows from the definitions alone, for whoever builds on them.
 
-ghost use Rattle.std.specs.Prelude.{◌≡◌, ◌≢◌, ℕ, List};
+ghost use Rattle.std.specs.Prelude.{◌≡◌, ◌≢◌, ◌≤◌, ◌↔◌, ℕ, List, Some};
 ghost use Rattle.std.specs.Cmp.Lexicographic.{slice_cmp};
 ghost use Rattle.std.specs.List.{AllByRecursion};
 ghost use Rattle.std.specs.Ordering.{nat_cmp};
-ghost use Rattle.mc_text.specs.Addr.{IsAddr, octets_of};
-ghost use Rattle.mc_text.specs.Lines.{HasNoLineFeed, OnlyLastMayBeUnended, joined, lines_of};
+ghost use Rattle.mc_text.specs.Addr.{IsAddr, octets_of, dotted};
+ghost use Rattle.mc_text.specs.AddressReading.{address_of_text, address_of_word};
+ghost use Rattle.mc_text.specs.AddressWord.{IsAddressWord};
+ghost use Rattle.mc_text.specs.Lines.{HasNoLineFeed, OnlyLastMayBeUnended, joined, lines_of, max_text};
+ghost use Rattle.mc_text.specs.Number.{IsDecimal, number_up_to};
+ghost use Rattle.mc_text.specs.declared.addr.Order.{Order};
 
 use crate::addr::Addr;
+use crate::lines::MAX_TEXT;
 
 /// The bytes of the lines, each with its line feed if it has one, are the text.
 pub fn lines_make_their_text()
     ensures { (text : List ℕ) → joined (lines_of text) ≡ text }
+{}
+
+/// The greatest text that is read as lines is that of the definition: 16,777,216 bytes.
+pub fn greatest_text_is_max_text()
+    ensures { MAX_TEXT ≡ max_text }
 {}
 
 /// No line has a line feed within, and each but the last is ended by one.
@@ -26,4 +36,25 @@ pub fn addresses_are_ordered_by_octets()
         → ⟦<Addr as Ord>⟧.cmp a b ≡ slice_cmp nat_cmp (octets_of a) (octets_of b) }
     ensures number { (a b : ℕ) → IsAddr a → IsAddr b
         → nat_cmp a b ≡ slice_cmp nat_cmp (octets_of a) (octets_of b) }
+{}
+
+/// Reading finds the address that a dotted text writes, and two addresses with one text are one.
+pub fn dotted_texts_are_read()
+    ensures read { (text : List ℕ) (a : ℕ)
+        → (address_of_text text ≡ Some a) ↔ (IsAddr a × (text ≡ dotted a)) }
+    ensures one { (a b : ℕ) → IsAddr a → IsAddr b → dotted a ≡ dotted b → a ≡ b }
+{}
+
+/// Reading finds the address that a word shows, and two addresses that one word shows are one.
+pub fn address_words_are_read()
+    ensures read { (order : Order) (word : List ℕ) (a : ℕ)
+        → (address_of_word order word ≡ Some a) ↔ (IsAddr a × IsAddressWord order word a) }
+    ensures one { (order : Order) (word : List ℕ) (a b : ℕ) → IsAddr a → IsAddr b
+        → IsAddressWord order word a → IsAddressWord order word b → a ≡ b }
+{}
+
+/// Reading finds the number that a word writes, if it is in range.
+pub fn decimal_numbers_are_read()
+    ensures { (max : ℕ) (word : List ℕ) (n : ℕ)
+        → (number_up_to max word ≡ Some n) ↔ (IsDecimal word n × (n ≤ max)) }
 {}

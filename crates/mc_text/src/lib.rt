@@ -11,6 +11,7 @@ mod bundle_laws;
 mod bundle_output;
 mod device;
 mod device_name;
+mod faulty;
 mod first_place;
 mod from_reader;
 mod input_bytes;
@@ -32,9 +33,14 @@ pub use bundle_laws::{one_list_of_parts, written_is_read};
 pub use bundle_output::write_bundle;
 pub use device::{DeviceFault, Input, Output};
 pub use device_name::is_device_name;
+pub use faulty::{FaultyInput, FaultyOutput, Stop};
 pub use from_reader::FromReader;
 pub use input_bytes::{ReadFault, read_to_limit};
-pub use laws::{addresses_are_ordered_by_octets, lines_end_at_line_feeds, lines_make_their_text};
+pub use laws::{
+    address_words_are_read, addresses_are_ordered_by_octets, decimal_numbers_are_read,
+    dotted_texts_are_read, greatest_text_is_max_text, lines_end_at_line_feeds,
+    lines_make_their_text,
+};
 pub use lines::{Line, Lines, MAX_TEXT};
 pub use memory::Memory;
 pub use number::decimal;

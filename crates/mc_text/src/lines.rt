@@ -39,11 +39,11 @@ impl<'a> Model for Lines<'a> {
 }
 
 impl<'a> Lines<'a> {
-    ghost use Rattle.mc_text.specs.Lines.{lines_of};
+    ghost use Rattle.mc_text.specs.Lines.{lines_of, max_text};
 
     /// The lines of a text of at most 16,777,216 bytes.
     pub fn new(text: &'a [u8]) -> Lines<'a>
-        requires { length text.now ≤ MAX_TEXT }
+        requires { length text.now ≤ max_text }
         ensures { result ≡ lines_of text.now }
     {
         Lines {

@@ -1,6 +1,6 @@
 //! Writing a whole text.
 
-ghost use Rattle.std.specs.Prelude.{◌≡◌, ◌<◌, OnOk, OnErr};
+ghost use Rattle.std.specs.Prelude.{◌≡◌, ◌<◌, flat_map, OnOk, OnErr};
 ghost use Rattle.std.specs.Io.KnownBytes.{Appends};
 ghost use Rattle.mc_text.specs.Device.{failed_by_write_all, AppendsPart};
 
@@ -27,6 +27,22 @@ pub fn write_all<W: Output>(output: &mut W, text: &[u8]) -> Result<(), DeviceFau
             Ok(count) => taken += count,
             Err(fault) => return Err(fault),
         }
+    }
+    Ok(())
+}
+
+/// Writes the pieces one after the other.
+pub(crate) fn write_pieces<W: Output>(output: &mut W, pieces: &[&[u8]]) -> Result<(), DeviceFault>
+    requires { W.failed output.old < u64.MAX }
+    ensures same { W.names output.new ≡ W.names output.old }
+    ensures ok { OnOk result
+        (Appends (W.took output.old) (W.took output.new) (flat_map (λ piece. piece.now) pieces.now)) }
+    ensures err { OnErr result (AppendsPart
+        (W.took output.old) (W.took output.new) (flat_map (λ piece. piece.now) pieces.now)) }
+    ensures failures { W.failed output.new ≡ failed_by_write_all result (W.failed output.old) }
+{
+    for piece in pieces {
+        write_all(output, piece)?;
     }
     Ok(())
 }

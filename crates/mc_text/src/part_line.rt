@@ -5,9 +5,11 @@ ghost use Rattle.std.specs.Char.{is_ascii_digit};
 ghost use Rattle.std.specs.List.{list_all};
 ghost use Rattle.std.specs.Str.Parse.{digits_value};
 ghost use Rattle.mc_text.specs.BundleReading.{Gives, line_at as line_of, is_length as is_length_word, part_said as said_by, words_said as said_by_words};
+ghost use Rattle.mc_text.specs.Number.{is_decimal};
 
 use crate::bundle_fault::BundleFault;
 use crate::first_place::first_place_of;
+use crate::number::decimal;
 use crate::part_name::PartName;
 
 /// The greatest length of a line with its line feed, in bytes.
@@ -36,7 +38,7 @@ pub(crate) fn part_said(line: &[u8]) -> Option<(PartName, u64)>
     words_said(words)
 }
 
-// The same of a line without its `part `.
+/// The same of a line without its `part `.
 fn words_said(words: &[u8]) -> Option<(PartName, u64)>
     ensures { result ≡ option_map (λ said. (said.0, min said.1 u64.MAX)) (said_by_words words.now) }
 {
@@ -49,7 +51,7 @@ fn words_said(words: &[u8]) -> Option<(PartName, u64)>
     Some((name, length_of(number)))
 }
 
-// Whether the word is decimal digits without a needless leading zero.
+/// Whether the word is decimal digits without a needless leading zero.
 fn is_length(word: &[u8]) -> bool
     ensures { result ≡ is_length_word word.now }
 {
@@ -65,16 +67,11 @@ fn are_digits(word: &[u8]) -> bool
     word.iter().all(|byte| byte.is_ascii_digit())
 }
 
-// The number that the digits write, or the greatest one of 64 bits.
+/// The number that the digits write, or the greatest one of 64 bits.
+#[tactic(auto, using(crate::proofs::NumberReading::number_or_greatest))]
 fn length_of(digits: &[u8]) -> u64
-    requires { list_all is_ascii_digit digits.now ≡ true }
+    requires { is_decimal digits.now ≡ true }
     ensures { result ≡ min (digits_value 10 digits.now) u64.MAX }
 {
-    let mut length = 0u64;
-    for digit in digits {
-        length = length
-            .saturating_mul(10)
-            .saturating_add(u64::from(*digit - b'0'));
-    }
-    length
+    decimal(digits, u64::MAX).unwrap_or(u64::MAX)
 }

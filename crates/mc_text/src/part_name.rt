@@ -83,7 +83,7 @@ fn is_name_byte(byte: u8) -> bool
     byte.is_ascii_alphanumeric() || matches!(byte, b'-' | b'_' | b'.' | b'/')
 }
 
-// The bytes, and zeros after them.
+/// The bytes, and zeros after them.
 fn padded(bytes: &[u8]) -> [u8; MAX_NAME]
     requires { length bytes.now ≤ MAX_NAME }
     ensures value { result ≡ with_zeros bytes.now }

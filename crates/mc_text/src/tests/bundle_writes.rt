@@ -2,7 +2,6 @@
 
 ghost use Rattle.std.specs.Prelude.{None};
 
-use crate::tests::devices::{Narrow, Stop};
 use crate::*;
 use std::test::Fail;
 
@@ -50,7 +49,7 @@ fn writes_nothing_past_a_limit(rt: HostRuntime) -> Result<(), Fail> {
     Ok(())
 }
 
-// Takes every byte, and keeps only how many they were.
+/// Takes every byte, and keeps only how many they were.
 #[derive(Drop)]
 struct Counter {
     taken: usize,
@@ -142,13 +141,7 @@ fn a_bundle_is_written_up_to_where_the_output_stops(rt: HostRuntime) -> Result<(
     let whole = b"mcaudit bundle 1\npart a 1\nx\nend\n".as_slice();
     for stop in [Stop::Error, Stop::TakesNone] {
         for before_stop in 0..whole.len() + 1 {
-            let mut output = Narrow {
-                taken: Vec::new(rt.alloc()),
-                piece: 4,
-                before_stop,
-                stop,
-                failures: 0,
-            };
+            let mut output = FaultyOutput::new(rt.alloc(), 4, before_stop, stop);
             let want = if before_stop < whole.len() {
                 Err(BundleFault::Write)
             } else {
@@ -159,7 +152,7 @@ fn a_bundle_is_written_up_to_where_the_output_stops(rt: HostRuntime) -> Result<(
                 want,
                 "after {before_stop}"
             );
-            assert_eq!(rt; output.taken.as_slice(), &whole[..before_stop]);
+            assert_eq!(rt; output.taken(), &whole[..before_stop]);
             assert_eq!(rt; output.failures(), u64::from(want.is_err()));
         }
     }

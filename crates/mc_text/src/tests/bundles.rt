@@ -9,7 +9,7 @@ aaaaaaaaaaaaaaaaaaaaaaaaaaaaaaaaaaaaaaaaaaaaaaaaaaaaaaaaaaaaaaaaaaaaaaaaaaaaaaaa
 const LINE_OF_96: &[u8] = b"mcaudit bundle 1\n\
 aaaaaaaaaaaaaaaaaaaaaaaaaaaaaaaaaaaaaaaaaaaaaaaaaaaaaaaaaaaaaaaaaaaaaaaaaaaaaaaaaaaaaaaaaaaaaaaa";
 
-// A name of 64 bytes and a length of 25 digits make a line of 96 bytes.
+/// A name of 64 bytes and a length of 25 digits make a line of 96 bytes.
 const LENGTH_OF_25_DIGITS: &[u8] = b"mcaudit bundle 1\n\
 part aaaaaaaaaaaaaaaaaaaaaaaaaaaaaaaaaaaaaaaaaaaaaaaaaaaaaaaaaaaaaaaa \
 1000000000000000000000000\n";

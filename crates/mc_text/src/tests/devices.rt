@@ -1,6 +1,6 @@
 //! Devices that give and take little, or fail on the way.
 
-ghost use Rattle.std.specs.Prelude.{◌≡◌, ◌<◌, OnErr, OnOk, Some};
+ghost use Rattle.std.specs.Prelude.{◌≡◌, ◌<◌, OnErr, OnOk};
 ghost use Rattle.std.specs.Io.KnownBytes.{Appends};
 ghost use Rattle.mc_text.specs.Device.{AppendsPart, failed_by_write_all};
 ghost use Rattle.mc_text.specs.ReadFault.{ConsumesUpTo, failed_by_reading};
@@ -9,86 +9,6 @@ use crate::*;
 use std::alloc::Global;
 use std::io::Cursor;
 use std::test::Fail;
-
-// Gives at most `piece` bytes at a time, but always one, and fails once it gave `before_fault` in all.
-#[derive(Drop)]
-struct Trickle<'a> {
-    bytes: &'a [u8],
-    piece: usize,
-    before_fault: usize,
-    failures: u64,
-}
-
-impl<'a> Input for Trickle<'a> {
-    ghost told = { λ s. Some s.bytes.now };
-
-    ghost failed = { λ s. s.failures };
-
-    fn read(&mut self, buffer: &mut [u8]) -> Result<usize, DeviceFault> {
-        if self.before_fault == 0 {
-            self.failures += 1;
-            return Err(DeviceFault);
-        }
-        let count = buffer
-            .len()
-            .min(self.bytes.len())
-            .min(self.piece.max(1))
-            .min(self.before_fault);
-        let (front, rest) = self.bytes.split_at(count);
-        buffer[..count].copy_from_slice(front);
-        self.bytes = rest;
-        self.before_fault -= count;
-        Ok(count)
-    }
-
-    fn failures(&self) -> u64 {
-        self.failures
-    }
-}
-
-// How an output that takes no more says so.
-#[derive(Clone, Copy, PartialEq, Eq)]
-pub(super) enum Stop {
-    Error,
-    TakesNone,
-}
-
-// Takes at most `piece` bytes at a time, and stops once it took `before_stop` in all.
-#[derive(Drop)]
-pub(super) struct Narrow {
-    pub(super) taken: Vec<u8>,
-    pub(super) piece: usize,
-    pub(super) before_stop: usize,
-    pub(super) stop: Stop,
-    pub(super) failures: u64,
-}
-
-impl Output for Narrow {
-    ghost took = { λ s. Some s.taken.items };
-
-    ghost failed = { λ s. s.failures };
-
-    fn write(&mut self, text: &[u8]) -> Result<usize, DeviceFault> {
-        let count = text.len().min(self.piece).min(self.before_stop);
-        if count == 0 && !text.is_empty() {
-            self.failures += 1;
-            return match self.stop {
-                Stop::Error => Err(DeviceFault),
-                Stop::TakesNone => Ok(0),
-            };
-        }
-        if self.taken.extend_from_slice(&text[..count]).is_err() {
-            self.failures += 1;
-            return Err(DeviceFault);
-        }
-        self.before_stop -= count;
-        Ok(count)
-    }
-
-    fn failures(&self) -> u64 {
-        self.failures
-    }
-}
 
 const TEXT: &[u8] = b"wanted\n";
 
@@ -100,12 +20,7 @@ fn reads_an_input_to_its_end_or_the_limit(rt: HostRuntime) -> Result<(), Fail> {
         (100, 6, b"wanted".as_slice()),
         (2, 0, b"".as_slice()),
     ] {
-        let mut input = Trickle {
-            bytes: TEXT,
-            piece,
-            before_fault: 100,
-            failures: 0,
-        };
+        let mut input = FaultyInput::new(TEXT, piece, 100);
         let bytes = read_to_limit(rt.alloc(), &mut input, limit)?;
         assert_eq!(rt; bytes.as_slice(), want, "{piece} at a time, up to {limit}");
         assert_eq!(rt; input.failures(), 0);
@@ -116,12 +31,7 @@ fn reads_an_input_to_its_end_or_the_limit(rt: HostRuntime) -> Result<(), Fail> {
 #[test]
 fn a_read_that_fails_ends_it(rt: HostRuntime) {
     for before_fault in 0..TEXT.len() + 1 {
-        let mut input = Trickle {
-            bytes: TEXT,
-            piece: 2,
-            before_fault,
-            failures: 0,
-        };
+        let mut input = FaultyInput::new(TEXT, 2, before_fault);
         let fault = read_to_limit(rt.alloc(), &mut input, 100).err();
         assert_eq!(rt; fault, Some(ReadFault::Read), "after {before_fault}");
         assert_eq!(rt; input.failures(), 1);
@@ -132,16 +42,10 @@ fn a_read_that_fails_ends_it(rt: HostRuntime) {
 fn writes_a_text_up_to_where_the_output_stops(rt: HostRuntime) {
     for stop in [Stop::Error, Stop::TakesNone] {
         for before_stop in 0..TEXT.len() + 1 {
-            let mut output = Narrow {
-                taken: Vec::new(rt.alloc()),
-                piece: 2,
-                before_stop,
-                stop,
-                failures: 0,
-            };
+            let mut output = FaultyOutput::new(rt.alloc(), 2, before_stop, stop);
             let written = write_all(&mut output, TEXT);
             assert_eq!(rt; written.is_ok(), before_stop == TEXT.len());
-            assert_eq!(rt; output.taken.as_slice(), &TEXT[..before_stop]);
+            assert_eq!(rt; output.taken(), &TEXT[..before_stop]);
             assert_eq!(rt; output.failures(), u64::from(written.is_err()));
         }
     }
@@ -166,8 +70,8 @@ fn goes_through_memory(rt: HostRuntime) -> Result<(), Fail> {
     Ok(())
 }
 
-// Reads up to four bytes through a reference to the input. Its clauses show that the lender knows its
-// device afterwards.
+/// Reads up to four bytes through a reference to the input. Its clauses show that the lender knows its
+/// device afterwards.
 fn read_lent<R: Input>(alloc: Global, input: &mut R) -> Result<Vec<u8>, ReadFault>
     requires { R.failed input.old < u64.MAX }
     ensures same { R.names input.new ≡ R.names input.old }
@@ -178,7 +82,7 @@ fn read_lent<R: Input>(alloc: Global, input: &mut R) -> Result<Vec<u8>, ReadFaul
     read_to_limit(alloc, &mut lent, 4)
 }
 
-// Writes the text through a reference to the output.
+/// Writes the text through a reference to the output.
 fn write_lent<W: Output>(output: &mut W, text: &[u8]) -> Result<(), DeviceFault>
     requires { W.failed output.old < u64.MAX }
     ensures same { W.names output.new ≡ W.names output.old }
@@ -199,16 +103,10 @@ fn goes_through_lent_devices(rt: HostRuntime) -> Result<(), Fail> {
     assert_eq!(rt; rest.as_slice(), b"ed\n".as_slice());
     assert_eq!(rt; Input::failures(&&mut input), 0);
 
-    let mut output = Narrow {
-        taken: Vec::new(rt.alloc()),
-        piece: 3,
-        before_stop: 5,
-        stop: Stop::Error,
-        failures: 0,
-    };
+    let mut output = FaultyOutput::new(rt.alloc(), 3, 5, Stop::Error);
     assert!(rt; write_lent(&mut output, &front).is_ok());
     assert_eq!(rt; write_lent(&mut output, &rest), Err(DeviceFault));
-    assert_eq!(rt; output.taken.as_slice(), b"wante".as_slice());
+    assert_eq!(rt; output.taken(), b"wante".as_slice());
     assert_eq!(rt; Output::failures(&&mut output), 1);
     Ok(())
 }

@@ -4,7 +4,7 @@ use crate::*;
 use std::alloc::Global;
 use std::test::Fail;
 
-// The files of examples/network and a certificate.
+/// The files of examples/network and a certificate.
 const NETWORK: &[u8] = b"mcaudit bundle 1\n\
 part topology 385\n\
 version = 1\n\
@@ -74,7 +74,7 @@ fn network_has_nine_parts(rt: HostRuntime) -> Result<(), Fail> {
     Ok(())
 }
 
-// At how many of its places the bundle can be cut so that the answer is this fault.
+/// At how many of its places the bundle can be cut so that the answer is this fault.
 fn count_of_cuts(alloc: Global, fault: BundleFault) -> usize {
     let mut count = 0usize;
     for length in 0..NETWORK.len() {

@@ -4,4 +4,5 @@ use Rattle.mc_text.proofs.BundleLaws.{bundle_again}
 use Rattle.mc_text.proofs.bundle_laws.written_is_read.Goals as goal
 
 pub returns : goal.returns
-returns c = λ parts names limits. bundle_again (bundle_spelling parts) parts (record { names = names; limits = limits; spelled = refl })
+returns c = λ parts names limits. bundle_again (bundle_spelling parts) parts
+    (record { names = names; limits = limits; spelled = refl })

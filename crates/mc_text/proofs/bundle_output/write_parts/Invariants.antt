@@ -1,6 +1,5 @@
 use Rattle.std.proofs.Common.{◌≡◌, take}
 use Rattle.std.specs.Io.KnownBytes.{Appends}
-use Rattle.mc_text.specs.PartView.{part_texts}
 use Rattle.mc_text.proofs.BundleLimits.{front_of}
 use Rattle.mc_text.proofs.bundle_output.write_parts.Given as goal
 
@@ -8,5 +7,6 @@ abbrev pub invariant-loop-part : goal.invariant-loop-part
 invariant-loop-part g l = record {
   same : g.W.Output.names l.output ≡ g.W.Output.names l.fn.output;
   failures : g.W.Output.failed l.output ≡ g.W.Output.failed l.fn.output;
-  bytes : Appends (g.W.Output.took l.fn.output) (g.W.Output.took l.output) (front_of (part_texts (take l.part-index l.parts)));
+  bytes : Appends (g.W.Output.took l.fn.output) (g.W.Output.took l.output)
+      (front_of (take l.part-index l.parts));
 }

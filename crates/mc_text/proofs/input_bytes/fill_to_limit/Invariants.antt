@@ -7,7 +7,8 @@ invariant-reading g l = record {
   same : g.R.Input.names l.input ≡ g.R.Input.names l.fn.input;
   failures : g.R.Input.failed l.input ≡ g.R.Input.failed l.fn.input;
   within : vec_len l.bytes ≤ l.limit;
-  bytes : ReadsMore (g.R.Input.told l.fn.input) (g.R.Input.told l.input) l.fn.bytes.items l.bytes.items;
+  bytes : ReadsMore (g.R.Input.told l.fn.input) (g.R.Input.told l.input) l.fn.bytes.items
+      l.bytes.items;
 }
 
 abbrev pub decreases-reading : goal.decreases-reading

@@ -1,7 +1,8 @@
-use Rattle.std.proofs.Common.{sym}
-use Rattle.mc_text.proofs.ResultLemmas.{at_err, digits_are_text}
+use Rattle.mc_text.proofs.NumberReading.{number_up_to-is}
 use Rattle.mc_text.proofs.number.decimal.Goals as goal
 
-pub returns-in_err-ok-clause-only : goal.returns-in_err-ok-clause-only
-returns-in_err-ok-clause-only c = λ n is_decimal below.
-    absurd (at_err _ _ _ c.from_utf8.result (sym c.in_err-ok.ensures.value) c.from_utf8.ensures.cases (digits_are_text c.args.word.now is_decimal.0.1))
+pub returns-clause-value : goal.returns-clause-value
+returns-clause-value c =
+    let read = c.number_written.ensures in
+    number_up_to-is c.args.max c.args.word.now c.number_written.result read.found read.bound
+    read.only

@@ -10,6 +10,8 @@ loop-taken-preserved g c =
     record {
       same = c.in-Ok.ensures.same ∙ c.loop-taken.invariant.same;
       failures = c.in-Ok.ensures.failures ∙ not_failed _ _ _ some ∙ c.loop-taken.invariant.failures;
-      within = let bound = rw rest at c.in-Ok.ensures.bound in omega (arith, bound, length-drop c.loop-taken.taken c.args.text.now);
-      bytes = let bytes = rw rest at c.in-Ok.ensures.bytes in takes_on _ _ _ _ _ _ c.loop-taken.invariant.bytes bytes;
+      within = let bound = rw rest at c.in-Ok.ensures.bound in
+          omega (arith, bound, length-drop c.loop-taken.taken c.args.text.now);
+      bytes = let bytes = rw rest at c.in-Ok.ensures.bytes in
+          takes_on _ _ _ _ _ _ c.loop-taken.invariant.bytes bytes;
     }

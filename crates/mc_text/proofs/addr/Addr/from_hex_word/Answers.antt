@@ -1,8 +1,8 @@
-use Rattle.mc_text.specs.AddressWord.{printed_octets}
-use Rattle.mc_text.proofs.AddrLemmas.{length-printed_octets}
+use Rattle.mc_text.proofs.AddressReading.{address_of_word-is}
 use Rattle.mc_text.proofs.addr.Addr.from_hex_word.Goals as goal
 
-pub returns-in_err-bytes-clause-only : goal.returns-in_err-bytes-clause-only
-returns-in_err-bytes-clause-only c = λ a fits word.
-    let none = c.in_err-bytes.ensures.only (printed_octets c.args.order a) (length-printed_octets c.args.order a) word in
-    absurd cc
+pub returns-clause-value : goal.returns-clause-value
+returns-clause-value c =
+    let read = c.address_shown.ensures in
+    address_of_word-is c.args.order c.args.word.now c.address_shown.result read.found read.in_range
+    read.only

@@ -9,4 +9,5 @@ pub returns-clause-writes : goal.returns-clause-writes
 unfolding IsIpv4OfBits
 returns-clause-writes g c = λ plain ok.
     let same = ap ipv4_text (c.from_bits-address.ensures ∙ ap octets_of c.self.view_is) in
-    subst (λ (text : List ℕ). HasWritten g.W.Write.write_str_gives c.args.f.now text c.write.new.self) same (c.write.ensures.writes plain ok)
+    subst (λ (text : List ℕ). HasWritten g.W.Write.write_str_gives c.args.f.now text
+    c.write.new.self) same (c.write.ensures.writes plain ok)

@@ -7,15 +7,20 @@ use Rattle.mc_text.proofs.words.WordsIterator.next.Goals.{After-split_at}
 
 pub returns-in_err-from_word-clause-steps : goal.returns-in_err-from_word-clause-steps
 returns-in_err-from_word-clause-steps c =
-    let none = sym c.self.view_is ∙ words_of-spaces c.self.inside.rest.now (sym (c.in_err-from_word.ensures)) in
+    let none = sym c.self.view_is
+    ∙ words_of-spaces c.self.inside.rest.now (sym (c.in_err-from_word.ensures)) in
     rw c.from_residual.ensures (none, none)
 
-first_word : (c : After-split_at) → c.args.self.now ≡ c.split_at.result.0.now ∷ words_of c.split_at.result.1.now
+first_word : (c : After-split_at)
+    → c.args.self.now ≡ c.split_at.result.0.now ∷ words_of c.split_at.result.1.now
 first_word c =
     let line = c.self.inside.rest.now in
     let from = between_to_end line c.in_ok-from_word.field-0 (length line) (omega arith) in
     rw (c.split_at.ensures.front, c.split_at.ensures.back)
-    (sym c.self.view_is ∙ words_of-word line _ c.in_ok-from_word.field-0 c.unwrap_or-end.result (sym (c.in_ok-from_word.ensures)) from (rw (← c.first_place_of.ensures) c.unwrap_or-end.ensures))
+    (sym c.self.view_is
+    ∙ words_of-word line _ c.in_ok-from_word.field-0 c.unwrap_or-end.result
+    (sym (c.in_ok-from_word.ensures)) from
+    (rw (← c.first_place_of.ensures) c.unwrap_or-end.ensures))
 
 pub returns-clause-steps : goal.returns-clause-steps
 returns-clause-steps c = first_word (goal.at.returns-clause-steps c).After-split_at

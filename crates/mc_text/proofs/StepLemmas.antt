@@ -1,0 +1,76 @@
+-- What steps that did not fail show, and what was read before the rest is.
+use Rattle.std.proofs.Common.{◌≡◌, Bool, true, false, cond, List, [], ◌++◌, Option, Some, None}
+use Rattle.std.proofs.Common.{Result, Ok, Err, refl, sym, ap, append_assoc}
+use Rattle.std.specs.Prelude.{IfSome}
+use Rattle.std.specs.Option.{ok_or}
+use Rattle.mc_text.specs.Steps.{◌>>=◌}
+
+module _ {A E : Type 0} where
+  -- a value that was answered is the one answered
+  pub ok_is : (x y : A) → (let r : Result A E = Ok x in r) ≡ Ok y → x ≡ y
+  ok_is x y e = cc
+
+  -- the value of a first step, where the second gave one too
+  pub bind_ok : {B : Type 0} (r : Result A E) (f : A → Result B E) (y : B) → (r >>= f) ≡ Ok y
+      → (x : A) × (r ≡ Ok x) × (f x ≡ Ok y)
+  bind_ok (Ok x) f y e = (x, refl, e)
+  bind_ok (Err d) f y e = absurd cc
+
+  -- a test that refuses let pass
+  pub refusal_ok : (b : Bool) (d : E) (r : Result A E) (y : A) → cond b (Err d) r ≡ Ok y
+      → (b ≡ false) × (r ≡ Ok y)
+  refusal_ok true d r y e = absurd cc
+  refusal_ok false d r y e = (refl, e)
+
+  -- a test that lets pass was met
+  pub test_ok : (b : Bool) (d : E) (r : Result A E) (y : A) → cond b r (Err d) ≡ Ok y
+      → (b ≡ true) × (r ≡ Ok y)
+  test_ok true d r y e = (refl, e)
+  test_ok false d r y e = absurd cc
+
+  -- a value under a test that was met
+  pub if_ok : (b : Bool) (d : E) (x y : A) → cond b (Ok x) (Err d) ≡ Ok y → (b ≡ true) × (x ≡ y)
+  if_ok true d x y e = (refl, cc)
+  if_ok false d x y e = absurd cc
+
+  -- a value that was there
+  pub ok_or_ok : (o : Option A) (d : E) (x : A) → ok_or o d ≡ Ok x → o ≡ Some x
+  ok_or_ok None d x e = absurd cc
+  ok_or_ok (Some y) d x e = cc
+
+  -- what was read before, and what is still read
+  abbrev pub with_front : List A → Result (List A) E → Result (List A) E
+  with_front front read = read >>= λ rest. Ok (front ++ rest)
+
+  -- nothing was read before
+  pub with_front-none : (read : Result (List A) E) → with_front [] read ≡ read
+  with_front-none (Ok rest) = refl
+  with_front-none (Err fault) = refl
+
+  -- what was read before, in two parts
+  pub with_front-more : (front more : List A) (read : Result (List A) E)
+      → with_front front (with_front more read) ≡ with_front (front ++ more) read
+  with_front-more front more (Ok rest) = ap Ok (sym (append_assoc front more rest))
+  with_front-more front more (Err fault) = refl
+
+module _ {A : Type 0} where
+  -- a test that chose a value
+  pub some_chosen : (b : Bool) (x y : A) → cond b (Some x) None ≡ Some y → (b ≡ true) × (x ≡ y)
+  some_chosen true x y e = (refl, cc)
+  some_chosen false x y e = absurd cc
+
+  -- a test that found nothing
+  pub none_chosen : (b : Bool) (x : A) → cond b (Some x) None ≡ None → b ≡ false
+  none_chosen true x e = absurd cc
+  none_chosen false x e = refl
+
+  -- an answer for which P and Q hold, and which comes wherever they do, is the function's value,
+  -- where
+  -- that is the one value for which they hold
+  pub one_answer : (P Q : A → Type 0) (answer value : Option A) → IfSome answer P → IfSome answer Q
+      → ((x : A) → P x → Q x → answer ≡ Some x) → ((x : A) → value ≡ Some x → P x × Q x)
+      → ((x : A) → P x → Q x → value ≡ Some x) → answer ≡ value
+  one_answer P Q (Some x) value p q only found again = sym (again x p q)
+  one_answer P Q None None p q only found again = refl
+  one_answer P Q None (Some x) p q only found again =
+      let holds = found x refl in only x holds.0 holds.1

@@ -1,0 +1,205 @@
+-- In a travel's last flight the walk back from each copy ends at the source's copy.
+use Rattle.std.proofs.Common.{◌≡◌, ℕ, zero, suc, ◌+◌, ◌-◌, ◌<◌, ◌≤◌, inl, inr, Bool, true, false}
+use Rattle.std.proofs.Common.{cond, ◌==◌, ◌||◌, List, [], ◌∷◌, ◌++◌, length, Option, Some, None}
+use Rattle.std.proofs.Common.{refl, ap, sym, ◌∙◌, subst, arith, eqb-true, eq-eqb, ◌↔◌, IsTrue}
+use Rattle.std.proofs.lemmas.Bool.{or_cases, or_left, or_right}
+use Rattle.mc_theory.specs.Lists.{In, Distinct}
+use Rattle.mc_theory.specs.Nets.{Net, Interface}
+use Rattle.mc_theory.specs.Flights.{Copy, Flight, start, step, run}
+use Rattle.mc_theory.specs.Certificates.{lans, IsClean}
+use Rattle.mc_theory.specs.Findings.{Finding, copy_on, from_lan, taken_from, IsWalkBack}
+use Rattle.mc_theory.specs.Findings.{WalksEnd, sender_on, or_then, meets, rest, IsTravel}
+use Rattle.mc_theory.specs.Findings.{handles}
+use Rattle.mc_theory.specs.Origins.{IsSentOn}
+use Rattle.mc_theory.proofs.InLists.{in-append_cases}
+use Rattle.mc_theory.proofs.Origins.{AllHeard, StepGrows, grows-step, heard-start}
+use Rattle.mc_theory.proofs.Complete.{copy-found}
+use Rattle.mc_theory.proofs.Counts.{total-within, total-ones}
+use Rattle.mc_theory.proofs.Travels.{finding-none}
+
+-- the copy's base is its LAN's first copy
+abbrev pub ComesOfFirst : Net → List Copy → Copy → Type 0
+ComesOfFirst n cs c = (i : Interface) → c.sender ≡ Some i →
+    (b : Copy) × (copy_on cs b.lan ≡ Some b) × IsSentOn n b c i
+
+-- each copy of a flight has such a base, and no more than TTL t
+pub record IsRooted (n : Net) (t : ℕ) (cs : List Copy) : Type 0 where
+  pub base : (c : Copy) → In c cs → ComesOfFirst n cs c
+  pub low : (c : Copy) → In c cs → c.ttl ≤ t
+
+-- ---- the first copy of a LAN stays the first
+
+first-stays_step : (c : Copy) (cs ds : List Copy) (l : ℕ) (b : Copy) (test : Bool) →
+    cond test (Some c) (copy_on cs l) ≡ Some b → (copy_on cs l ≡ Some b →
+    copy_on (cs ++ ds) l ≡ Some b) → cond test (Some c) (copy_on (cs ++ ds) l) ≡ Some b
+first-stays_step c cs ds l b true e ih = e
+first-stays_step c cs ds l b false e ih = ih e
+
+first-stays : (cs ds : List Copy) (l : ℕ) (b : Copy) → copy_on cs l ≡ Some b →
+    copy_on (cs ++ ds) l ≡ Some b
+first-stays [] ds l b e = absurd cc
+first-stays (c ∷ cs) ds l b e = first-stays_step c cs ds l b (c.lan == l) e (first-stays cs ds l b)
+
+first-in_step : (c : Copy) (cs : List Copy) (l : ℕ) (b : Copy) (test : Bool) →
+    cond test (Some c) (copy_on cs l) ≡ Some b → (copy_on cs l ≡ Some b → In b cs) → In b (c ∷ cs)
+first-in_step c cs l b true e ih = inl cc
+first-in_step c cs l b false e ih = inr (ih e)
+
+first-in : (cs : List Copy) (l : ℕ) (b : Copy) → copy_on cs l ≡ Some b → In b cs
+first-in [] l b e = absurd cc
+first-in (c ∷ cs) l b e = first-in_step c cs l b (c.lan == l) e (first-in cs l b)
+
+-- ---- a travel's flights are rooted
+
+rooted-step : (n : Net) (t : ℕ) (f g : Flight) → IsClean f → StepGrows n f g →
+    IsRooted n t f.carried → IsRooted n t g.carried
+rooted-step n t f g clean (inr e) r = subst (IsRooted n t) (sym e) r
+rooted-step n t f g clean (inl s) r = subst (IsRooted n t) (sym s.2.1) (record {
+  base = λ c h i q. elim (in-append_cases c f.carried s.2.0 h) [
+    | inl k ↦ (let b = r.base c k i q in (b.0, first-stays f.carried s.2.0 b.0.lan b.0 b.1, b.2))
+    | inr k ↦ (let z = s.2.2 c k in
+        let both : ◌≡◌ {A = Option Interface} (Some z.0) (Some i) = sym z.1 ∙ q in
+        let same : z.0 ≡ i = cc in (
+          s.0,
+          first-stays f.carried s.2.0 s.0.lan s.0 (copy-found s.0 f.carried clean.once s.1),
+          subst (IsSentOn n s.0 c) same z.2,
+        ))
+  ];
+  low = λ c h. elim (in-append_cases c f.carried s.2.0 h) [
+    | inl k ↦ r.low c k
+    | inr k ↦ (let z = s.2.2 c k in let ttl = z.2.ttl in let low =
+        r.low s.0 s.1 in omega (arith, ttl, low))
+  ];
+})
+
+rooted : (n : Net) (count t : ℕ) (numbers : List ℕ) (last : Bool) (is : List ℕ) (f : Flight)
+    (x : Finding) → AllHeard n f → IsRooted n t f.carried → IsTravel n count numbers last is f x →
+    IsRooted n t (run n (handles is) f).carried
+rooted n count t numbers last [] f x heard r travel = r
+rooted n count t numbers last (i ∷ is) f x heard r travel =
+    let g = grows-step n i f heard in
+    rooted n count t (rest numbers) last is (step n i f) x g.1
+    (rooted-step n t f (step n i f) (finding-none n count f travel.0).0 g.0 r) travel.2
+
+rooted-start : (n : Net) (t : ℕ) → IsRooted n t (start n t).carried
+rooted-start n t = record {
+  base = λ c h i q. elim h [
+    | inl e ↦ absurd (let z : ◌≡◌ {A = Option Interface} None (Some i) =
+        ap (λ (x : Copy). x.sender) e ∙ q in cc)
+    | inr z ↦ absurd z
+  ];
+  low = λ c h. elim h [ inl e ↦ omega (arith, ap (λ (x : Copy). x.ttl) e) | inr z ↦ absurd z ];
+}
+
+-- ---- in rooted copies walks end
+
+-- The walk back from c: its copies, all of the carried ones, each once and with a greater TTL.
+pub record WalkOf (n : Net) (cs : List Copy) (c : Copy) : Type 0 where
+  pub walk : List Copy
+  pub back : IsWalkBack n cs c walk
+  pub within : (d : Copy) → In d walk → In d cs
+  pub above : (d : Copy) → In d walk → c.ttl < d.ttl
+  pub once : Distinct walk
+
+walk-sender : (n : Net) (t k : ℕ) (cs : List Copy) (c : Copy) (o : Option Interface) →
+    c.sender ≡ o → t ≡ c.ttl + k → IsRooted n t cs → In c cs →
+    ((b : Copy) → In b cs → b.ttl ≡ c.ttl + 1 → WalkOf n cs b) → WalkOf n cs c
+walk-sender n t k cs c None q e r c_in up = record {
+  walk = [];
+  back = q;
+  within =
+      λ d h. absurd h;
+  above = λ d h. absurd h;
+  once = tt;
+}
+walk-sender n t k cs c (Some i) q e r c_in up =
+    let b = r.base c c_in i q in
+    let s = b.2 in
+    let b_in = first-in cs b.0.lan b.0 b.1 in
+    let w = up b.0 b_in (sym s.ttl) in
+    let from : from_lan n c.sender ≡ Some b.0.lan = ap (from_lan n) q ∙
+    (ap (taken_from n i.0) s.row ∙ s.from) in
+    record {
+      walk = b.0 ∷ w.walk;
+      back = (from, b.1, w.back);
+      within = λ d h. elim h [ inl z ↦ subst (λ x. In x cs) z b_in | inr k ↦ w.within d k ];
+      above = λ d h. elim h [
+        | inl z ↦ (let ttl = s.ttl in subst (λ (x : Copy). c.ttl < x.ttl) z
+            (omega (arith, ttl)))
+        | inr k ↦ (let a = w.above d k in let ttl =
+            s.ttl in omega (arith, a, ttl))
+      ];
+      once = ((λ h. let a = w.above b.0 h in omega (arith, a)), w.once);
+    }
+
+walk-from : (n : Net) (t k : ℕ) (cs : List Copy) (c : Copy) → t ≡ c.ttl + k → IsRooted n t cs →
+    In c cs → WalkOf n cs c
+walk-from n t zero cs c e r c_in = walk-sender n t zero cs c c.sender refl e r c_in
+    (λ b b_in q. absurd (let low = r.low b b_in in omega (arith, low)))
+walk-from n t (suc k) cs c e r c_in = walk-sender n t (suc k) cs c c.sender refl e r c_in
+    (λ b b_in q. walk-from n t k cs b (omega (arith, q, e)) r b_in)
+
+-- the walk is shorter than the carried copies
+walk-short : (n : Net) (cs : List Copy) (c : Copy) → In c cs → (w : WalkOf n cs c) →
+    length w.walk < length cs
+walk-short n cs c c_in w =
+    let once : Distinct (c ∷ w.walk) = ((λ h. let a = w.above c h in omega (arith, a)), w.once) in
+    let h = total-within (λ _. 1) (c ∷ w.walk) cs once (λ d k. elim k
+    [ inl q ↦ subst (λ x. In x cs) q c_in | inr z ↦ w.within d z ]) in
+    let one = total-ones (c ∷ w.walk) in
+    let all = total-ones cs in
+    omega (arith, h, one, all)
+
+-- ---- and meets tells what they come by
+
+sender-first_step : (c : Copy) (cs : List Copy) (l : ℕ) (b : Copy) (test : Bool) →
+    cond test (Some c) (copy_on cs l) ≡ Some b → (copy_on cs l ≡ Some b → sender_on cs l ≡ b.sender)
+    → cond test c.sender (sender_on cs l) ≡ b.sender
+sender-first_step c cs l b true e ih = let same : c ≡ b = cc in ap (λ (x : Copy). x.sender) same
+sender-first_step c cs l b false e ih = ih e
+
+sender-first : (cs : List Copy) (l : ℕ) (b : Copy) → copy_on cs l ≡ Some b →
+    sender_on cs l ≡ b.sender
+sender-first [] l b e = absurd cc
+sender-first (c ∷ cs) l b e = sender-first_step c cs l b (c.lan == l) e (sender-first cs l b)
+
+meets-next : (n : Net) (cs : List Copy) (l k : ℕ) (x : Option Interface) (d : Copy) →
+    from_lan n x ≡ Some d.lan → copy_on cs d.lan ≡ Some d →
+    meets n cs l (suc k) x ≡ (d.lan == l) || meets n cs l k d.sender
+meets-next n cs l k x d from on = ap (or_then l (λ p. meets n cs l k (sender_on cs p))) from ∙
+    ap (λ y. (d.lan == l) || meets n cs l k y) (sender-first cs d.lan d on)
+
+meets-walk : (n : Net) (cs : List Copy) (l k : ℕ) (c : Copy) (ds : List Copy) →
+    IsWalkBack n cs c ds → length ds < k → IsTrue (meets n cs l k c.sender) ↔ In l (lans ds)
+meets-walk n cs l zero c ds back lt = absurd (omega arith)
+meets-walk n cs l (suc k) c [] back lt =
+    let none : meets n cs l (suc k) c.sender ≡ false = ap (λ x. meets n cs l (suc k) x) back in
+    ((λ h. absurd cc), (λ h. absurd h))
+meets-walk n cs l (suc k) c (d ∷ ds) back lt =
+    let next = meets-next n cs l k c.sender d back.0 back.1 in
+    let ih = meets-walk n cs l k d ds back.2 (omega (arith, lt)) in (
+      (λ h. elim (or_cases (d.lan == l) (meets n cs l k d.sender) (sym next ∙ h))
+          [ inl e ↦ inl (eqb-true d.lan l e) | inr e ↦ inr (ih.0 e) ]),
+      (λ h. elim h [
+        | inl e ↦ next ∙ or_left (d.lan == l) (meets n cs l k d.sender) (eq-eqb d.lan l e)
+        | inr z ↦ next ∙ or_right (d.lan == l) (meets n cs l k d.sender) (ih.1 z)
+      ]),
+    )
+
+pub walks : (n : Net) (count t : ℕ) (numbers : List ℕ) (last : Bool) (is : List ℕ) (x : Finding) →
+    IsTravel n count numbers last is (start n t) x → WalksEnd n
+    (run n (handles is) (start n t)).carried
+walks n count t numbers last is x travel c c_in =
+    let cs = (run n (handles is) (start n t)).carried in
+    let r = rooted n count t numbers last is (start n t) x (heard-start n t) (rooted-start n t)
+    travel in
+    let low = r.low c c_in in
+    let w = walk-from n t (t - c.ttl) cs c (omega (arith, low)) r c_in in
+    let short = walk-short n cs c c_in w in
+    record {
+      walk = w.walk;
+      back = w.back;
+      short = short;
+      met =
+          λ l. meets-walk n cs l (length cs) c w.walk w.back short;
+    }

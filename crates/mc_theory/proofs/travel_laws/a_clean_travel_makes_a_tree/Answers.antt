@@ -1,0 +1,6 @@
+-- By its copies.
+use Rattle.mc_theory.proofs.Travels.{tree_made}
+use Rattle.mc_theory.proofs.travel_laws.a_clean_travel_makes_a_tree.Goals as goal
+
+pub returns : goal.returns
+returns c = tree_made

@@ -1,0 +1,71 @@
+-- What is seen of a handling: which interface took a copy with which TTL, and what came of it.
+use Rattle.std.specs.Prelude.{ℕ, not, ◌&&◌, nat_lt, ◌==◌, if◌then◌else◌, List, [], ◌∷◌, slice_get}
+use Rattle.std.specs.Prelude.{Option, Some, None, is_some}
+use Rattle.mc_theory.specs.Lists.{count_of}
+use Rattle.mc_theory.specs.Nets.{Net, Row}
+use Rattle.mc_theory.specs.Nets.Row.{Exact, Open as open_row, NoRow as no_row}
+use Rattle.mc_theory.specs.Flights.{Waiting, Flight, step}
+
+pub data Outcome : Type 0 where
+  -- the router's row isn't followed
+  Open : Outcome
+  -- it has none
+  NoRow : Outcome
+  -- the copy came in by another vif than the expected one
+  OtherVif : Outcome
+  -- so many copies were put on LANs, and so many left the known domain
+  Sent : (copies strays : ℕ) → Outcome
+
+pub record Event : Type 0 where
+  pub router : ℕ
+  pub vif : ℕ
+  pub ttl : ℕ
+  pub outcome : Outcome
+
+-- how many pairs send a copy that came with TTL t, onto a LAN
+abbrev pub sent_onto : Net → ℕ → ℕ → List (ℕ × ℕ) → ℕ
+sent_onto n r t pairs = count_of (λ p. nat_lt p.1 t && is_some (n.placed r p.0)) pairs
+
+-- and how many send it out of the known domain
+abbrev pub sent_astray : Net → ℕ → ℕ → List (ℕ × ℕ) → ℕ
+sent_astray n r t pairs = count_of (λ p. nat_lt p.1 t && not (is_some (n.placed r p.0))) pairs
+
+abbrev pub outcome_by : Net → Waiting → Row → Outcome
+outcome_by n w open_row = Open
+outcome_by n w no_row = NoRow
+outcome_by n w (Exact incoming pairs) =
+    if incoming == w.vif
+    then Sent (sent_onto n w.router w.ttl pairs) (sent_astray n w.router w.ttl pairs)
+    else OtherVif
+
+-- what is seen of the handling of a waiting copy
+abbrev pub event_of : Net → Waiting → Event
+event_of n w = record {
+  router = w.router;
+  vif = w.vif;
+  ttl = w.ttl;
+  outcome = outcome_by n w (n.row w.router);
+}
+
+-- at the head of a list, if there is one
+abbrev pub seen_first : Net → Option Waiting → List Event → List Event
+seen_first n None es = es
+seen_first n (Some w) es = event_of n w ∷ es
+
+-- what is seen of a run without loss, whose picks these are
+abbrev pub events : Net → List ℕ → Flight → List Event
+events n [] f = []
+events n (i ∷ is) f = seen_first n (slice_get f.waiting i) (events n is (step n i f))
+
+-- how many copies were put on LANs, and how many left the known domain
+abbrev pub copies_in : Outcome → ℕ
+copies_in Open = 0
+copies_in NoRow = 0
+copies_in OtherVif = 0
+copies_in (Sent copies strays) = copies
+
+abbrev pub strays_in : Outcome → ℕ
+strays_in Open = 1
+strays_in NoRow = 0
+strays_in OtherVif = 0
+strays_in (Sent copies strays) = strays

@@ -1,0 +1,160 @@
+-- What a flight shows, and a travel: the run that a picker's choices make, up to the first flight
+-- that shows something. All of it is our own choice; a travel loses no copy.
+use Rattle.std.specs.Prelude.{IsTrue, ◌↔◌}
+use Rattle.std.specs.Prelude.{◌≡◌, ℕ, zero, suc, ◌-◌, ◌<◌, ◌%◌, Bool, false, ◌||◌, ◌==◌}
+use Rattle.std.specs.Prelude.{if◌then◌else◌, List, [], ◌∷◌, ◌++◌, length, Option, Some, None}
+use Rattle.std.specs.Prelude.{is_some}
+use Rattle.mc_theory.specs.Lists.{In, below}
+use Rattle.mc_theory.specs.Certificates.{lans}
+use Rattle.mc_theory.specs.Nets.{Net, Row, Interface}
+use Rattle.mc_theory.specs.Nets.Row.{Exact, Open, NoRow}
+use Rattle.mc_theory.specs.Flights.{Copy, Waiting, Flight, Pick, step}
+use Rattle.mc_theory.specs.Flights.Pick.{Handles}
+
+pub data Finding : Type 0 where
+  -- nothing waits, no LAN carried two copies, none left the domain, and each wanting LAN carried
+  -- one
+  Clean : Finding
+  -- a LAN carried a second copy
+  Duplicate : (lan : ℕ) → Finding
+  -- a LAN carried a second copy that came of its own first one
+  Loop : (lan : ℕ) → Finding
+  -- a copy left the known domain, here
+  Stray : (router vif : ℕ) → Finding
+  -- nothing waits, and this wanting LAN carried none
+  Missed : (lan : ℕ) → Finding
+
+-- ---- a second copy
+
+-- a LAN's first copy
+abbrev pub copy_on : List Copy → ℕ → Option Copy
+copy_on [] l = None
+copy_on (c ∷ cs) l = if c.lan == l then Some c else copy_on cs l
+
+-- the first copy that has an earlier one on its LAN
+abbrev pub double : List Copy → List Copy → Option Copy
+double earlier [] = None
+double earlier (c ∷ cs) =
+    if is_some (copy_on earlier c.lan) then Some c else double (earlier ++ c ∷ []) cs
+
+-- ---- the walk back: from a copy to the LAN that its sender took it from, to that LAN's first
+-- copy, and so on to the source's copy
+
+-- the LAN that a router's row takes from
+abbrev pub taken_from : Net → ℕ → Row → Option ℕ
+taken_from n r (Exact incoming pairs) = n.placed r incoming
+taken_from n r Open = None
+taken_from n r NoRow = None
+
+-- the LAN that a sender took its copy from; the source took it from none
+abbrev pub from_lan : Net → Option Interface → Option ℕ
+from_lan n None = None
+from_lan n (Some i) = taken_from n i.0 (n.row i.0)
+
+-- These copies, one after the other, are the walk back from copy c. It ends at the source's copy.
+abbrev pub IsWalkBack : Net → List Copy → Copy → List Copy → Type 0
+IsWalkBack n cs c [] = c.sender ≡ None
+IsWalkBack n cs c (d ∷ ds) =
+    (from_lan n c.sender ≡ Some d.lan) × (copy_on cs d.lan ≡ Some d) × IsWalkBack n cs d ds
+
+-- the sender of a LAN's first copy
+abbrev pub sender_on : List Copy → ℕ → Option Interface
+sender_on [] l = None
+sender_on (c ∷ cs) l = if c.lan == l then c.sender else sender_on cs l
+
+-- what follows a LAN on the walk, if there is one
+abbrev pub or_then : ℕ → (ℕ → Bool) → Option ℕ → Bool
+or_then l next None = false
+or_then l next (Some p) = (p == l) || next p
+
+-- Whether the walk back from a sender's copy, over at most so many LANs, comes by LAN l. The
+-- copy's own LAN doesn't count, unless the walk comes back to it. In the flight of a travel the
+-- walk ends at the source's copy before it has gone over as many LANs as there are carried
+-- copies.
+abbrev pub meets : Net → List Copy → ℕ → ℕ → Option Interface → Bool
+meets n cs l zero x = false
+meets n cs l (suc k) x = or_then l (λ p. meets n cs l k (sender_on cs p)) (from_lan n x)
+
+-- The walk back from a copy ends at the source's copy, over fewer LANs than there are carried
+-- copies. It comes by the LANs that `meets` tells.
+pub record WalkEnds (n : Net) (cs : List Copy) (c : Copy) : Type 0 where
+  pub walk : List Copy
+  pub back : IsWalkBack n cs c walk
+  pub short : length walk < length cs
+  pub met : (l : ℕ) → IsTrue (meets n cs l (length cs) c.sender) ↔ In l (lans walk)
+
+-- This holds of each of these copies.
+abbrev pub WalksEnd : Net → List Copy → Type 0
+WalksEnd n cs = (c : Copy) → In c cs → WalkEnds n cs c
+
+-- ---- a LAN that was missed
+
+-- the first of these LANs that wants the flow and carried no copy
+abbrev pub missed : Net → List Copy → List ℕ → Option ℕ
+missed n cs [] = None
+missed n cs (l ∷ ls) =
+    if n.wants l
+    then (if is_some (copy_on cs l) then missed n cs ls else Some l)
+    else missed n cs ls
+
+abbrev pub missed_finding : Option ℕ → Finding
+missed_finding None = Clean
+missed_finding (Some l) = Missed l
+
+-- ---- findings, the first of these; no finding means that the travel goes on
+
+-- nothing waits: the lowest wanting LAN that carried none, or clean
+abbrev pub end_finding : Net → ℕ → List Copy → List Waiting → Option Finding
+end_finding n count cs [] = Some (missed_finding (missed n cs (below count)))
+end_finding n count cs (w ∷ ws) = None
+
+-- the first stray
+abbrev pub stray_finding : Net → ℕ → List Copy → List Waiting → List Interface → Option Finding
+stray_finding n count cs ws [] = end_finding n count cs ws
+stray_finding n count cs ws (i ∷ is) = Some (Stray i.0 i.1)
+
+-- the first second copy of a LAN
+abbrev pub double_finding : Net → ℕ → Flight → Option Copy → Option Finding
+double_finding n count f None = stray_finding n count f.carried f.waiting f.strays
+double_finding n count f (Some c) =
+    Some (
+    if meets n f.carried c.lan (length f.carried) c.sender
+    then Loop c.lan
+    else Duplicate c.lan
+    )
+
+-- what the flight shows; LANs are numbered below the count
+abbrev pub finding : Net → ℕ → Flight → Option Finding
+finding n count f = double_finding n count f (double [] f.carried)
+
+-- ---- travels
+
+-- What a picker chooses: these numbers one after the other, and then always the last copy or
+-- always the first.
+pub record Choices : Type 0 where
+  pub numbers : List ℕ
+  pub last : Bool
+
+-- the choice among so many waiting copies
+abbrev pub choice : ℕ → List ℕ → Bool → ℕ
+choice waiting [] last = if last then waiting - 1 else 0
+choice waiting (x ∷ xs) last = x % waiting
+
+-- the numbers that are left after a choice
+abbrev pub rest : List ℕ → List ℕ
+rest [] = []
+rest (x ∷ xs) = xs
+
+-- From flight f on these picks are the picker's choices, no flight on the way shows anything, and
+-- the last one shows x.
+abbrev pub IsTravel : Net → ℕ → List ℕ → Bool → List ℕ → Flight → Finding → Type 0
+IsTravel n count numbers last [] f x = finding n count f ≡ Some x
+IsTravel n count numbers last (i ∷ is) f x =
+    (finding n count f ≡ None)
+    × (i ≡ choice (length f.waiting) numbers last)
+    × IsTravel n count (rest numbers) last is (step n i f) x
+
+-- a travel's picks as those of a run
+abbrev pub handles : List ℕ → List Pick
+handles [] = []
+handles (i ∷ is) = Handles i ∷ handles is

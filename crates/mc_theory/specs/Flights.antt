@@ -1,0 +1,147 @@
+-- A packet's copies on their way: which LANs carried one, where one waits for a router, and which
+-- left the known domain. One step is one router interface handling one waiting copy whole, or the
+-- loss of that copy; a run is a list of such steps, in any order.
+use Rattle.std.specs.Prelude.{ℕ, ◌-◌, ◌<◌, ◌≤◌, Bool, false, not, ◌&&◌, nat_lt, ◌==◌, if◌then◌else◌}
+use Rattle.std.specs.Prelude.{List, [], ◌∷◌, ◌++◌, map, filter, length, remove, slice_get, Option}
+use Rattle.std.specs.Prelude.{Some, None, ⊤}
+use Rattle.mc_theory.specs.Lists.{count_of}
+use Rattle.mc_theory.specs.Nets.{Net, Row, Interface, interfaces}
+use Rattle.mc_theory.specs.Nets.Row.{Exact, Open, NoRow}
+
+-- ---- flights
+
+-- a copy that a LAN carried: with which TTL, and by which interface it was sent; none where the
+-- source itself sent it
+pub record Copy : Type 0 where
+  pub lan : ℕ
+  pub ttl : ℕ
+  pub sender : Option Interface
+
+-- a copy that waits at a router's vif
+pub record Waiting : Type 0 where
+  pub router : ℕ
+  pub vif : ℕ
+  pub ttl : ℕ
+
+-- The three lists grow at their ends. A stray is where a copy left the known domain: the
+-- interface that it left by, or at which it met a row that isn't followed.
+pub record Flight : Type 0 where
+  pub carried : List Copy
+  pub waiting : List Waiting
+  pub strays : List Interface
+
+-- how many copies a LAN carried
+abbrev pub copies_on : List Copy → ℕ → ℕ
+copies_on cs l = count_of (λ c. c.lan == l) cs
+
+-- ---- a LAN carries a copy
+
+abbrev pub is_sender : Option Interface → Interface → Bool
+is_sender None i = false
+is_sender (Some j) i = (j.0 == i.0) && (j.1 == i.1)
+
+-- the interfaces that hear a copy: those of its LAN, but for the one that sent it
+abbrev pub hearers : Net → Copy → List Interface
+hearers n c = filter (λ i. not (is_sender c.sender i)) (interfaces n c.lan)
+
+abbrev pub waits_at : ℕ → Interface → Waiting
+waits_at t i = record { router = i.0; vif = i.1; ttl = t }
+
+-- The copy is put on its LAN, which carries it, and it then waits at each interface that hears it.
+abbrev pub put : Net → Copy → Flight → Flight
+put n c f = record {
+  carried = f.carried ++ c ∷ [];
+  waiting = f.waiting ++ map (waits_at c.ttl) (hearers n c);
+  strays = f.strays;
+}
+
+abbrev pub stray : Interface → Flight → Flight
+stray i f = record { carried = f.carried; waiting = f.waiting; strays = f.strays ++ i ∷ [] }
+
+-- ---- a router handles a waiting copy
+
+-- A copy with this TTL leaves by an interface, onto the LAN on which that is placed. One that
+-- isn't placed (a tunnel and a register vif never are) leads out of the known domain.
+abbrev pub leave : Net → ℕ → Interface → Option ℕ → Flight → Flight
+leave n t i None f = stray i f
+leave n t i (Some l) f = put n (record { lan = l; ttl = t; sender = Some i }) f
+
+-- What one outgoing pair of router r does with a copy that came with TTL t. It sends one on if t is
+-- greater than the pair's threshold, with one TTL less (net/ipv4/ipmr.c: `ip_mr_forward` tests
+-- `ip_hdr(skb)->ttl > c->_c.mfc_un.res.ttls[ct]`, and `ipmr_queue_xmit` takes one off).
+abbrev pub send : Net → ℕ → ℕ → ℕ × ℕ → Flight → Flight
+send n r t p f = if nat_lt p.1 t then leave n (t - 1) (r, p.0) (n.placed r p.0) f else f
+
+-- all pairs of a row, in the list's order, which in a kernel's entry is by ascending vif; the
+-- kernel goes down, and nothing but the order of events depends on it
+abbrev pub sends : Net → ℕ → ℕ → List (ℕ × ℕ) → Flight → Flight
+sends n r t [] f = f
+sends n r t (p ∷ ps) f = sends n r t ps (send n r t p f)
+
+-- What a router's row does with a copy that waited and was taken away. By an exact row it is
+-- forwarded only if it came in by the expected vif (RFC 7761, section 4.2; `ip_mr_forward`), and
+-- then by every pair, also one of the incoming vif, as the kernel does. A row that isn't followed
+-- makes a stray (own choice). No row: nothing.
+abbrev pub handle_by : Net → Waiting → Row → Flight → Flight
+handle_by n w Open f = stray (w.router, w.vif) f
+handle_by n w NoRow f = f
+handle_by n w (Exact incoming pairs) f =
+    if incoming == w.vif then sends n w.router w.ttl pairs f else f
+
+abbrev pub handle : Net → Option Waiting → Flight → Flight
+handle n None f = f
+handle n (Some w) f = handle_by n w (n.row w.router) f
+
+-- the flight without its i-th waiting copy; the others keep their order
+abbrev pub without : ℕ → Flight → Flight
+without i f = record { carried = f.carried; waiting = remove f.waiting i; strays = f.strays }
+
+-- The i-th waiting copy is taken away and handled.
+abbrev pub step : Net → ℕ → Flight → Flight
+step n i f = handle n (slice_get f.waiting i) (without i f)
+
+-- ---- runs
+
+-- the source's copy of a packet with TTL t
+abbrev pub first_copy : Net → ℕ → Copy
+first_copy n t = record { lan = n.source; ttl = t; sender = None }
+
+-- the flight in which the source's LAN carried the packet, and no router has handled it
+abbrev pub start : Net → ℕ → Flight
+start n t = put n (first_copy n t) (record { carried = []; waiting = []; strays = [] })
+
+-- What happens next: the i-th waiting copy is handled, or it is lost.
+pub data Pick : Type 0 where
+  Handles : (i : ℕ) → Pick
+  Loses : (i : ℕ) → Pick
+
+abbrev pub place_of : Pick → ℕ
+place_of (Handles i) = i
+place_of (Loses i) = i
+
+abbrev pub happens : Net → Pick → Flight → Flight
+happens n (Handles i) f = step n i f
+happens n (Loses i) f = without i f
+
+-- the flight after these picks
+abbrev pub run : Net → List Pick → Flight → Flight
+run n [] f = f
+run n (p ∷ ps) f = run n ps (happens n p f)
+
+-- each pick names a copy that waits when its turn comes
+abbrev pub InRange : Net → List Pick → Flight → Type 0
+InRange n [] f = ⊤
+InRange n (p ∷ ps) f = (place_of p < length f.waiting) × InRange n ps (happens n p f)
+
+-- no pick loses a copy
+abbrev pub IsLossless : List Pick → Type 0
+IsLossless [] = ⊤
+IsLossless (Handles i ∷ ps) = IsLossless ps
+IsLossless (Loses i ∷ ps) = ⊥
+
+-- P holds of every run: for each TTL t of a packet from `least` to 255, and each order ps in
+-- which its copies are handled or lost, P t ps holds of the flight that it ends with. The run is
+-- complete if nothing waits there.
+abbrev pub EveryRun : Net → ℕ → (ℕ → List Pick → Flight → Type 0) → Type 0
+EveryRun n least P = (t : ℕ) (ps : List Pick) →
+    least ≤ t → t ≤ 255 → InRange n ps (start n t) → P t ps (run n ps (start n t))

@@ -1,0 +1,11 @@
+pub mod Lists
+pub mod Nets
+pub mod Flights
+pub mod Events
+pub mod Certificates
+pub mod Headline
+pub mod Reasons
+pub mod Findings
+pub mod Origins
+pub mod Made
+pub mod Shown

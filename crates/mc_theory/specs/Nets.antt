@@ -1,0 +1,71 @@
+-- A domain as the packets of one flow meet it: which vif stands on which LAN, which row each
+-- router has for the flow, and which LANs want it. A flow is a source and a group. Routers and
+-- LANs are numbered from 0.
+use Rattle.std.specs.Prelude.{◌≡◌, ℕ, ◌<◌, Bool, true, false, ◌==◌, List, map, filter, flat_map}
+use Rattle.std.specs.Prelude.{Option, Some, None, is_some}
+use Rattle.mc_theory.specs.Lists.{Distinct, below}
+
+-- An interface of the domain: a router, and one of its vifs (the kernel's number of a multicast
+-- interface).
+abbrev pub Interface : Type 0
+Interface = ℕ × ℕ
+
+-- What a router has for the flow, as the kernel's `ip_mr_input` (net/ipv4/ipmr.c) looks it up by
+-- source and group.
+pub data Row : Type 0 where
+  -- A resolved row for the source and the group: the vif that packets have to come in by, and the
+  -- pairs of an outgoing vif and its threshold.
+  Exact : (incoming : ℕ) → (pairs : List (ℕ × ℕ)) → Row
+  -- No such row, but a resolved one for every source: of the group, (*,G), or of every group,
+  -- (*,*). What it would do isn't followed (own choice: it counts as a way out of the known
+  -- domain, whichever vif the packet came in by).
+  Open : Row
+  -- Neither.
+  NoRow : Row
+
+-- The domain for one flow.
+pub record Net : Type 0 where
+  -- how many routers there are
+  pub routers : ℕ
+  -- the LAN that a router's vif is placed on, if it is
+  pub placed : ℕ → ℕ → Option ℕ
+  -- a router's row for the flow
+  pub row : ℕ → Row
+  -- whether some host of a LAN wants the flow (RFC 3376, section 3.2, over what its hosts reported)
+  pub wants : ℕ → Bool
+  -- the LAN that the source sends on
+  pub source : ℕ
+  -- the least TTL that the source sends with
+  pub ttl : ℕ
+
+abbrev pub is_lan : Option ℕ → ℕ → Bool
+is_lan None l = false
+is_lan (Some q) l = q == l
+
+-- all vifs below a width of all routers, by router and then by vif
+abbrev pub slots : ℕ → ℕ → List Interface
+slots width routers = flat_map (λ r. map (λ v. (r, v)) (below width)) (below routers)
+
+-- The interfaces of a LAN: the vifs that are placed on it, by router and then by vif. A kernel
+-- has vifs 0 to 31 (MAXVIFS in include/uapi/linux/mroute.h).
+unfoldable pub interfaces : Net → ℕ → List Interface
+interfaces n l = filter (λ i. is_lan (n.placed i.0 i.1) l) (slots 32 n.routers)
+
+-- the interfaces of all LANs
+abbrev pub placed_vifs : Net → List Interface
+placed_vifs n = filter (λ i. is_some (n.placed i.0 i.1)) (slots 32 n.routers)
+
+-- What every domain keeps. All that is proved of flights rests on these three facts and, where a
+-- law says so, on `WantsBelow` and on a TTL of 1 to 255.
+pub record IsNet (n : Net) : Type 0 where
+  -- a placed vif belongs to a router of the domain
+  pub router : (r v l : ℕ) → n.placed r v ≡ Some l → r < n.routers
+  -- and is one of 0 to 31
+  pub vif : (r v l : ℕ) → n.placed r v ≡ Some l → v < 32
+  -- a row has one pair at most for each outgoing vif
+  pub vifs : (r v : ℕ) (pairs : List (ℕ × ℕ)) →
+      n.row r ≡ Exact v pairs → Distinct (map (λ p. p.0) pairs)
+
+-- LANs that want the flow are numbered below the count.
+abbrev pub WantsBelow : Net → ℕ → Type 0
+WantsBelow n count = (l : ℕ) → n.wants l ≡ true → l < count

@@ -1,0 +1,165 @@
+-- Why a list of entries is refused: the first reason, in the order in which the conditions are
+-- looked at. The order is our own choice; that no reason is left exactly where the list is
+-- accepted is proved.
+use Rattle.std.specs.Prelude.{ℕ, ◌+◌, max, Bool, true, false, not, ◌&&◌, ◌||◌, nat_lt, ◌==◌}
+use Rattle.std.specs.Prelude.{if◌then◌else◌, List, [], ◌∷◌, ◌++◌, Option, Some, None, is_some}
+use Rattle.mc_theory.specs.Lists.{below}
+use Rattle.mc_theory.specs.Nets.{Net, Row, Interface, is_lan}
+use Rattle.mc_theory.specs.Nets.Row.{Exact, Open, NoRow}
+use Rattle.mc_theory.specs.Flights.{is_sender}
+use Rattle.mc_theory.specs.Certificates.{Entry}
+
+-- Why a list is refused: the first condition that fails, at the first place where it fails.
+pub data Reason : Type 0 where
+  -- one entry: this LAN is named twice
+  TwoEntries : (lan : ℕ) → Reason
+  -- source entry: there is none, or another entry has no forwarder
+  BadSource : Reason
+  -- no wildcard: this vif of a router whose row is open is placed on a named LAN
+  Wildcard : (router vif : ℕ) → Reason
+  -- no stray: this live vif isn't placed
+  Stray : (router vif : ℕ) → Reason
+  -- tree: this live vif sends onto a LAN that isn't named, or whose entry has another forwarder or
+  -- none, as the source's
+  Extra : (router vif lan : ℕ) → Reason
+  -- tree: this LAN's rank isn't one more than that of the LAN that its copies come from
+  WrongRank : (lan : ℕ) → Reason
+  -- tree: its rank is, but its need isn't the greater of that LAN's need and of that LAN's rank
+  -- with the threshold and one more
+  WrongNeed : (lan : ℕ) → Reason
+  -- fed: no live pair of the forwarder sends onto this LAN
+  Unfed : (lan : ℕ) → Reason
+  -- served: this LAN wants the flow and isn't named
+  Missed : (lan : ℕ) → Reason
+  -- served: it is named, with a need above the flow's TTL
+  Low : (lan : ℕ) → Reason
+
+-- ---- words
+
+-- the first, or else the second
+infixr 30 ◌then◌
+abbrev pub ◌then◌ : Option Reason → Option Reason → Option Reason
+(Some x) then y = Some x
+None then y = y
+
+-- the reason, where the test fails
+abbrev pub unless : Bool → Reason → Option Reason
+unless true x = None
+unless false x = Some x
+
+-- the first that f gives, in the list's order
+abbrev pub first_of : {A : Type 0} → (A → Option Reason) → List A → Option Reason
+first_of f [] = None
+first_of f (x ∷ xs) = f x then first_of f xs
+
+abbrev pub all_pass : {A : Type 0} → (A → Bool) → List A → Bool
+all_pass p [] = true
+all_pass p (x ∷ xs) = p x && all_pass p xs
+
+abbrev pub any_pass : {A : Type 0} → (A → Bool) → List A → Bool
+any_pass p [] = false
+any_pass p (x ∷ xs) = p x || any_pass p xs
+
+-- a LAN's first entry
+abbrev pub entry_on : List Entry → ℕ → Option Entry
+entry_on [] l = None
+entry_on (e ∷ es) l = if e.lan == l then Some e else entry_on es l
+
+-- the first entry of the LAN that a vif is placed on
+abbrev pub entry_at : List Entry → Option ℕ → Option Entry
+entry_at es None = None
+entry_at es (Some l) = entry_on es l
+
+-- ---- one entry: the first of these whose LAN an earlier entry names
+
+abbrev pub twice : List Entry → List Entry → Option Reason
+twice earlier [] = None
+twice earlier (e ∷ es) =
+    unless (not (is_some (entry_on earlier e.lan))) (TwoEntries e.lan)
+    then twice (earlier ++ e ∷ []) es
+
+-- ---- source entry
+
+abbrev pub is_source_entry : Option Entry → Bool
+is_source_entry None = false
+is_source_entry (Some e) = (e.rank == 0) && ((e.need == 1) && not (is_some e.forwarder))
+
+abbrev pub has_source : Net → List Entry → Bool
+has_source n es =
+    is_source_entry (entry_on es n.source)
+    && all_pass (λ e. (e.lan == n.source) || is_some e.forwarder) es
+
+-- ---- no wildcard, no stray and tree, of one router
+
+-- the pair of router r, which takes from entry p and sends onto LAN q, with q's entry
+abbrev pub child_reason : Entry → ℕ → ℕ × ℕ → ℕ → Option Entry → Option Reason
+child_reason p r pair q None = Some (Extra r pair.0 q)
+child_reason p r pair q (Some e) =
+    unless (is_sender e.forwarder (r, pair.0)) (Extra r pair.0 q)
+    then unless (e.rank == p.rank + 1) (WrongRank q)
+    then unless (e.need == max p.need (p.rank + pair.1 + 1)) (WrongNeed q)
+
+-- a live pair, by where its vif is placed
+abbrev pub onto_reason : List Entry → Entry → ℕ → ℕ × ℕ → Option ℕ → Option Reason
+onto_reason es p r pair None = Some (Stray r pair.0)
+onto_reason es p r pair (Some q) = child_reason p r pair q (entry_on es q)
+
+-- a pair: only a live one is looked at
+abbrev pub pair_reason : Net → List Entry → Entry → ℕ → ℕ × ℕ → Option Reason
+pair_reason n es p r pair =
+    if nat_lt (p.rank + pair.1) 255
+    then onto_reason es p r pair (n.placed r pair.0)
+    else None
+
+-- a row's pairs, where its incoming vif is placed on a named LAN
+abbrev pub pairs_reason :
+    Net → List Entry → ℕ → List (ℕ × ℕ) → Option Entry → Option Reason
+pairs_reason n es r pairs None = None
+pairs_reason n es r pairs (Some p) = first_of (pair_reason n es p r) pairs
+
+-- a vif of a router whose row is open
+abbrev pub wild_at : Net → List Entry → ℕ → ℕ → Option Reason
+wild_at n es r v = unless (not (is_some (entry_at es (n.placed r v)))) (Wildcard r v)
+
+abbrev pub row_reason : Net → List Entry → ℕ → Row → Option Reason
+row_reason n es r Open = first_of (wild_at n es r) (below 32)
+row_reason n es r NoRow = None
+row_reason n es r (Exact incoming pairs) =
+    pairs_reason n es r pairs (entry_at es (n.placed r incoming))
+
+-- ---- fed, of one entry
+
+-- whether vif v has a live pair of a row that takes from this entry
+abbrev pub feeds_from : ℕ → List (ℕ × ℕ) → Option Entry → Bool
+feeds_from v pairs None = false
+feeds_from v pairs (Some p) =
+    any_pass (λ pair. (pair.0 == v) && nat_lt (p.rank + pair.1) 255) pairs
+
+abbrev pub row_feeds : Net → List Entry → ℕ → ℕ → Row → Bool
+row_feeds n es r v (Exact incoming pairs) =
+    feeds_from v pairs (entry_at es (n.placed r incoming))
+row_feeds n es r v Open = false
+row_feeds n es r v NoRow = false
+
+abbrev pub is_fed : Net → List Entry → ℕ → Option Interface → Bool
+is_fed n es l None = true
+is_fed n es l (Some i) = row_feeds n es i.0 i.1 (n.row i.0) && is_lan (n.placed i.0 i.1) l
+
+-- ---- served, of one LAN
+
+abbrev pub need_reason : ℕ → ℕ → Option Entry → Option Reason
+need_reason ttl l None = Some (Missed l)
+need_reason ttl l (Some e) = unless (not (nat_lt ttl e.need)) (Low l)
+
+abbrev pub lan_reason : Net → List Entry → ℕ → Option Reason
+lan_reason n es l = if n.wants l then need_reason n.ttl l (entry_on es l) else None
+
+-- ---- all conditions: entries, routers and LANs in order, the LANs numbered below the count
+
+abbrev pub first_reason : Net → ℕ → List Entry → Option Reason
+first_reason n count es =
+    twice [] es
+    then unless (has_source n es) BadSource
+    then first_of (λ r. row_reason n es r (n.row r)) (below n.routers)
+    then first_of (λ e. unless (is_fed n es e.lan e.forwarder) (Unfed e.lan)) es
+    then first_of (lan_reason n es) (below count)

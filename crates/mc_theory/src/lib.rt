@@ -1,0 +1,22 @@
+//! What the routers of a domain do with the copies of one flow's packets, what certifies the
+//! flow, and why a certificate covers every order in which routers handle copies.
+//!
+//! The definitions stand in `specs/`, to be read in this order: `Nets`, `Flights`, `Headline`,
+//! `Certificates`, `Reasons`, `Events`, `Findings`, `Shown`, `Origins`, `Made`. Nothing here runs:
+//! each function below is a law about them.
+
+#![tactic(auto)]
+
+mod certificate_laws;
+mod travel_laws;
+
+pub use certificate_laws::{
+    a_flow_has_a_certificate_exactly_if_it_is_right, a_right_flow_is_accepted,
+    an_accepted_flow_is_right, every_complete_run_delivers, every_run_is_safe,
+    no_reason_is_acceptance, order_of_entries_does_not_matter, the_headline_holds,
+};
+pub use travel_laws::{
+    a_clean_travel_makes_a_tree, a_finding_says_what_the_flight_shows, a_finding_shows,
+    a_travel_ends, an_event_tells_what_its_step_did, clean_travels_certify,
+    each_copy_comes_of_an_earlier_one, needs_tell_the_second_travel, the_walk_back_ends,
+};

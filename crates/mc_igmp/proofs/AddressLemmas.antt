@@ -1,5 +1,6 @@
 -- Addresses as bytes and back.
-use Rattle.std.proofs.Common.{◌≡◌, ℕ, zero, suc, ◌+◌, ◌*◌, ◌^◌, ◌<◌, ◌≤◌, List, [], ◌∷◌, ◌++◌, length, get_or, take, drop, refl, ap, ◌∙◌, arith, inl, inr}
+use Rattle.std.proofs.Common.{◌≡◌, ℕ, zero, suc, ◌+◌, ◌*◌, ◌^◌, ◌<◌, ◌≤◌, List, [], ◌∷◌, ◌++◌}
+use Rattle.std.proofs.Common.{length, get_or, take, drop, refl, ap, ◌∙◌, arith, inl, inr}
 use Rattle.std.specs.Int.{w32, from_be_bytes}
 use Rattle.std.specs.List.{flat_map, AllByRecursion}
 use Rattle.std.proofs.lemmas.Bool.{cases_lt}
@@ -26,7 +27,8 @@ pub IsBytes-rest : (b : ℕ) (bytes : List ℕ) → IsBytes (b ∷ bytes) → Is
 IsBytes-rest b bytes h i = h (suc i)
 
 -- the first address is in the first four bytes
-pub addresses_in-first : (s : List ℕ) → 4 ≤ length s → addresses_in s ≡ from_be_bytes w32 (get_or s 0 0 ∷ get_or s 1 0 ∷ get_or s 2 0 ∷ get_or s 3 0 ∷ []) ∷ addresses_in (drop 4 s)
+pub addresses_in-first : (s : List ℕ) → 4 ≤ length s
+    → addresses_in s ≡ from_be_bytes w32 (get_or s 0 0 ∷ get_or s 1 0 ∷ get_or s 2 0 ∷ get_or s 3 0 ∷ []) ∷ addresses_in (drop 4 s)
 unfolding addresses_in
 addresses_in-first [] h = absurd (omega arith)
 addresses_in-first (a ∷ []) h = absurd (omega arith)
@@ -76,7 +78,8 @@ addresses_in-whole (suc n) (a ∷ b ∷ c ∷ d ∷ rest) fits len =
     }
 
 -- addresses that are written are read again
-pub addresses_in-written : (xs : List ℕ) → AllByRecursion IsAddr xs → addresses_in (flat_map octets_of xs) ≡ xs
+pub addresses_in-written : (xs : List ℕ) → AllByRecursion IsAddr xs
+    → addresses_in (flat_map octets_of xs) ≡ xs
 unfolding addresses_in
 addresses_in-written [] h = refl
 addresses_in-written (x ∷ xs) h =

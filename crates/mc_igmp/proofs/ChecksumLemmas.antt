@@ -1,11 +1,13 @@
 -- The sum of a message's words, a word at a time, and what is said of the sum so far.
-use Rattle.std.proofs.Common.{◌≡◌, ℕ, ◌+◌, ◌*◌, ◌%◌, ◌≤◌, List, [], ◌∷◌, length, get_or, take, drop, refl, ap, ◌∙◌, arith}
+use Rattle.std.proofs.Common.{◌≡◌, ℕ, ◌+◌, ◌*◌, ◌%◌, ◌≤◌, List, [], ◌∷◌, length, get_or, take, drop}
+use Rattle.std.proofs.Common.{refl, ap, ◌∙◌, arith}
 use Rattle.std.specs.Prelude.{◌↔◌}
 use Rattle.byteorder.specs.Endian.{big_number}
 use Rattle.mc_igmp.specs.Checksum.{word_sum}
 
 -- the first word, and the others
-pub word_sum-first : (s : List ℕ) → 2 ≤ length s → word_sum s ≡ 256 * get_or s 0 0 + get_or s 1 0 + word_sum (drop 2 s)
+pub word_sum-first : (s : List ℕ) → 2 ≤ length s
+    → word_sum s ≡ 256 * get_or s 0 0 + get_or s 1 0 + word_sum (drop 2 s)
 unfolding word_sum
 word_sum-first [] h = absurd (omega arith)
 word_sum-first (a ∷ []) h = absurd (omega arith)
@@ -25,7 +27,8 @@ word_sum-none (a ∷ []) h = absurd (omega arith)
 word_sum-none (a ∷ b ∷ rest) h = absurd (omega arith)
 
 -- the first word, as the code takes it
-pub word_front : (rest front : List ℕ) (word : ℕ) → 2 ≤ length rest → front ≡ take 2 rest → word ≡ big_number 2 front → word ≡ 256 * get_or rest 0 0 + get_or rest 1 0
+pub word_front : (rest front : List ℕ) (word : ℕ) → 2 ≤ length rest → front ≡ take 2 rest
+    → word ≡ big_number 2 front → word ≡ 256 * get_or rest 0 0 + get_or rest 1 0
 word_front [] front word h front_is word_is = absurd (omega arith)
 word_front (a ∷ []) front word h front_is word_is = absurd (omega arith)
 word_front (a ∷ b ∷ rest) front word h front_is word_is = let e = word_is ∙ ap (big_number 2) front_is in omega (arith, e)
@@ -37,7 +40,9 @@ pub record Summed (sum : ℕ) (rest : List ℕ) (total : ℕ) : Type 0 where
   pub zero_before : sum + word_sum rest ≡ 0 → total ≡ 0
   pub zero_after : total ≡ 0 → sum + word_sum rest ≡ 0
 
-pub Summed-more : (sum sum' word total : ℕ) (rest rest' : List ℕ) → Summed sum rest total → word_sum rest ≡ word + word_sum rest' → sum' ≤ 65535 → sum' % 65535 ≡ (sum + word) % 65535 → (sum' ≡ 0 → sum + word ≡ 0) → (sum + word ≡ 0 → sum' ≡ 0) → Summed sum' rest' total
+pub Summed-more : (sum sum' word total : ℕ) (rest rest' : List ℕ) → Summed sum rest total
+    → word_sum rest ≡ word + word_sum rest' → sum' ≤ 65535 → sum' % 65535 ≡ (sum + word) % 65535
+    → (sum' ≡ 0 → sum + word ≡ 0) → (sum + word ≡ 0 → sum' ≡ 0) → Summed sum' rest' total
 Summed-more sum sum' word total rest rest' so_far first bound congruent before after =
     let c = so_far.congruent in
     let zb = so_far.zero_before in
@@ -50,7 +55,8 @@ Summed-more sum sum' word total rest rest' so_far first bound congruent before a
     }
 
 -- no word is left
-pub Summed-all : (sum total : ℕ) (rest : List ℕ) → Summed sum rest total → word_sum rest ≡ 0 → (sum % 65535 ≡ total % 65535) × ((sum ≡ 0) ↔ (total ≡ 0))
+pub Summed-all : (sum total : ℕ) (rest : List ℕ) → Summed sum rest total → word_sum rest ≡ 0
+    → (sum % 65535 ≡ total % 65535) × ((sum ≡ 0) ↔ (total ≡ 0))
 Summed-all sum total rest so_far none =
     let c = so_far.congruent in
     let zb = so_far.zero_before in

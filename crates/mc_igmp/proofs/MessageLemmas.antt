@@ -1,7 +1,12 @@
 -- A message that is read is the message that the bytes are, and bytes that are a message are read as it.
-use Rattle.std.proofs.Common.{◌≡◌, ◌≢◌, ℕ, ◌-◌, ◌%◌, ◌<◌, ◌≤◌, Bool, true, false, cond, eqb, ltb, List, length, take, drop, Result, Ok, Err, refl, sym, ap, subst, ◌∙◌}
-use Rattle.std.specs.Prelude.{◌&&◌, slice_index}
-use Rattle.std.proofs.lemmas.Bool.{ltb-true, ltb-false, lt-ltb, le-ltb, eqb-true, eqb-false, eq-eqb, ne_eqb}
+use Rattle.std.proofs.Common.{◌≡◌, ℕ, ◌%◌, ◌<◌, ◌≤◌, ◌⊎◌, Bool, true, false, eqb, ltb, List, []}
+use Rattle.std.proofs.Common.{◌∷◌}
+use Rattle.std.proofs.Common.{◌-◌, length, take, drop, Result, Ok, Err, refl, sym, ap, ◌∙◌, inl}
+use Rattle.std.proofs.Common.{inr}
+use Rattle.std.specs.Prelude.{◌&&◌, ◌||◌, IfOk, MatchResult, IsOkAnd, IsErrAnd, slice_index}
+use Rattle.std.proofs.lemmas.Bool.{ltb-true, ltb-false, lt-ltb, le-ltb, eqb-true, eqb-false, eq-eqb}
+use Rattle.std.proofs.lemmas.Bool.{ne_eqb, cond_both, and_parts, or_cases, or_parts}
+use Rattle.std.proofs.lemmas.Result.{IfOk-at_ok}
 use Rattle.std.proofs.lemmas.List.{take_rest}
 use Rattle.byteorder.specs.Endian.{big_number}
 use Rattle.mc_igmp.specs.declared.record.Record.{Record}
@@ -11,8 +16,10 @@ use Rattle.mc_igmp.specs.declared.message.MessageFault.{MessageFault}
 use Rattle.mc_igmp.specs.declared.message.MessageFault.TheVariants.{Short, BadChecksum, Truncated}
 use Rattle.mc_igmp.specs.Checksum.{word_sum, IsWellFormed}
 use Rattle.mc_igmp.specs.Records.{records_in, after_records}
-use Rattle.mc_igmp.specs.Message.{record_count, IsReport, IsMessage}
-use Rattle.mc_igmp.specs.ReadingMessage.{report_of, read_message}
+use Rattle.mc_igmp.specs.Message.{record_count, IsReport, IsReportType, IsMessage}
+use Rattle.mc_igmp.specs.OlderReport.{older_record}
+use Rattle.mc_igmp.specs.Record.{group_at}
+use Rattle.mc_igmp.specs.ReadingMessage.{report_of, read_typed, read_message}
 use Rattle.mc_igmp.proofs.AddressLemmas.{IsBytes, IsBytes-drop}
 use Rattle.mc_igmp.proofs.RecordLemmas.{word_at}
 use Rattle.mc_igmp.proofs.RecordsLemmas.{records_again, records_found}
@@ -21,98 +28,189 @@ use Rattle.mc_igmp.proofs.RecordsLemmas.{records_again, records_found}
 abbrev pub is_checksummed : List ℕ → Bool
 is_checksummed bytes = ltb 0 (word_sum bytes) && eqb (word_sum bytes % 65535) 0
 
-both_true : (a b : Bool) → (a && b) ≡ true → (a ≡ true) × (b ≡ true)
-both_true true b e = (refl, e)
-both_true false b e = absurd cc
+-- ---- what is read is the message that the bytes are
 
--- what is behind a test that gave no fault
-past_refusal : (b : Bool) (fault : MessageFault) (r : Result Message MessageFault) (m : Message) → cond b (Err fault) r ≡ Ok m → (b ≡ false) × (r ≡ Ok m)
-past_refusal true fault r m e = absurd cc
-past_refusal false fault r m e = (refl, e)
+-- if something was read, it is what the bytes are
+abbrev IsFound : List ℕ → Result Message MessageFault → Type 0
+IsFound bytes read = IfOk read (IsMessage bytes)
 
-past_demand : (b : Bool) (fault : MessageFault) (r : Result Message MessageFault) (m : Message) → cond b r (Err fault) ≡ Ok m → (b ≡ true) × (r ≡ Ok m)
-past_demand true fault r m e = (refl, e)
-past_demand false fault r m e = absurd cc
+report_found : (bytes : List ℕ) → IsBytes bytes → IsWellFormed bytes → slice_index bytes 0 ≡ 0x22
+    → (after : Result (List ℕ) ℕ) → after_records 1 (record_count bytes) (drop 8 bytes) ≡ after
+    → IsFound bytes (report_of bytes after)
+report_found bytes fits formed type (Err number) e = tt
+report_found bytes fits formed type (Ok ignored) e =
+    let count = record_count bytes in
+    let found = records_found 1 count (drop 8 bytes) ignored (IsBytes-drop 8 bytes fits) e in
+    let report : IsReport bytes (records_in count (drop 8 bytes)) = record {
+      own = found.own;
+      ignored = ignored;
+      type = type;
+      counted = found.counted;
+      parts = found.parts;
+      whole = found.whole;
+    } in
+    (formed, inl report)
 
-abbrev read : Message → Result Message MessageFault
-read m = Ok m
+-- a type that three tests refused is no report's
+other_type : (type : ℕ) → eqb type 0x22 ≡ false → (eqb type 0x12 || eqb type 0x16) ≡ false
+    → ¬ (IsReportType type)
+other_type type new older (inl is) = eqb-false _ _ (or_parts _ _ older).0 is
+other_type type new older (inr (inl is)) = eqb-false _ _ (or_parts _ _ older).1 is
+other_type type new older (inr (inr is)) = eqb-false _ _ new is
 
-read_is : (x y : Message) → read x ≡ read y → x ≡ y
-read_is x y e = cc
+older_type : (type : ℕ) → (eqb type 0x12 || eqb type 0x16) ≡ true → (type ≡ 0x12) ⊎ (type ≡ 0x16)
+older_type type is = elim (or_cases _ _ is) [
+  | inl e ↦ inl (eqb-true _ _ e)
+  | inr e ↦ inr (eqb-true _ _ e)
+]
 
-report_found : (bytes : List ℕ) (m : Message) → IsBytes bytes → IsWellFormed bytes → slice_index bytes 0 ≡ 0x22 → (after : Result (List ℕ) ℕ) → after_records 1 (record_count bytes) (drop 8 bytes) ≡ after → report_of bytes after ≡ Ok m → IsMessage bytes m
-report_found bytes m fits formed type (Err number) e read_e = absurd cc
-report_found bytes m fits formed type (Ok ignored) e read_e =
-    let found = records_found 1 (record_count bytes) (drop 8 bytes) ignored (IsBytes-drop 8 bytes fits) e in
-    let rs = records_in (record_count bytes) (drop 8 bytes) in
-    let report : IsReport bytes rs = record { own = found.own; ignored = ignored; type = type; counted = found.counted; parts = found.parts; whole = found.whole } in
-    subst (λ (x : Message). IsMessage bytes x) (read_is (Report rs) m read_e) (formed, report)
+typed_found : (bytes : List ℕ) → IsBytes bytes → IsWellFormed bytes
+    → IsFound bytes (read_typed bytes (slice_index bytes 0))
+unfolding read_typed
+typed_found bytes fits formed =
+    let type = slice_index bytes 0 in
+    let after = after_records 1 (record_count bytes) (drop 8 bytes) in
+    cond_both (eqb type 0x22) _ _ (IsFound bytes)
+    (λ new. report_found bytes fits formed (eqb-true _ _ new) after refl)
+    (λ not_new. cond_both (eqb type 0x12 || eqb type 0x16) _ _ (IsFound bytes)
+    (λ older. (formed, inr (record { type = older_type type older; one = refl })))
+    (λ not_older. (formed, refl, other_type type not_new not_older)))
 
-type_found : (bytes : List ℕ) (m : Message) → IsBytes bytes → IsWellFormed bytes → (b : Bool) → eqb (slice_index bytes 0) 0x22 ≡ b → cond b (report_of bytes (after_records 1 (record_count bytes) (drop 8 bytes))) (Ok (Other (slice_index bytes 0))) ≡ Ok m → IsMessage bytes m
-type_found bytes m fits formed true e read_e = report_found bytes m fits formed (eqb-true _ _ e) (after_records 1 (record_count bytes) (drop 8 bytes)) refl read_e
-type_found bytes m fits formed false e read_e =
-    subst (λ (x : Message). IsMessage bytes x) (read_is (Other (slice_index bytes 0)) m read_e) (formed, refl, eqb-false _ _ e)
+well_formed : (bytes : List ℕ) → ltb (length bytes) 8 ≡ false → is_checksummed bytes ≡ true
+    → IsWellFormed bytes
+well_formed bytes long summed =
+    let sum = and_parts (ltb 0 (word_sum bytes)) (eqb (word_sum bytes % 65535) 0) summed in
+    record {
+      long_enough = ltb-false _ _ long;
+      positive = ltb-true _ _ sum.0;
+      multiple = eqb-true _ _ sum.1;
+    }
 
-pub read_message-found : (bytes : List ℕ) (m : Message) → IsBytes bytes → read_message bytes ≡ Ok m → IsMessage bytes m
+read_message-found : (bytes : List ℕ) → IsBytes bytes → IsFound bytes (read_message bytes)
 unfolding read_message
-read_message-found bytes m fits e =
-    let typed = cond (eqb (slice_index bytes 0) 0x22) (report_of bytes (after_records 1 (record_count bytes) (drop 8 bytes))) (Ok (Other (slice_index bytes 0))) in
-    let long = past_refusal (ltb (length bytes) 8) Short (cond (is_checksummed bytes) typed (Err BadChecksum)) m e in
-    let summed = past_demand (is_checksummed bytes) BadChecksum typed m long.1 in
-    let sum = both_true (ltb 0 (word_sum bytes)) (eqb (word_sum bytes % 65535) 0) summed.0 in
-    let formed : IsWellFormed bytes = record { long_enough = ltb-false _ _ long.0; positive = ltb-true _ _ sum.0; multiple = eqb-true _ _ sum.1 } in
-    type_found bytes m fits formed (eqb (slice_index bytes 0) 0x22) refl summed.1
+read_message-found bytes fits =
+    cond_both (ltb (length bytes) 8) _ _ (IsFound bytes)
+    (λ short. tt)
+    (λ long. cond_both (is_checksummed bytes) _ _ (IsFound bytes)
+    (λ summed. typed_found bytes fits (well_formed bytes long summed))
+    (λ unsummed. tt))
 
-pub read_message-again : (bytes : List ℕ) (m : Message) → IsMessage bytes m → read_message bytes ≡ Ok m
+-- ---- bytes that are a message are read as it
+
+-- a well formed message is read by its type
+formed_again : (bytes : List ℕ) → IsWellFormed bytes
+    → read_message bytes ≡ read_typed bytes (slice_index bytes 0)
 unfolding read_message
-read_message-again bytes (Report rs) h =
-    let long : ltb (length bytes) 8 ≡ false = le-ltb _ _ h.0.long_enough in
-    let positive : ltb 0 (word_sum bytes) ≡ true = lt-ltb _ _ h.0.positive in
-    let multiple : eqb (word_sum bytes % 65535) 0 ≡ true = eq-eqb _ _ h.0.multiple in
-    let type : eqb (slice_index bytes 0) 0x22 ≡ true = eq-eqb _ _ h.1.type in
-    let again = records_again 1 rs h.1.own h.1.ignored h.1.whole in
-    let after : after_records 1 (record_count bytes) (drop 8 bytes) ≡ Ok h.1.ignored =
-    ap (λ (n : ℕ). after_records 1 n (drop 8 bytes)) (sym h.1.counted) ∙ ap (after_records 1 (length rs)) h.1.parts ∙ again.after in
+formed_again bytes h =
+    let long : ltb (length bytes) 8 ≡ false = le-ltb _ _ h.long_enough in
+    let positive : ltb 0 (word_sum bytes) ≡ true = lt-ltb _ _ h.positive in
+    let multiple : eqb (word_sum bytes % 65535) 0 ≡ true = eq-eqb _ _ h.multiple in
+    rw (long, positive, multiple) refl
+
+report_again : (bytes : List ℕ) (rs : List Record) → IsReport bytes rs
+    → read_typed bytes (slice_index bytes 0) ≡ Ok (Report rs)
+unfolding read_typed
+report_again bytes rs h =
+    let again = records_again 1 rs h.own h.ignored h.whole in
+    let after : after_records 1 (record_count bytes) (drop 8 bytes) ≡ Ok h.ignored =
+    rw (← h.counted, h.parts) again.after in
     let records : records_in (record_count bytes) (drop 8 bytes) ≡ rs =
-    ap (λ (n : ℕ). records_in n (drop 8 bytes)) (sym h.1.counted) ∙ ap (records_in (length rs)) h.1.parts ∙ again.records in
-    rw (long, positive, multiple, type, after, records) refl
-read_message-again bytes (Other type) h =
-    let long : ltb (length bytes) 8 ≡ false = le-ltb _ _ h.0.long_enough in
-    let positive : ltb 0 (word_sum bytes) ≡ true = lt-ltb _ _ h.0.positive in
-    let multiple : eqb (word_sum bytes % 65535) 0 ≡ true = eq-eqb _ _ h.0.multiple in
-    let other : eqb (slice_index bytes 0) 0x22 ≡ false = ne_eqb _ _ (λ e. h.2 (sym h.1 ∙ e)) in
-    rw (long, positive, multiple, other) (ap (λ (t : ℕ). Ok (Other t)) h.1)
+    rw (← h.counted, h.parts) again.records in
+    rw (eq-eqb _ _ h.type, after, records) refl
+
+pub older_again : (bytes : List ℕ) (type : ℕ) → (type ≡ 0x12) ⊎ (type ≡ 0x16)
+    → read_typed bytes type ≡ Ok (Report (older_record (group_at bytes) ∷ []))
+unfolding read_typed
+older_again bytes type (inl e) = rw e refl
+older_again bytes type (inr e) = rw e refl
+
+pub other_again : (bytes : List ℕ) (type : ℕ) → ¬ (IsReportType type)
+    → read_typed bytes type ≡ Ok (Other type)
+unfolding read_typed
+other_again bytes type other =
+    rw (
+      ne_eqb type 0x22 (λ e. other (inr (inr e))),
+      ne_eqb type 0x12 (λ e. other (inl e)),
+      ne_eqb type 0x16 (λ e. other (inr (inl e))),
+    ) refl
+
+typed_again : (bytes : List ℕ) (m : Message) → IsMessage bytes m
+    → read_typed bytes (slice_index bytes 0) ≡ Ok m
+typed_again bytes (Report rs) (formed, inl h) = report_again bytes rs h
+typed_again bytes (Report rs) (formed, inr h) = older_again bytes _ h.type ∙ ap (λ (l : List Record). Ok (Report l)) (sym h.one)
+typed_again bytes (Other type) (formed, is, other) =
+    ap (read_typed bytes) is ∙ other_again bytes type other
+
+formed_message : (bytes : List ℕ) (m : Message) → IsMessage bytes m → IsWellFormed bytes
+formed_message bytes (Report rs) h = h.0
+formed_message bytes (Other type) h = h.0
+
+pub read_message-again : (bytes : List ℕ) (m : Message) → IsMessage bytes m
+    → read_message bytes ≡ Ok m
+read_message-again bytes m h = formed_again bytes (formed_message bytes m h) ∙ typed_again bytes m h
+
+pub read_message-is : (bytes : List ℕ) (m : Message) → IsBytes bytes → read_message bytes ≡ Ok m
+    → IsMessage bytes m
+read_message-is bytes m fits e = IfOk-at_ok (IsMessage bytes) e (read_message-found bytes fits)
 
 -- ---- as the code reads it
+
+-- what `parse` says of an answer that is the definition's
+pub record Parsed (bytes : List ℕ) (read : Result Message MessageFault) : Type 0 where
+  pub found : IfOk read (IsMessage bytes)
+  pub only : (m : Message) → IsMessage bytes m → read ≡ Ok m
+
+pub parsed : (bytes : List ℕ) (read : Result Message MessageFault) → IsBytes bytes
+    → read ≡ read_message bytes → Parsed bytes read
+parsed bytes read fits e = record {
+  found = rw e (read_message-found bytes fits);
+  only = λ m h. e ∙ read_message-again bytes m h;
+}
 
 pub read_message-short : (bytes : List ℕ) → length bytes < 8 → Err Short ≡ read_message bytes
 unfolding read_message
 read_message-short bytes h = rw (lt-ltb _ _ h) refl
 
-pub read_message-unsummed : (bytes : List ℕ) → 8 ≤ length bytes → false ≡ is_checksummed bytes → Err BadChecksum ≡ read_message bytes
+pub read_message-unsummed : (bytes : List ℕ) → 8 ≤ length bytes → false ≡ is_checksummed bytes
+    → Err BadChecksum ≡ read_message bytes
 unfolding read_message
 read_message-unsummed bytes h e = rw (le-ltb _ _ h, ← e) refl
 
-pub read_message-other : (bytes : List ℕ) → 8 ≤ length bytes → true ≡ is_checksummed bytes → slice_index bytes 0 ≢ 0x22 → Ok (Other (slice_index bytes 0)) ≡ read_message bytes
+pub read_message-typed : (bytes : List ℕ) → 8 ≤ length bytes → true ≡ is_checksummed bytes
+    → read_typed bytes (slice_index bytes 0) ≡ read_message bytes
 unfolding read_message
-read_message-other bytes h e other = rw (le-ltb _ _ h, ← e, ne_eqb _ _ other) refl
+read_message-typed bytes h e = rw (le-ltb _ _ h, ← e) refl
 
--- a report, by what its records are read as
-pub read_message-report : (bytes body : List ℕ) (count : ℕ) (after : Result (List ℕ) ℕ) → 8 ≤ length bytes → true ≡ is_checksummed bytes → slice_index bytes 0 ≡ 0x22 → count ≡ record_count bytes → body ≡ drop 8 bytes → after_records 1 count body ≡ after → report_of bytes after ≡ read_message bytes
-unfolding read_message
-read_message-report bytes body count after h e type count_is body_is read_e =
-    let after_is : after_records 1 (record_count bytes) (drop 8 bytes) ≡ after = rw (← count_is, ← body_is) read_e in
-    rw (le-ltb _ _ h, ← e, eq-eqb _ _ type, after_is) refl
+-- what was read of a Version 3 report's records, as a message or its fault
+abbrev IsReadOf : List ℕ → ℕ → Result (List Record) ℕ → Type 0
+IsReadOf body count read = MatchResult read
+    (λ rs. (ignored : List ℕ) × (after_records 1 count body ≡ Ok ignored) × (rs ≡ records_in count body))
+    (λ number. after_records 1 count body ≡ Err number)
 
-pub read_message-whole : (bytes : List ℕ) (count : ℕ) (ignored : List ℕ) (records : List Record) → 8 ≤ length bytes → true ≡ is_checksummed bytes → slice_index bytes 0 ≡ 0x22 → count ≡ big_number 2 (take (length bytes - 6) (drop 6 bytes))
-    → after_records 1 count (take (length bytes - 8) (drop 8 bytes)) ≡ Ok ignored → records ≡ records_in count (take (length bytes - 8) (drop 8 bytes)) → Ok (Report records) ≡ read_message bytes
-read_message-whole bytes count ignored records h e type count_read after_is records_are =
-    let count_is : count ≡ record_count bytes = count_read ∙ word_at bytes 6 in
-    let body_is : take (length bytes - 8) (drop 8 bytes) ≡ drop 8 bytes = take_rest bytes 8 in
-    let same : records ≡ records_in (record_count bytes) (drop 8 bytes) = records_are ∙ rw (count_is, body_is) refl in
-    ap (λ (rs : List Record). Ok (Report rs)) same ∙ read_message-report bytes (take (length bytes - 8) (drop 8 bytes)) count (Ok ignored) h e type count_is body_is after_is
+report_said : (bytes : List ℕ) (read : Result (List Record) ℕ) (said : Result Message ℕ)
+    (answer : Result Message MessageFault) → IsReadOf (drop 8 bytes) (record_count bytes) read
+    → MatchResult read (λ rs. IsOkAnd said (λ m. m ≡ Report rs)) (λ number. said ≡ Err number)
+    → MatchResult said (λ m. answer ≡ Ok m) (λ number. IsErrAnd answer (λ fault. fault ≡ Truncated number))
+    → answer ≡ report_of bytes (after_records 1 (record_count bytes) (drop 8 bytes))
+report_said bytes (Ok rs) (Ok m) answer is is_said is_answer =
+    rw (is.1, is_answer, is_said, is.2) refl
+report_said bytes (Ok rs) (Err number) answer is is_said is_answer = absurd is_said
+report_said bytes (Err number) (Ok m) answer is is_said is_answer = absurd cc
+report_said bytes (Err number) (Err n) (Ok m) is is_said is_answer = absurd is_answer
+report_said bytes (Err number) (Err n) (Err fault) is is_said is_answer =
+    rw (is, is_answer) cc
 
-pub read_message-cut : (bytes : List ℕ) (count number : ℕ) → 8 ≤ length bytes → true ≡ is_checksummed bytes → slice_index bytes 0 ≡ 0x22 → count ≡ big_number 2 (take (length bytes - 6) (drop 6 bytes))
-    → after_records 1 count (take (length bytes - 8) (drop 8 bytes)) ≡ Err number → Err (Truncated number) ≡ read_message bytes
-read_message-cut bytes count number h e type count_read after_is =
-    read_message-report bytes (take (length bytes - 8) (drop 8 bytes)) count (Err number) h e type (count_read ∙ word_at bytes 6) (take_rest bytes 8) after_is
+pub new_report : (bytes : List ℕ) (count : ℕ) (read : Result (List Record) ℕ)
+    (said : Result Message ℕ)
+    (answer : Result Message MessageFault) → slice_index bytes 0 ≡ 0x22
+    → count ≡ big_number 2 (take (length bytes - 6) (drop 6 bytes))
+    → IsReadOf (take (length bytes - 8) (drop 8 bytes)) count read
+    → MatchResult read (λ rs. IsOkAnd said (λ m. m ≡ Report rs)) (λ number. said ≡ Err number)
+    → MatchResult said (λ m. answer ≡ Ok m) (λ number. IsErrAnd answer (λ fault. fault ≡ Truncated number))
+    → answer ≡ read_typed bytes (slice_index bytes 0)
+unfolding read_typed
+new_report bytes count read said answer type count_is is is_said is_answer =
+    let body : take (length bytes - 8) (drop 8 bytes) ≡ drop 8 bytes = take_rest bytes 8 in
+    let counted : count ≡ record_count bytes = count_is ∙ word_at bytes 6 in
+    let here : IsReadOf (drop 8 bytes) (record_count bytes) read = rw (← counted, ← body) is in
+    rw type (report_said bytes read said answer here is_said is_answer)

@@ -3,6 +3,7 @@ pub mod Kind
 pub mod Addresses
 pub mod Record
 pub mod Records
+pub mod OlderReport
 pub mod Message
 pub mod ReadingMessage
 pub mod Memory
@@ -11,4 +12,5 @@ pub mod ReadingList
 pub mod Wants
 pub use Rattle.mc_text.specs.Addr
 pub use Rattle.mc_text.specs.Lines
+pub use Rattle.mc_text.specs.Steps
 pub use Rattle.hex.specs.Hex

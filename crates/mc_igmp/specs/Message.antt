@@ -1,12 +1,13 @@
--- What a message stands for (RFC 3376, section 4.2).
-use Rattle.std.specs.Prelude.{◌≡◌, ◌≢◌, ℕ, ◌+◌, ◌*◌, List, [], ◌++◌, length, drop, slice_index}
+-- What a message stands for (RFC 3376, section 4).
+use Rattle.std.specs.Prelude.{◌≡◌, ◌⊎◌, ℕ, ◌+◌, ◌*◌, List, [], ◌++◌, length, drop, slice_index}
 use Rattle.mc_igmp.specs.declared.record.Record.{Record}
 use Rattle.mc_igmp.specs.declared.message.Message.{Message}
 use Rattle.mc_igmp.specs.declared.message.Message.TheVariants.{Report, Other}
 use Rattle.mc_igmp.specs.Checksum.{IsWellFormed}
+use Rattle.mc_igmp.specs.OlderReport.{IsOlderReport}
 use Rattle.mc_igmp.specs.Records.{AreRecords}
 
--- the number of group records that a report tells in its bytes 6 and 7 (section 4.2.3)
+-- the number of group records that a Version 3 report tells in its bytes 6 and 7 (section 4.2.3)
 abbrev pub record_count : List ℕ → ℕ
 record_count bytes = 256 * slice_index bytes 6 + slice_index bytes 7
 
@@ -20,10 +21,15 @@ pub record IsReport (bytes : List ℕ) (records : List Record) : Type 0 where
   pub parts : drop 8 bytes ≡ own ++ ignored
   pub whole : AreRecords own records
 
--- The bytes are this message. A message of another type than 0x22 stands for its type alone.
+-- the types of the reports of all three versions
+abbrev pub IsReportType : ℕ → Type 0
+IsReportType type = (type ≡ 0x12) ⊎ ((type ≡ 0x16) ⊎ (type ≡ 0x22))
+
+-- The bytes are this message. A message of another type than the reports' stands for its type alone.
 abbrev pub IsMessage : List ℕ → Message → Type 0
-IsMessage bytes (Report records) = IsWellFormed bytes × IsReport bytes records
-IsMessage bytes (Other type) = IsWellFormed bytes × (slice_index bytes 0 ≡ type) × (type ≢ 0x22)
+IsMessage bytes (Report records) =
+    IsWellFormed bytes × (IsReport bytes records ⊎ IsOlderReport bytes records)
+IsMessage bytes (Other type) = IsWellFormed bytes × (slice_index bytes 0 ≡ type) × (¬ (IsReportType type))
 
 -- the records that a message stands for
 abbrev pub records_of : Message → List Record

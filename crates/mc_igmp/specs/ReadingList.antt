@@ -1,8 +1,9 @@
 -- A report list read line by line, with the first fault that is met.
-use Rattle.std.specs.Prelude.{ℕ, ◌+◌, ◌==◌, ◌||◌, not, nat_lt, List, [], ◌∷◌, ◌++◌, length, Option, Some, None, Result, Ok, Err, if◌then◌else◌}
+use Rattle.std.specs.Prelude.{ℕ, ◌+◌, ◌||◌, not, nat_lt, List, [], ◌∷◌, ◌++◌, length, Option, Some, None, Result, Ok, Err, if◌then◌else◌}
 use Rattle.hex.specs.declared.error.FromHexError.{FromHexError}
 use Rattle.hex.specs.Hex.{decode_of}
 use Rattle.mc_text.specs.Lines.{LineText, lines_of}
+use Rattle.mc_text.specs.Steps.{◌>>=◌}
 use Rattle.mc_igmp.specs.declared.record.Record.{Record}
 use Rattle.mc_igmp.specs.declared.message.Message.{Message}
 use Rattle.mc_igmp.specs.declared.message.Message.TheVariants.{Report, Other}
@@ -10,15 +11,9 @@ use Rattle.mc_igmp.specs.declared.message.MessageFault.{MessageFault}
 use Rattle.mc_igmp.specs.declared.message.MessageFault.TheVariants as message
 use Rattle.mc_igmp.specs.declared.fault.ListFault.{ListFault}
 use Rattle.mc_igmp.specs.declared.fault.ListFaultKind.{ListFaultKind}
-use Rattle.mc_igmp.specs.declared.fault.ListFaultKind.TheVariants.{BadHex, Short, BadChecksum, Truncated, StateChange, OlderReport, TooLarge, Unended}
+use Rattle.mc_igmp.specs.declared.fault.ListFaultKind.TheVariants.{BadHex, Short, BadChecksum, Truncated, StateChange, TooLarge, Unended}
 use Rattle.mc_igmp.specs.Kind.{is_change}
 use Rattle.mc_igmp.specs.ReadingMessage.{read_message}
-
--- the second step, if the first gave a value
-infixl 10 ◌>>=◌
-abbrev pub ◌>>=◌ : {A B : Type 0} → Result A ListFault → (A → Result B ListFault) → Result B ListFault
-(Ok x) >>= f = f x
-(Err e) >>= f = Err e
 
 -- a fault of this line and record
 abbrev pub fault_at : ℕ → ℕ → ListFaultKind → ListFault
@@ -49,8 +44,7 @@ without_change line records (Some number) = Err (fault_at line number StateChang
 -- the records of what was read as a message, if a list takes it
 abbrev pub taken_records : ℕ → Result Message MessageFault → Result (List Record) ListFault
 taken_records line (Ok (Report records)) = without_change line records (first_change 1 records)
-taken_records line (Ok (Other type)) =
-    if type == 0x12 || type == 0x16 then Err (fault_at line 0 OlderReport) else Ok []
+taken_records line (Ok (Other type)) = Ok []
 taken_records line (Err message.Short) = Err (fault_at line 0 Short)
 taken_records line (Err message.BadChecksum) = Err (fault_at line 0 BadChecksum)
 taken_records line (Err (message.Truncated number)) = Err (fault_at line number Truncated)

@@ -1,23 +1,31 @@
 -- A message read from the front, with the first fault that is met.
-use Rattle.std.specs.Prelude.{ℕ, ◌==◌, ◌%◌, ◌&&◌, nat_lt, List, length, drop, slice_index, Result, Ok, Err, if◌then◌else◌}
+use Rattle.std.specs.Prelude.{ℕ, ◌==◌, ◌%◌, ◌&&◌, ◌||◌, nat_lt, List, [], ◌∷◌, length, drop, slice_index, Result, Ok, Err, if◌then◌else◌}
 use Rattle.mc_igmp.specs.declared.message.Message.{Message}
 use Rattle.mc_igmp.specs.declared.message.Message.TheVariants.{Report, Other}
 use Rattle.mc_igmp.specs.declared.message.MessageFault.{MessageFault}
 use Rattle.mc_igmp.specs.declared.message.MessageFault.TheVariants.{Short, BadChecksum, Truncated}
 use Rattle.mc_igmp.specs.Checksum.{word_sum}
+use Rattle.mc_igmp.specs.Record.{group_at}
 use Rattle.mc_igmp.specs.Records.{records_in, after_records}
 use Rattle.mc_igmp.specs.Message.{record_count}
+use Rattle.mc_igmp.specs.OlderReport.{older_record}
 
 -- the report of these bytes, if its last record ends within them
 abbrev pub report_of : List ℕ → Result (List ℕ) ℕ → Result Message MessageFault
 report_of bytes (Ok ignored) = Ok (Report (records_in (record_count bytes) (drop 8 bytes)))
 report_of bytes (Err number) = Err (Truncated number)
 
+-- what stands in a well formed message of this type
+unfoldable pub read_typed : List ℕ → ℕ → Result Message MessageFault
+read_typed bytes type =
+    if type == 0x22 then report_of bytes (after_records 1 (record_count bytes) (drop 8 bytes))
+    else if type == 0x12 || type == 0x16 then Ok (Report (older_record (group_at bytes) ∷ []))
+    else Ok (Other type)
+
 -- the faults are Short, BadChecksum and Truncated, in this order
 unfoldable pub read_message : List ℕ → Result Message MessageFault
 read_message bytes =
     if nat_lt (length bytes) 8 then Err Short
-    else if nat_lt 0 (word_sum bytes) && (word_sum bytes % 65535 == 0) then
-    (if slice_index bytes 0 == 0x22 then report_of bytes (after_records 1 (record_count bytes) (drop 8 bytes))
-    else Ok (Other (slice_index bytes 0)))
+    else if nat_lt 0 (word_sum bytes) && (word_sum bytes % 65535 == 0)
+    then read_typed bytes (slice_index bytes 0)
     else Err BadChecksum

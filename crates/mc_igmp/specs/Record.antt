@@ -21,6 +21,11 @@ pub record IsRecord (bytes : List ℕ) (r : Record) : Type 0 where
   pub spelled : bytes ≡ (type ∷ auxiliary_words ∷ to_be_bytes w16 (length r.sources))
       ++ octets_of r.group ++ flat_map octets_of r.sources ++ auxiliary
 
+-- the group, in bytes 4 to 7
+abbrev pub group_at : List ℕ → ℕ
+group_at bytes = from_be_bytes w32
+    (slice_index bytes 4 ∷ slice_index bytes 5 ∷ slice_index bytes 6 ∷ slice_index bytes 7 ∷ [])
+
 -- The number of sources of the record that the bytes begin with, and the bytes that the record takes.
 abbrev pub source_count : List ℕ → ℕ
 source_count bytes = 256 * slice_index bytes 2 + slice_index bytes 3
@@ -31,8 +36,7 @@ record_size bytes = 8 + 4 * source_count bytes + 4 * slice_index bytes 1
 abbrev pub record_at : List ℕ → Record
 record_at bytes = record {
   kind = kind_of (slice_index bytes 0);
-  group = from_be_bytes w32
-      (slice_index bytes 4 ∷ slice_index bytes 5 ∷ slice_index bytes 6 ∷ slice_index bytes 7 ∷ []);
+  group = group_at bytes;
   sources = addresses_in (take (4 * source_count bytes) (drop 8 bytes));
 }
 

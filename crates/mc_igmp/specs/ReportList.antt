@@ -1,5 +1,5 @@
 -- What a report list stands for: the records of its messages, in order.
-use Rattle.std.specs.Prelude.{◌≡◌, ◌≢◌, ℕ, ◌≤◌, true, false, List, [], ◌∷◌, length, Ok}
+use Rattle.std.specs.Prelude.{◌≡◌, ℕ, ◌≤◌, true, false, List, [], ◌∷◌, length, Ok}
 use Rattle.std.specs.List.{flat_map, AllByRecursion}
 use Rattle.hex.specs.Hex.{decode_of}
 use Rattle.mc_text.specs.Lines.{LineText, lines_of}
@@ -9,12 +9,11 @@ use Rattle.mc_igmp.specs.declared.message.Message.TheVariants.{Report, Other}
 use Rattle.mc_igmp.specs.Kind.{is_change}
 use Rattle.mc_igmp.specs.Message.{IsMessage, records_of}
 
--- The messages that a list takes. No record of a Version 3 report tells of a change (types 3 to 6, RFC 3376,
--- section 4.2.12), since its meaning hangs on what was reported before. Reports of versions 1 and 2 (0x12 and
--- 0x16, section 4) are not taken.
+-- The messages that a list takes. No record tells of a change (types 3 to 6, RFC 3376, section 4.2.12), since
+-- its meaning hangs on what was reported before.
 abbrev pub IsTaken : Message → Type 0
 IsTaken (Report records) = AllByRecursion (λ r. is_change r.kind ≡ false) records
-IsTaken (Other type) = (type ≢ 0x12) × (type ≢ 0x16)
+IsTaken (Other type) = Unit {0}
 
 -- The line is the hexadecimal of this message, and nothing else. A message is the payload of one IP packet, of
 -- at most 65,535 bytes less 20 of its header (RFC 791, section 3.1), each of two digits. A list has at most

@@ -44,7 +44,7 @@ fn ones_complement_sum(message: &[u8]) -> u32
 }
 
 /// Whether the words of a message, the checksum among them, add up to ones alone.
-pub fn is_checksum_right(message: &[u8]) -> bool
+pub(crate) fn is_checksum_right(message: &[u8]) -> bool
     ensures { result ≡ (nat_lt 0 (word_sum message.now) && (word_sum message.now % 65535 == 0)) }
 {
     ones_complement_sum(message) == ALL_ONES

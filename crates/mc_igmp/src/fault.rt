@@ -24,9 +24,7 @@ pub enum ListFaultKind {
     /// (5) The record tells of a change: its meaning hangs on what was reported before.
     #[error("StateChange")]
     StateChange,
-    /// (6) The message is a report of version 1 or 2.
-    #[error("OlderReport")]
-    OlderReport,
+    // (6) is no longer used: it refused reports of versions 1 and 2.
     /// (7) The text has more than 16,777,216 bytes (line 0), or more than 65,536 lines, or the line has more
     /// than 131,030 bytes.
     #[error("TooLarge")]

@@ -4,6 +4,7 @@
 
 mod checksum;
 mod fault;
+mod group_records;
 mod laws;
 mod list;
 mod message;

@@ -1,22 +1,25 @@
 //! A report list: what the hosts of one LAN answer to one General Query, a message on each line.
 
-ghost use Rattle.std.specs.Prelude.{◌≡◌, ◌≢◌, ◌++◌, ◌<◌, ◌^◌, ◌⊎◌, List, [], length, unwrap_or};
+ghost use Rattle.std.specs.Prelude.{◌≡◌, ◌≢◌, ◌++◌, ◌∷◌, ◌<◌, ◌^◌, ◌⊎◌, List, [], length, unwrap_or};
 ghost use Rattle.std.specs.Prelude.{IfOk, IfErr, OnOk, OnErr, MatchResult};
 ghost use Rattle.mc_text.specs.LineView.{line_text};
 ghost use Rattle.mc_igmp.specs.declared.record.Record.{Record};
 ghost use Rattle.mc_igmp.specs.declared.fault.ListFaultKind.TheVariants.{BadHex};
 ghost use Rattle.hex.specs.declared.error.FromHexError.TheVariants as FromHexError;
 ghost use Rattle.mc_igmp.specs.Memory.{IsMemory, no_memory};
+ghost use Rattle.mc_igmp.specs.OlderReport.{older_record};
+ghost use Rattle.mc_igmp.specs.Records.{records_in, IsWhole};
 ghost use Rattle.mc_igmp.specs.ReadingMessage.{read_message};
 ghost use Rattle.mc_igmp.specs.ReportList.{IsReportList};
 ghost use Rattle.mc_igmp.specs.ReadingList.{bytes_of_line, first_change, taken_records, read_line, read_list, fault_at};
 
 use crate::fault::{ListFault, ListFaultKind};
+use crate::group_records::GroupRecords;
 use crate::message::{Message, MessageFault};
 use crate::record::{Kind, Record};
 use crate::records::Records;
 use hex::FromHexError;
-use mc_text::{Line, Lines, MAX_TEXT};
+use mc_text::{Addr, Line, Lines, MAX_TEXT};
 use std::alloc::{AllocError, Global};
 use std::marker::Model;
 
@@ -26,11 +29,14 @@ const MAX_LINES: u32 = 65_536;
 /// The greatest line, in bytes: two digits for each byte of an IP packet's greatest payload.
 const MAX_LINE_LEN: usize = 131_030;
 
-/// The type of a Version 1 report.
-const VERSION_1_REPORT: u8 = 0x12;
-
-/// The type of a Version 2 report.
-const VERSION_2_REPORT: u8 = 0x16;
+/// The bytes of the record that a report of version 1 or 2 stands for (RFC 3376, sections 4.2.4 and 7.3.2).
+fn bytes_of_older_record(group: Addr) -> [u8; 8]
+    ensures whole { IsWhole 1 result }
+    ensures record { records_in 1 result ≡ older_record group ∷ [] }
+{
+    let [a, b, c, d] = group.octets();
+    [2, 0, 0, 0, a, b, c, d]
+}
 
 /// Why the digits of a line could not be decoded.
 fn fault_of_digits(line_number: u32, error: FromHexError) -> ListFault
@@ -87,9 +93,6 @@ fn records_taken(line_number: u32, bytes: &[u8]) -> Result<Option<Records<'_>>, 
             Some(number) => Err(ListFaultKind::StateChange.at(line_number, number)),
             None => Ok(Some(records)),
         },
-        Ok(Message::Other(VERSION_1_REPORT | VERSION_2_REPORT)) => {
-            Err(ListFaultKind::OlderReport.at(line_number, 0))
-        }
         Ok(Message::Other(_)) => Ok(None),
         Err(MessageFault::Short) => Err(ListFaultKind::Short.at(line_number, 0)),
         Err(MessageFault::BadChecksum) => Err(ListFaultKind::BadChecksum.at(line_number, 0)),
@@ -124,12 +127,13 @@ impl Model for ReportList {
 
 impl ReportList {
     /// Reads a report list: a message in hexadecimal on each line, with nothing else on it. The empty
-    /// text is a list without a record, and so is one of messages that are no reports.
+    /// text is a list without a record, and so is one of messages that are no reports. A report of version
+    /// 1 or 2 counts as one record, as [`Message`] has it.
     ///
     /// # Errors
     /// `TooLarge` at line 0 for a text of more than 16,777,216 bytes. Else the first line that has a fault
     /// is refused, for the first of `Unended`, `TooLarge` (line 65,537, or more than 131,030 bytes on the
-    /// line), `BadHex`, `Short`, `BadChecksum`, `Truncated`, `OlderReport` and `StateChange`. `Memory`
+    /// line), `BadHex`, `Short`, `BadChecksum`, `Truncated` and `StateChange`. `Memory`
     /// where a growth was refused.
     pub fn read(alloc: Global, text: &[u8]) -> Result<ReportList, ListFault>
         // What is read are the records of the text's messages.
@@ -167,12 +171,23 @@ impl ReportList {
         Ok(())
     }
 
-    // Appends records.
+    // Appends the records of a report.
     fn append(&mut self, records: &Records<'_>) -> Result<(), AllocError>
-        ensures ok { OnOk result (self.new ≡ self.old ++ records.now) }
-        ensures err { OnErr result (self.new ≡ self.old) }
+        ensures { OnOk result (self.new ≡ self.old ++ records.now) }
     {
-        let (count, bytes) = records.parts();
+        let (older_group, group_records) = records.parts();
+        if let Some(group) = older_group {
+            self.append_bytes(1, &bytes_of_older_record(group))?;
+        }
+        let (count, bytes) = group_records.parts();
+        self.append_bytes(count, bytes)
+    }
+
+    // Appends group records that follow one another in the bytes.
+    fn append_bytes(&mut self, count: usize, bytes: &[u8]) -> Result<(), AllocError>
+        requires { IsWhole count bytes.now }
+        ensures { OnOk result (self.new ≡ self.old ++ records_in count bytes.now) }
+    {
         self.bytes.extend_from_slice(bytes)?;
         self.count += count;
         Ok(())
@@ -183,7 +198,7 @@ impl ReportList {
         ensures { result ≡ self.now }
     {
         ListRecords {
-            records: Records::new(self.count, &self.bytes),
+            group_records: GroupRecords::new(self.count, &self.bytes),
         }
     }
 }
@@ -191,7 +206,7 @@ impl ReportList {
 /// The records of a list, from the first. Its value in contracts is the list of those that are left.
 #[derive(Debug, Drop)]
 pub struct ListRecords<'a> {
-    records: Records<'a>,
+    group_records: GroupRecords<'a>,
 }
 
 impl<'a> Model for ListRecords<'a> {
@@ -200,7 +215,7 @@ impl<'a> Model for ListRecords<'a> {
 
     ghost Value = { List Record };
 
-    ghost view = { λ s. s.records };
+    ghost view = { λ s. s.group_records };
 }
 
 impl<'a> Iterator for ListRecords<'a> {
@@ -213,6 +228,6 @@ impl<'a> Iterator for ListRecords<'a> {
     ghost remaining = { item_count (λ left. left) };
 
     fn next(&mut self) -> Option<Record<'a>> {
-        self.records.next()
+        self.group_records.next()
     }
 }

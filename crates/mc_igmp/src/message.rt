@@ -1,11 +1,12 @@
 //! An IGMP message, the payload of one IP packet (RFC 3376, section 4).
 
-ghost use Rattle.std.specs.Prelude.{◌≡◌, IfOk, Ok};
+ghost use Rattle.std.specs.Prelude.{◌≡◌, ◌≤◌, length, slice_index, IfOk, Ok};
 ghost use Rattle.mc_igmp.specs.declared.message.Message.{Message};
 ghost use Rattle.mc_igmp.specs.Message.{IsMessage};
-ghost use Rattle.mc_igmp.specs.ReadingMessage.{read_message};
+ghost use Rattle.mc_igmp.specs.ReadingMessage.{read_message, read_typed};
 
 use crate::checksum::is_checksum_right;
+use crate::record::group_of;
 use crate::records::Records;
 use byteorder::{BigEndian, ByteOrder};
 use thiserror::Error;
@@ -13,13 +14,20 @@ use thiserror::Error;
 /// The bytes of a report before its records, and of every message at least.
 const HEADER_LEN: usize = 8;
 
+/// The type of a Version 1 report (RFC 1112, appendix I).
+const VERSION_1_REPORT: u8 = 0x12;
+
+/// The type of a Version 2 report (RFC 2236, section 2.1).
+const VERSION_2_REPORT: u8 = 0x16;
+
 /// The type of a Version 3 report.
 const VERSION_3_REPORT: u8 = 0x22;
 
 /// What a message stands for.
 #[derive(Debug, Drop)]
 pub enum Message<'a> {
-    /// A Version 3 report, with its records.
+    /// A report, with its records. One of version 1 or 2 stands for one record: all sources of its group
+    /// are wanted (RFC 3376, section 7.3.2).
     Report(Records<'a>),
     /// A message of another type, with its type byte.
     Other(u8),
@@ -39,9 +47,28 @@ pub enum MessageFault {
     Truncated(u32),
 }
 
+/// What the bytes of a message with a right checksum stand for.
+fn message_in(bytes: &[u8]) -> Result<Message<'_>, MessageFault>
+    requires { HEADER_LEN ≤ length bytes.now }
+    ensures { result ≡ read_typed bytes.now (slice_index bytes.now 0) }
+{
+    match bytes[0] {
+        VERSION_3_REPORT => {
+            let count = BigEndian::read_u16(&bytes[6..]);
+            Records::read(count, &bytes[HEADER_LEN..])
+                .map(Message::Report)
+                .map_err(MessageFault::Truncated)
+        }
+        VERSION_1_REPORT | VERSION_2_REPORT => {
+            Ok(Message::Report(Records::of_older_report(group_of(bytes))))
+        }
+        other => Ok(Message::Other(other)),
+    }
+}
+
 impl<'a> Message<'a> {
-    /// Reads a message. All types have the same checksum; the bytes of types other than 0x22 are not
-    /// looked at any further.
+    /// Reads a message. All types have the same checksum. Reports of versions 1 and 2 have the types 0x12
+    /// and 0x16, and one of version 3 has 0x22; of other types nothing else is looked at.
     pub fn parse(bytes: &'a [u8]) -> Result<Message<'a>, MessageFault>
         // What is read is the message that the bytes are.
         ensures found { IfOk result (λ message. IsMessage bytes.now message) }
@@ -56,13 +83,6 @@ impl<'a> Message<'a> {
         if !is_checksum_right(bytes) {
             return Err(MessageFault::BadChecksum);
         }
-        if bytes[0] != VERSION_3_REPORT {
-            return Ok(Message::Other(bytes[0]));
-        }
-        let count = BigEndian::read_u16(&bytes[6..]);
-        match Records::read(count, &bytes[HEADER_LEN..]) {
-            Ok(records) => Ok(Message::Report(records)),
-            Err(number) => Err(MessageFault::Truncated(number)),
-        }
+        message_in(bytes)
     }
 }

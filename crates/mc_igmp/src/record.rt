@@ -1,9 +1,10 @@
 //! Group records, which each tell one group's filter (RFC 3376, section 4.2.4 and on).
 
-ghost use Rattle.std.specs.Prelude.{◌≡◌};
+ghost use Rattle.std.specs.Prelude.{◌≡◌, ◌≤◌, length};
 ghost use Rattle.std.specs.Option.{option_map};
 ghost use Rattle.mc_igmp.specs.Kind.{kind_of};
-ghost use Rattle.mc_igmp.specs.Record.{read_record};
+ghost use Rattle.mc_igmp.specs.OlderReport.{older_record};
+ghost use Rattle.mc_igmp.specs.Record.{group_at, read_record};
 
 use byteorder::{BigEndian, ByteOrder};
 use mc_text::Addr;
@@ -98,9 +99,32 @@ pub struct Record<'a> {
     pub sources: Sources<'a>,
 }
 
+impl<'a> Record<'a> {
+    /// What a report of version 1 or 2 says of its group: all sources are wanted (RFC 3376, section
+    /// 7.3.2).
+    #[tactic(auto, unfolding(crate::specs::Addresses::addresses_in))]
+    pub(crate) fn of_older_report(group: Addr) -> Record<'a>
+        ensures { result ≡ older_record group }
+    {
+        Record {
+            kind: Kind::Exclude,
+            group,
+            sources: Sources { bytes: &[] },
+        }
+    }
+}
+
+/// The group in bytes 4 to 7, where records and reports of versions 1 and 2 have it.
+pub(crate) fn group_of(bytes: &[u8]) -> Addr
+    requires { 8 ≤ length bytes.now }
+    ensures { result ≡ group_at bytes.now }
+{
+    Addr::from_octets([bytes[4], bytes[5], bytes[6], bytes[7]])
+}
+
 /// The record that the bytes begin with, and the bytes after it. There is none where it doesn't end
 /// within the bytes. Its auxiliary data are passed over.
-pub fn split_record(bytes: &[u8]) -> Option<(Record<'_>, &[u8])>
+pub(crate) fn split_record(bytes: &[u8]) -> Option<(Record<'_>, &[u8])>
     ensures { option_map (λ x. (x.0, x.1.now)) result ≡ read_record bytes.now }
 {
     if bytes.len() < HEADER_LEN {
@@ -113,7 +137,7 @@ pub fn split_record(bytes: &[u8]) -> Option<(Record<'_>, &[u8])>
     }
     let record = Record {
         kind: Kind::from_type(bytes[0]),
-        group: Addr::from_octets([bytes[4], bytes[5], bytes[6], bytes[7]]),
+        group: group_of(bytes),
         sources: Sources {
             bytes: &bytes[HEADER_LEN..sources_end],
         },

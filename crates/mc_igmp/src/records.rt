@@ -1,85 +1,76 @@
-//! Group records one after another.
+//! The records of one report.
 
-ghost use Rattle.std.specs.Prelude.{◌≡◌, ℕ, List, MatchResult};
-ghost use Rattle.mc_igmp.specs.Records.{records_in, after_records, IsWhole};
+ghost use Rattle.std.specs.Prelude.{◌≡◌, ◌++◌, ◌∷◌, ℕ, List, [], MatchResult};
+ghost use Rattle.mc_igmp.specs.OlderReport.{older_record, older_records};
+ghost use Rattle.mc_igmp.specs.Records.{records_in, after_records};
 
-use crate::record::{Record, split_record};
+use crate::group_records::GroupRecords;
+use crate::record::Record;
+use mc_text::Addr;
 use std::marker::Model;
 
-/// Records, from the first. Its value in contracts is the list of those that are left.
+/// The records of a report, from the first. Its value in contracts is the list of those that are left.
 #[derive(Debug, Drop)]
 pub struct Records<'a> {
-    left: usize,
-    bytes: &'a [u8],
+    /// The group of a report of version 1 or 2, as long as its record is left.
+    older_group: Option<Addr>,
+    /// The group records that are left of a Version 3 report.
+    group_records: GroupRecords<'a>,
 }
 
 impl<'a> Model for Records<'a> {
-    ghost use Rattle.std.specs.Prelude.{List};
+    ghost use Rattle.std.specs.Prelude.{List, ◌++◌};
     ghost use Rattle.mc_igmp.specs.declared.record.Record.{Record};
-    ghost use Rattle.mc_igmp.specs.Records.{records_in, IsWhole};
+    ghost use Rattle.mc_igmp.specs.OlderReport.{older_records};
 
     ghost Value = { List Record };
 
-    ghost view = { λ s. records_in s.left s.bytes.now };
-
-    ghost invariant = { λ s. IsWhole s.left s.bytes.now };
-}
-
-/// The bytes after so many records, or the number of the first, counted from 1, that doesn't end
-/// within the bytes.
-fn after_records_of(count: u16, bytes: &[u8]) -> Result<&[u8], u32>
-    ensures { MatchResult result
-        (λ rest. after_records 1 count bytes.now ≡ Ok rest.now)
-        (λ number. after_records 1 count bytes.now ≡ Err number) }
-{
-    let mut rest = bytes;
-    for index in 0..count {
-        match split_record(rest) {
-            Some((_, after)) => rest = after,
-            None => return Err(u32::from(index) + 1),
-        }
-    }
-    Ok(rest)
+    ghost view = { λ s. older_records s.older_group ++ s.group_records };
 }
 
 impl<'a> Records<'a> {
-    /// The first `count` records of the bytes, or the number of the first, counted from 1, that doesn't
-    /// end within them.
+    /// The first `count` group records of the bytes, or the number of the first, counted from 1, that
+    /// doesn't end within them.
     pub(crate) fn read(count: u16, bytes: &'a [u8]) -> Result<Records<'a>, u32>
         ensures { MatchResult result
             (λ records. (ignored : List ℕ) ×
             (after_records 1 count bytes.now ≡ Ok ignored) × (records ≡ records_in count bytes.now))
             (λ number. after_records 1 count bytes.now ≡ Err number) }
     {
-        let ignored = after_records_of(count, bytes)?;
-        let own = &bytes[..bytes.len() - ignored.len()];
+        let group_records = GroupRecords::read(count, bytes)?;
         Ok(Records {
-            left: usize::from(count),
-            bytes: own,
+            older_group: None,
+            group_records,
         })
     }
 
-    /// So many records that follow one another and end with the bytes.
-    pub(crate) fn new(count: usize, bytes: &'a [u8]) -> Records<'a>
-        requires { IsWhole count bytes.now }
-        ensures { result ≡ records_in count bytes.now }
+    /// The one record of a report of version 1 or 2.
+    #[tactic(auto, unfolding(crate::specs::Records::after_records, crate::specs::Records::records_in))]
+    pub(crate) fn of_older_report(group: Addr) -> Records<'a>
+        ensures { result ≡ older_record group ∷ [] }
     {
-        Records { left: count, bytes }
+        Records {
+            older_group: Some(group),
+            group_records: GroupRecords::new(0, &[]),
+        }
     }
 
     /// The same records, to be walked apart from these.
     pub(crate) fn iter(&self) -> Records<'a>
         ensures { result ≡ self.now }
     {
-        Records::new(self.left, self.bytes)
+        Records {
+            older_group: self.older_group,
+            group_records: self.group_records.iter(),
+        }
     }
 
-    /// The number of records that are left and their bytes.
-    pub(crate) fn parts(&self) -> (usize, &'a [u8])
-        ensures whole { IsWhole result.0 result.1.now }
-        ensures records { records_in result.0 result.1.now ≡ self.now }
+    /// The group of a report of version 1 or 2, if its record is left, and the group records that are
+    /// left of a Version 3 report.
+    pub(crate) fn parts(&self) -> (Option<Addr>, GroupRecords<'a>)
+        ensures { self.now ≡ older_records result.0 ++ result.1 }
     {
-        (self.left, self.bytes)
+        (self.older_group, self.group_records.iter())
     }
 }
 
@@ -93,12 +84,9 @@ impl<'a> Iterator for Records<'a> {
     ghost remaining = { item_count (λ left. left) };
 
     fn next(&mut self) -> Option<Record<'a>> {
-        if self.left == 0 {
-            return None;
+        match self.older_group.take() {
+            Some(group) => Some(Record::of_older_report(group)),
+            None => self.group_records.next(),
         }
-        let (record, rest) = split_record(self.bytes)?;
-        self.left -= 1;
-        self.bytes = rest;
-        Some(record)
     }
 }

@@ -62,7 +62,7 @@ fn repeated(alloc: Global, text: &str, count: usize) -> Result<String, AllocErro
 
 #[test]
 fn messages(rt: HostRuntime) -> Result<(), Fail> {
-    let cases: [(&[u8], &str); 8] = [
+    let cases: [(&[u8], &str); 12] = [
         (b"\x22\x00\xea\xf9\x00\x00\x00", "Short"),
         (
             b"\x22\x00\xea\xf8\x00\x00\x00\x01\x02\x00\x00\x00\xef\x01\x02\x03",
@@ -75,7 +75,15 @@ fn messages(rt: HostRuntime) -> Result<(), Fail> {
             "Truncated 2",
         ),
         (b"\x11\x64\xee\x9b\x00\x00\x00\x00", "type 17"),
-        (b"\x16\x00\xf8\xfa\xef\x01\x02\x03", "type 22"),
+        (b"\x17\x00\xf7\xfa\xef\x01\x02\x03", "type 23"),
+        (b"\x12\x00\xfc\xfa\xef\x01\x02\x03", "Exclude 239.1.2.3;"),
+        // A report of version 2: of 8 bytes, with a byte after them, and cut.
+        (b"\x16\x00\xf8\xfa\xef\x01\x02\x03", "Exclude 239.1.2.3;"),
+        (
+            b"\x16\x00\xf7\xfa\xef\x01\x02\x03\x01",
+            "Exclude 239.1.2.3;",
+        ),
+        (b"\x16\x00\xf8\xfd\xef\x01\x02", "Short"),
         (
             b"\x22\x00\xe9\xf9\x00\x00\x00\x01\x03\x00\x00\x00\xef\x01\x02\x03",
             "Change(3) 239.1.2.3;",
@@ -111,6 +119,11 @@ fn records_of_lists(rt: HostRuntime) -> Result<(), Fail> {
             "Unknown(7) 239.1.2.3;",
         ),
         ("1164ee9b00000000\n1700f7faef010203\n", ""),
+        // Reports of versions 1 and 2 among those of version 3.
+        (
+            "1200fcfaef010203\n2200e0f30000000102000001ef0102030a000005\n1600f8f9ef010204\n",
+            "Exclude 239.1.2.3;Exclude 239.1.2.3 10.0.0.5;Exclude 239.1.2.4;",
+        ),
         // One word of auxiliary data.
         (
             "22004d5b0000000102010000ef010203deadbeef\n",
@@ -151,8 +164,6 @@ fn faults_of_lists(rt: HostRuntime) -> Result<(), Fail> {
         ("2200eaf90000000\n", "0: BadHex"),
         ("2200eaf90000000102000000ef010203 \n", "0: BadHex"),
         ("2200eaf90000000102000000ef010203\r\n", "0: BadHex"),
-        ("1600f8faef010203\n", "0: OlderReport"),
-        ("1200fcfaef010203\n", "0: OlderReport"),
         ("2200e9f90000000103000000ef010203\n", "1: StateChange"),
         ("2200e8f90000000104000000ef010203\n", "1: StateChange"),
         ("2200e7f90000000105000000ef010203\n", "1: StateChange"),
@@ -168,7 +179,7 @@ fn faults_of_lists(rt: HostRuntime) -> Result<(), Fail> {
         ("220\n", "0: BadHex"),
         ("zz", "0: Unended"),
         // A fault on the next line too.
-        ("1600f8faef010203\nzz\n", "0: OlderReport"),
+        ("1600f8fbef010203\nzz\n", "0: BadChecksum"),
         ("2200e9f90000000103000000ef010203\nzz", "1: StateChange"),
     ];
     for (text, want) in cases {

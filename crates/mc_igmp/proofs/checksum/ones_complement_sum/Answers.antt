@@ -1,6 +1,7 @@
 use Rattle.std.proofs.Common.{◌≡◌, ◌+◌, ◌*◌, ◌%◌, ◌^◌, [], refl, ap, arith}
 use Rattle.mc_igmp.specs.Checksum.{word_sum}
-use Rattle.mc_igmp.proofs.ChecksumLemmas.{word_sum-first, word_sum-last, word_sum-none, word_front, Summed-more, Summed-all}
+use Rattle.mc_igmp.proofs.ChecksumLemmas.{word_sum-first, word_sum-last, word_sum-none, word_front}
+use Rattle.mc_igmp.proofs.ChecksumLemmas.{Summed-more, Summed-all}
 use Rattle.mc_igmp.proofs.checksum.ones_complement_sum.Goals as goal
 
 pub loop-rest-preserved : goal.loop-rest-preserved

@@ -2,9 +2,11 @@ use Rattle.std.proofs.Common.{inr, ap, ◌∙◌}
 use Rattle.hex.specs.Hex.{decode_of}
 use Rattle.mc_text.specs.LineView.{line_text}
 use Rattle.mc_igmp.specs.ReadingList.{digits_read}
-use Rattle.mc_igmp.proofs.LineLemmas.{bytes_of_line-unended, bytes_of_line-numbered, bytes_of_line-large, bytes_of_line-digits, digits_refused}
+use Rattle.mc_igmp.proofs.LineLemmas.{bytes_of_line-unended, bytes_of_line-numbered}
+use Rattle.mc_igmp.proofs.LineLemmas.{bytes_of_line-large, bytes_of_line-digits, digits_refused}
 use Rattle.mc_igmp.proofs.list.bytes_of_digits.Goals as goal
-use Rattle.mc_igmp.proofs.list.bytes_of_digits.Goals.{then-line-gt-MAX_LINES-via-then-line-gt-MAX_LINES, then-line-gt-MAX_LINES-via-else-line-gt-MAX_LINES+then-line-gt-MAX_LINE_LEN}
+use Rattle.mc_igmp.proofs.list.bytes_of_digits.Goals.{then-line-gt-MAX_LINES-via-then-line-gt-MAX_LINES}
+use Rattle.mc_igmp.proofs.list.bytes_of_digits.Goals.{then-line-gt-MAX_LINES-via-else-line-gt-MAX_LINES+then-line-gt-MAX_LINE_LEN}
 
 pub returns-then-not-line : goal.returns-then-not-line
 returns-then-not-line c = rw c.at.ensures (inr (bytes_of_line-unended (line_text c.args.line.now) c.if-not-line.true))

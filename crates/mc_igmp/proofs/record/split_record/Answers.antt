@@ -15,4 +15,4 @@ returns c =
     let count : c.read_u16.result ≡ 256 * get_or c.args.bytes.now 2 0 + get_or c.args.bytes.now 3 0 = c.read_u16.ensures ∙ word_at c.args.bytes.now 2 in
     let bytes = c.args.bytes.now in
     let sources_end = 8 + 4 * c.from.result in
-    read_record-split bytes sources_end (sources_end + 4 * c.from-2.result) c.from_type.result c.from_octets.result (omega arith) (omega arith) (omega arith) c.from_type.ensures c.from_octets.ensures.value
+    read_record-split bytes sources_end (sources_end + 4 * c.from-2.result) c.from_type.result c.group_of.result (omega arith) (omega arith) (omega arith) c.from_type.ensures c.group_of.ensures

@@ -23,6 +23,6 @@ pub returns-clause-ok : goal.returns-clause-ok
 returns-clause-ok c =
     let read = read_line-is (line_text c.args.line.now) c.deref.result.now (c.in_ok-bytes.ensures ∙ ap (λ (bytes : List ℕ). Ok bytes) (sym c.deref.ensures.value)) in
     elim c.match-branch-3.branch [
-      | in-Some+in_ok-append w ↦ (w.in-Some.records, read ∙ c.in_ok-records.ensures ∙ ap (λ (o : Option (List Record)). Ok (unwrap_or o [])) w.in-Some.is, w.self-is ∙ w.in_ok-append.ensures.ok)
+      | in-Some+in_ok-append w ↦ (w.in-Some.records, read ∙ c.in_ok-records.ensures ∙ ap (λ (o : Option (List Record)). Ok (unwrap_or o [])) w.in-Some.is, w.self-is ∙ w.in_ok-append.ensures)
       | in_default w ↦ ([], read ∙ c.in_ok-records.ensures ∙ ap (λ (o : Option (List Record)). Ok (unwrap_or o [])) w.in_default.is, w.self-is ∙ sym (append-nil c.args.self.now))
     ]

@@ -1,10 +1,12 @@
 use Rattle.std.proofs.Common.{[], Ok, refl, inl, sym}
 use Rattle.std.proofs.lemmas.Result.{err_from_is_err_and}
+use Rattle.mc_text.proofs.StepLemmas.{with_front-none}
 use Rattle.mc_text.specs.LineView.{line_text}
 use Rattle.mc_text.specs.Lines.{lines_of}
 use Rattle.mc_igmp.specs.ReadingList.{read_lines}
 use Rattle.mc_igmp.proofs.RecordsLemmas.{records_in-none, after_records-none}
-use Rattle.mc_igmp.proofs.ListLemmas.{IsAnswer, with_front-none, lines_go_on, read_list-large, list_read, list_refused, read_list-found, answer_only}
+use Rattle.mc_igmp.proofs.ListLemmas.{IsAnswer, lines_go_on, read_list-large}
+use Rattle.mc_igmp.proofs.ListLemmas.{list_read, list_refused, read_list-found, answer_only}
 use Rattle.mc_igmp.proofs.list.ReportList.read.Goals as goal
 use Rattle.mc_igmp.proofs.list.ReportList.read.Goals.{After-drop-list-inside}
 

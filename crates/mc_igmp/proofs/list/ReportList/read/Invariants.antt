@@ -1,7 +1,7 @@
 use Rattle.std.proofs.Common.{◌≡◌}
 use Rattle.mc_text.specs.Lines.{lines_of}
 use Rattle.mc_igmp.specs.ReadingList.{read_lines}
-use Rattle.mc_igmp.proofs.ListLemmas.{with_front}
+use Rattle.mc_text.proofs.StepLemmas.{with_front}
 use Rattle.mc_igmp.proofs.list.ReportList.read.Given as goal
 
 abbrev pub invariant-loop-line : goal.invariant-loop-line

@@ -1,8 +1,9 @@
 use Rattle.std.proofs.Common.{◌≡◌, ℕ, ◌-◌, Some, None, length, sym, ap, ◌∙◌, arith}
 use Rattle.mc_igmp.specs.Record.{read_record}
 use Rattle.mc_igmp.specs.Records.{records_in}
-use Rattle.mc_igmp.proofs.RecordsLemmas.{records_in-none, records_in-cut, records_in-first, IsWhole-rest}
-use Rattle.mc_igmp.proofs.records.RecordsIterator.next.Goals as goal
+use Rattle.mc_igmp.proofs.RecordsLemmas.{records_in-none, records_in-cut, records_in-first}
+use Rattle.mc_igmp.proofs.RecordsLemmas.{IsWhole-rest}
+use Rattle.mc_igmp.proofs.group_records.GroupRecordsIterator.next.Goals as goal
 
 pub returns-then-self-eq0-clause-steps : goal.returns-then-self-eq0-clause-steps
 returns-then-self-eq0-clause-steps c =

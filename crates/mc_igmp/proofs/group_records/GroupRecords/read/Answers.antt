@@ -1,6 +1,6 @@
 use Rattle.std.proofs.Common.{arith}
 use Rattle.mc_igmp.proofs.RecordsLemmas.{records_cut, after_records-length}
-use Rattle.mc_igmp.proofs.records.Records.read.Goals as goal
+use Rattle.mc_igmp.proofs.group_records.GroupRecords.read.Goals as goal
 
 pub slice_bounds-own-count : goal.slice_bounds-own-count
 slice_bounds-own-count c = after_records-length c.args.count c.args.bytes.now c.in_ok-ignored.ignored.now (λ i. omega (arith, c.type_inv.bytes i)) c.in_ok-ignored.ensures

@@ -1,7 +1,7 @@
 use Rattle.std.proofs.Common.{◌≡◌, ◌+◌, ◌-◌, Err, sym, ◌∙◌, arith}
 use Rattle.mc_igmp.specs.Records.{after_records}
 use Rattle.mc_igmp.proofs.RecordsLemmas.{after_records-cut, after_records-first, after_records-none}
-use Rattle.mc_igmp.proofs.records.after_records_of.Goals as goal
+use Rattle.mc_igmp.proofs.group_records.after_records_of.Goals as goal
 
 pub returns-in-None : goal.returns-in-None
 returns-in-None c =

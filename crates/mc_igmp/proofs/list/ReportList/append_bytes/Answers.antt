@@ -1,0 +1,18 @@
+use Rattle.std.proofs.Common.{[], length, ap, arith}
+use Rattle.std.proofs.lemmas.List.{length-append}
+use Rattle.mc_igmp.proofs.RecordsLemmas.{IsWhole-append, records_in-append, records-length}
+use Rattle.mc_igmp.proofs.list.ReportList.append_bytes.Goals as goal
+
+pub overflow_add-self : goal.overflow_add-self
+overflow_add-self c =
+    let kept = records-length 1 c.self.inside.count c.self.inside.bytes.items [] c.self.invariant in
+    let added = records-length 1 c.args.count c.args.bytes.now [] c.requires in
+    omega (arith, kept, added, c.extend_from_slice.new.self.ok, c.extend_from_slice.new.self.small, ap length c.in_ok-extend_from_slice.ensures.items, length-append c.self.inside.bytes.items c.args.bytes.now)
+
+pub invariant_of-self-2 : goal.invariant_of-self-2
+invariant_of-self-2 c =
+    rw c.in_ok-extend_from_slice.ensures.items (IsWhole-append c.self.inside.count c.args.count c.self.inside.bytes.items c.args.bytes.now c.self.invariant c.requires)
+
+pub returns : goal.returns
+returns c =
+    rw (c.in_ok-extend_from_slice.ensures.items, ← c.self.view_is) (records_in-append c.self.inside.count c.args.count c.self.inside.bytes.items c.args.bytes.now c.self.invariant)

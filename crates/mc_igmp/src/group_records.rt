@@ -1,0 +1,104 @@
+//! Group records one after another, as a Version 3 report and a list keep them.
+
+ghost use Rattle.std.specs.Prelude.{◌≡◌, ℕ, List, MatchResult};
+ghost use Rattle.mc_igmp.specs.Records.{records_in, after_records, IsWhole};
+
+use crate::record::{Record, split_record};
+use std::marker::Model;
+
+/// Group records, from the first. Its value in contracts is the list of those that are left.
+#[derive(Debug, Drop)]
+pub(crate) struct GroupRecords<'a> {
+    left: usize,
+    bytes: &'a [u8],
+}
+
+impl<'a> Model for GroupRecords<'a> {
+    ghost use Rattle.std.specs.Prelude.{List};
+    ghost use Rattle.mc_igmp.specs.declared.record.Record.{Record};
+    ghost use Rattle.mc_igmp.specs.Records.{records_in, IsWhole};
+
+    ghost Value = { List Record };
+
+    ghost view = { λ s. records_in s.left s.bytes.now };
+
+    ghost invariant = { λ s. IsWhole s.left s.bytes.now };
+}
+
+/// The bytes after so many records, or the number of the first, counted from 1, that doesn't end
+/// within the bytes.
+fn after_records_of(count: u16, bytes: &[u8]) -> Result<&[u8], u32>
+    ensures { MatchResult result
+        (λ rest. after_records 1 count bytes.now ≡ Ok rest.now)
+        (λ number. after_records 1 count bytes.now ≡ Err number) }
+{
+    let mut rest = bytes;
+    for index in 0..count {
+        match split_record(rest) {
+            Some((_, after)) => rest = after,
+            None => return Err(u32::from(index) + 1),
+        }
+    }
+    Ok(rest)
+}
+
+impl<'a> GroupRecords<'a> {
+    /// The first `count` records of the bytes, or the number of the first, counted from 1, that doesn't
+    /// end within them.
+    pub(crate) fn read(count: u16, bytes: &'a [u8]) -> Result<GroupRecords<'a>, u32>
+        ensures { MatchResult result
+            (λ records. (ignored : List ℕ) ×
+            (after_records 1 count bytes.now ≡ Ok ignored) × (records ≡ records_in count bytes.now))
+            (λ number. after_records 1 count bytes.now ≡ Err number) }
+    {
+        let ignored = after_records_of(count, bytes)?;
+        let own = &bytes[..bytes.len() - ignored.len()];
+        Ok(GroupRecords {
+            left: usize::from(count),
+            bytes: own,
+        })
+    }
+
+    /// So many records that follow one another and end with the bytes.
+    pub(crate) fn new(count: usize, bytes: &'a [u8]) -> GroupRecords<'a>
+        requires { IsWhole count bytes.now }
+        ensures { result ≡ records_in count bytes.now }
+    {
+        GroupRecords { left: count, bytes }
+    }
+
+    /// The same records, to be walked apart from these.
+    pub(crate) fn iter(&self) -> GroupRecords<'a>
+        ensures { result ≡ self.now }
+    {
+        GroupRecords::new(self.left, self.bytes)
+    }
+
+    /// The number of records that are left and their bytes.
+    pub(crate) fn parts(&self) -> (usize, &'a [u8])
+        ensures whole { IsWhole result.0 result.1.now }
+        ensures records { records_in result.0 result.1.now ≡ self.now }
+    {
+        (self.left, self.bytes)
+    }
+}
+
+impl<'a> Iterator for GroupRecords<'a> {
+    type Item = Record<'a>;
+
+    ghost use Rattle.std.specs.Iterator.{YieldsFirst, item_count};
+
+    ghost next_gives = { YieldsFirst (λ left. left) };
+
+    ghost remaining = { item_count (λ left. left) };
+
+    fn next(&mut self) -> Option<Record<'a>> {
+        if self.left == 0 {
+            return None;
+        }
+        let (record, rest) = split_record(self.bytes)?;
+        self.left -= 1;
+        self.bytes = rest;
+        Some(record)
+    }
+}

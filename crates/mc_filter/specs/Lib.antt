@@ -1,4 +1,5 @@
 pub mod SourceFilter
 pub mod Merged
 pub mod Addresses
+pub mod Gathering
 pub use Rattle.mc_igmp.specs.Wants

@@ -1,13 +1,13 @@
 //! A source filter.
 
-ghost use Rattle.std.specs.Prelude.{◌≡◌, ◌⊎◌, ◌↔◌, ◌++◌, ◌||◌, ℕ, Bool, List, [], IsTrue, IsOk, OnOk, OnErr};
+ghost use Rattle.std.specs.Prelude.{◌≡◌, ◌⊎◌, ◌↔◌, ◌||◌, ℕ, IsTrue, IsOk, OnOk, OnErr};
 ghost use Rattle.std.specs.List.Sorted.{IsStrictlyIncreasing};
 ghost use Rattle.mc_igmp.specs.declared.record.Kind.TheVariants as kind;
 ghost use Rattle.mc_igmp.specs.Wants.{Admits};
-ghost use Rattle.mc_filter.specs.Addresses.{has, in_parts};
+ghost use Rattle.mc_filter.specs.Addresses.{has};
 ghost use Rattle.mc_filter.specs.SourceFilter.{FilterAdmits, TellsNoFilter, include_nothing, admits, admits_by};
 
-use crate::addresses::{Parts, append, make_ascending, parts_of};
+use crate::addresses::{append, is_listed, keep_common, make_ascending, take_away};
 use mc_igmp::{Kind, Record};
 use mc_text::{Addr, Memory};
 use std::alloc::Global;
@@ -20,21 +20,6 @@ pub enum Mode {
     Include,
     /// All sources but those in the list are wanted.
     Exclude,
-}
-
-/// The mode of what two filters merge to, and the parts of their two lists that make its list.
-fn merged(mode: Mode, other: Mode) -> (Mode, Parts)
-    ensures mode { (result.0 ≡ Mode.Exclude) ↔ ((mode ≡ Mode.Exclude) ⊎ (other ≡ Mode.Exclude)) }
-    ensures admits { (listed other_listed : Bool) →
-        admits_by result.0 (in_parts result.1 listed other_listed) ≡
-        (admits_by mode listed || admits_by other other_listed) }
-{
-    match (mode, other) {
-        (Mode::Include, Mode::Include) => (Mode::Include, Parts::ALL),
-        (Mode::Include, Mode::Exclude) => (Mode::Exclude, Parts::SECOND_ONLY),
-        (Mode::Exclude, Mode::Include) => (Mode::Exclude, Parts::FIRST_ONLY),
-        (Mode::Exclude, Mode::Exclude) => (Mode::Exclude, Parts::BOTH),
-    }
 }
 
 /// A mode and a list of sources, which is ascending and has none twice. Its value in contracts is the two.
@@ -97,11 +82,29 @@ impl Filter {
         ensures err { OnErr result (self.new ≡ self.old) }
         ensures ascending { IsStrictlyIncreasing self.new.sources }
     {
-        make_ascending(&mut listed);
-        let (mode, parts) = merged(self.mode, mode);
-        let alloc = *self.sources.allocator();
-        let sources = parts_of(alloc, &self.sources, &listed, parts)?;
-        *self = Filter { mode, sources };
+        match (self.mode, mode) {
+            (Mode::Include, Mode::Include) => {
+                listed.extend_from_slice(&self.sources)?;
+                make_ascending(&mut listed);
+                self.sources = listed;
+            }
+            (Mode::Include, Mode::Exclude) => {
+                make_ascending(&mut listed);
+                take_away(&mut listed, &self.sources);
+                *self = Filter {
+                    mode,
+                    sources: listed,
+                };
+            }
+            (Mode::Exclude, Mode::Include) => {
+                make_ascending(&mut listed);
+                take_away(&mut self.sources, &listed);
+            }
+            (Mode::Exclude, Mode::Exclude) => {
+                make_ascending(&mut listed);
+                keep_common(&mut self.sources, &listed);
+            }
+        }
         Ok(())
     }
 
@@ -124,7 +127,7 @@ impl Filter {
     pub fn admits(&self, source: Addr) -> bool
         ensures { IsTrue result ↔ FilterAdmits self.now source }
     {
-        let is_listed = self.sources.binary_search(&source).is_ok();
+        let is_listed = is_listed(&self.sources, source);
         match self.mode {
             Mode::Include => is_listed,
             Mode::Exclude => !is_listed,

@@ -6,7 +6,7 @@ use Rattle.mc_filter.proofs.filter.Filter.merge.Goals.{in-Include, in-Exclude}
 
 pub returns-clause-admits : goal.returns-clause-admits
 returns-clause-admits c =
-    let listed : c.append.new.addresses.items ≡ c.args.group_record.now.sources = rw c.new-listed.ensures.items at c.in_ok-append.ensures.ok in
+    let listed : c.append.new.addresses.items ≡ c.args.group_record.now.sources = rw c.new-listed.ensures.items at c.in_ok-append.ensures in
     let told : IsModeOf c.match-group_record.mode c.args.group_record.now.kind =
     elim c.match-group_record.branch [ in-Include w ↦ inl (w.mode-is, w.in-Include.is) | in-Exclude w ↦ inr (w.mode-is, w.in-Exclude.is) ] in
     on_ok_weaker c.merge_list.result

@@ -28,7 +28,6 @@ use Rattle.mc_tables.proofs.AddressLemmas.{address_found, address_only}
 use Rattle.mc_tables.proofs.KeyLemmas.{distinct_grows, distinct_follows}
 use Rattle.mc_tables.proofs.RowLemmas.{lines_found, lines_only, ReadsRows, rows_told, rows_read}
 use Rattle.mc_tables.proofs.OifLemmas.{oifs_found, oifs_only}
-use Rattle.mc_tables.proofs.EntryLemmas.{HaveEntries, rows_stand}
 
 -- ---- the incoming vif and the outgoing ones
 
@@ -182,9 +181,3 @@ cache_only order text table h = rw (of_rows order text h.rows h.lines) (ap Ok (s
 pub read_is_found : (order : Order) (text : List ℕ) (read : Result CacheText TableFault) → ((read ≡ Err out_of_memory → ⊥) → read ≡ cache_in order text) → IfOk read (StandsForCache order text)
 read_is_found order text (Ok table) exact = cache_found order text table (sym (exact (λ e. absurd cc)))
 read_is_found order text (Err fault) exact = tt
-
--- the entries of rows that were read are as lines write them
-pub lines_have_entries : (order : Order) (lines : List LineText) (rows : List RowText) → rows_after (row_at order) [] lines ≡ Ok rows → HaveEntries rows
-lines_have_entries order lines rows e =
-    let t = rows_told (row_at order) (LineTellsRow order) MayFollow MayStand (reads_rows order) lines [] rows nothing_stands e in
-    subst HaveEntries t.1 (rows_stand order lines t.0 t.2)

@@ -1,6 +1,6 @@
 -- The look-ups of a cache answer by its table.
 use Rattle.std.proofs.Common.{◌≡◌, ℕ, Bool, true, false, ltb, arith, List, [], ◌∷◌, Option, Some, None, Bor, refl, sym, ap, ◌∙◌, inl, inr}
-use Rattle.std.specs.Prelude.{nat_eq, ◌||◌, is_some}
+use Rattle.std.specs.Prelude.{nat_eq, is_some, if◌then◌else◌}
 use Rattle.std.specs.Option.{option_map, option_copied}
 use Rattle.std.specs.List.{filter_map, cons_option, list_any}
 use Rattle.std.specs.Ordering.{nat_cmp, eq_by_cmp}
@@ -11,16 +11,14 @@ use Rattle.std.proofs.lemmas.Bool.{cases_Bool, lt-ltb, eqb-false}
 use Rattle.std.proofs.lemmas.Cmp.{nat_cmp_total, nat_eq_equiv}
 use Rattle.mc_tables.specs.declared.entry.Entry.{Entry}
 use Rattle.mc_tables.specs.CacheTable.{RowText, key_cmp, same_key, exact_entry, key_of}
-use Rattle.mc_tables.specs.RowLookups.{entry_of_key, entry_at}
 
--- a reference to an entry is there where the entry is
-pub is_some-copied : (o : Option (Bor Entry)) → is_some (option_copied o) ≡ is_some o
-is_some-copied None = refl
-is_some-copied (Some entry) = refl
+-- the entry, if it is this key's
+abbrev entry_of_key : ℕ × ℕ → Option ((ℕ × ℕ) × Entry) → Option Entry
+entry_of_key key None = None
+entry_of_key key (Some exact) = if same_key key exact.0 then Some exact.1 else None
 
-pub none_copied : (o : Option (Bor Entry)) → option_copied o ≡ None → o ≡ None
-none_copied None e = refl
-none_copied (Some entry) e = absurd cc
+abbrev entry_at : ℕ × ℕ → RowText → Option Entry
+entry_at key row = entry_of_key key (exact_entry row)
 
 -- a row that has no entry for the key is passed over
 skip_entry : (key : ℕ × ℕ) (o : Option ((ℕ × ℕ) × Entry)) (rest : List ((ℕ × ℕ) × Entry)) → entry_of_key key o ≡ None → map.find key_cmp key (cons_option o rest) ≡ map.find key_cmp key rest
@@ -28,16 +26,8 @@ skip_entry key None rest e = refl
 skip_entry key (Some exact) rest e =
     elim (cases_Bool (same_key key exact.0)) [ inl is ↦ absurd (let wrong = rw is at e in cc) | inr other ↦ rw other refl ]
 
-take_entry : (key : ℕ × ℕ) (o : Option ((ℕ × ℕ) × Entry)) (rest : List ((ℕ × ℕ) × Entry)) (entry : Entry) → entry_of_key key o ≡ Some entry → map.find key_cmp key (cons_option o rest) ≡ Some entry
-take_entry key None rest entry e = absurd cc
-take_entry key (Some exact) rest entry e =
-    elim (cases_Bool (same_key key exact.0)) [ inl is ↦ rw is (rw is at e) | inr other ↦ absurd (let wrong = rw other at e in cc) ]
-
-pub skip_row : (key : ℕ × ℕ) (row : RowText) (rows : List RowText) → entry_at key row ≡ None → map.find key_cmp key (filter_map exact_entry (row ∷ rows)) ≡ map.find key_cmp key (filter_map exact_entry rows)
+skip_row : (key : ℕ × ℕ) (row : RowText) (rows : List RowText) → entry_at key row ≡ None → map.find key_cmp key (filter_map exact_entry (row ∷ rows)) ≡ map.find key_cmp key (filter_map exact_entry rows)
 skip_row key row rows e = skip_entry key (exact_entry row) (filter_map exact_entry rows) e
-
-pub take_row : (key : ℕ × ℕ) (row : RowText) (rows : List RowText) (entry : Entry) → entry_at key row ≡ Some entry → map.find key_cmp key (filter_map exact_entry (row ∷ rows)) ≡ Some entry
-take_row key row rows entry e = take_entry key (exact_entry row) (filter_map exact_entry rows) entry e
 
 -- a row's key is among the keys where the rows have an entry for it
 key_of_entry : (key : ℕ × ℕ) (o : Option ((ℕ × ℕ) × Entry)) (entries : List ((ℕ × ℕ) × Entry)) (keys : List (ℕ × ℕ)) → is_some (map.find key_cmp key entries) ≡ list_any (same_key key) keys
@@ -71,21 +61,3 @@ row_without group row =
 pub zero_absent : (group : ℕ) (rows : List RowText) → map.find key_cmp (0, group) (filter_map exact_entry rows) ≡ None
 zero_absent group [] = refl
 zero_absent group (row ∷ rows) = skip_row (0, group) row rows (row_without group row) ∙ zero_absent group rows
-
--- ---- wildcards
-
-swap : (a b c d : Bool) → ((a || b) || (c || d)) ≡ ((a || c) || (b || d))
-swap true b c d = refl
-swap false true true d = refl
-swap false true false d = refl
-swap false false c d = refl
-
-either_group : (group : ℕ) (groups : List ℕ) → list_any (λ g. nat_eq g group || nat_eq g 0) groups ≡ (list_any (eq_by_cmp nat_cmp group) groups || list_any (eq_by_cmp nat_cmp 0) groups)
-either_group group [] = refl
-either_group group (g ∷ groups) =
-    rw (unsigned_tied group g, unsigned_tied 0 g, nat_eq_equiv.symm g group, nat_eq_equiv.symm g 0, either_group group groups)
-    (swap (nat_eq group g) (nat_eq 0 g) (list_any (eq_by_cmp nat_cmp group) groups) (list_any (eq_by_cmp nat_cmp 0) groups))
-
-pub wildcard_is : (group : ℕ) (groups : List ℕ) → list_any (λ g. nat_eq g group || nat_eq g 0) groups ≡ (set.contains (set.from_list {R = nat_cmp} groups) group || set.contains (set.from_list {R = nat_cmp} groups) 0)
-wildcard_is group groups =
-    either_group group groups ∙ sym (ap (λ b. b || set.contains (set.from_list {R = nat_cmp} groups) 0) (set.contains-from_list nat_cmp_total groups group) ∙ ap (λ b. list_any (eq_by_cmp nat_cmp group) groups || b) (set.contains-from_list nat_cmp_total groups 0))

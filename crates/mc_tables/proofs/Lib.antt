@@ -12,4 +12,7 @@ pub mod OifLemmas
 pub mod EntryLemmas
 pub mod CacheLemmas
 pub mod CacheLookupLemmas
+pub mod CacheMapLemmas
+pub mod CacheStepLemmas
+pub mod RuleLemmas
 pub mod LawLemmas

@@ -1,6 +1,6 @@
 -- What a text of /proc/net/ip_mr_cache says (ipmr_mfc_seq_show in net/ipv4/ipmr.c, which writes a line by
 -- "%08X %08X %-3hd", " %8lu %8lu %8lu" and for each outgoing vif " %2d:%-3d").
-use Rattle.std.specs.Prelude.{◌≡◌, ℕ, ◌≤◌, ◌==◌, nat_eq, Bool, IsTrue, List, [], ◌∷◌, ◌++◌, length, map as map_list, Option, Some, None, if◌then◌else◌, codes, refl}
+use Rattle.std.specs.Prelude.{◌≡◌, ℕ, ◌≤◌, ◌==◌, nat_eq, Bool, IsTrue, List, [], ◌∷◌, ◌++◌, length, map as map_list, Option, Some, None, if◌then◌else◌, IfSome, codes, refl}
 use Rattle.std.specs.List.{IsDistinct, AllByRecursion, filter_map}
 use Rattle.std.specs.List.Sorted.{IsStrictlyIncreasing}
 use Rattle.std.specs.Option.{option_map}
@@ -116,6 +116,12 @@ pub record IsEntry (entry : Entry) : Type 0 where
   pub ascending : IsStrictlyIncreasing (map_list (λ oif. oif.vif) entry.oifs)
   pub ranges : AllByRecursion
       (λ oif. (oif.vif ≤ 31) × (1 ≤ oif.threshold) × (oif.threshold ≤ 254)) entry.oifs
+
+-- What every table keeps, whatever text it was read from: each entry stands as above, and none is for the source
+-- 0.0.0.0.
+pub record IsCache (table : CacheText) : Type 0 where
+  pub entries : (key : ℕ × ℕ) → IfSome (map.get table.entries key) IsEntry
+  pub sources : (group : ℕ) → map.get table.entries (0, group) ≡ None
 
 -- a text stands for a table
 pub record StandsForCache (order : Order) (text : List ℕ) (table : CacheText) : Type 0 where

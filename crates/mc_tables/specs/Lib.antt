@@ -9,7 +9,7 @@ pub mod VifLookups
 pub mod CacheTable
 pub mod CacheReading
 pub mod OutgoingSteps
-pub mod RowLookups
+pub mod CacheSteps
 pub mod CacheWords
 pub use Rattle.mc_text.specs.Addr
 pub use Rattle.mc_text.specs.DeviceName

@@ -1,14 +1,21 @@
 -- What the look-ups of a vif table answer.
-use Rattle.std.specs.Prelude.{◌≡◌, ℕ, List, find, Option, IsSomeAnd}
+use Rattle.std.specs.Prelude.{◌≡◌, ◌≢◌, ◌≤◌, ℕ, List, find, Option, IsSome, IsSomeAnd}
 use Rattle.std.specs.Option.{option_map}
 use Rattle.std.specs.Ordering.{nat_cmp}
 use Rattle.std.specs.Str.{bytes_eq}
 use Rattle.std.specs.FinMap.{FinMap, get}
-use Rattle.mc_tables.specs.VifTable.{VifText}
+use Rattle.mc_tables.specs.VifTable.{VifText, no_device}
 
 -- the vif of this index has this device
 abbrev pub HasDevice : FinMap nat_cmp VifText → ℕ → List ℕ → Type 0
 HasDevice vifs index device = IsSomeAnd (get vifs index) (λ vif. vif.device ≡ device)
+
+-- What every table keeps, whatever text it was read from: indexes are 0 to 31, and two vifs have one device only
+-- where it is `none`.
+pub record IsVifTable (vifs : FinMap nat_cmp VifText) : Type 0 where
+  pub numbered : (index : ℕ) → IsSome (get vifs index) → index ≤ 31
+  pub devices_differ : (device : List ℕ) (i j : ℕ) → device ≢ no_device →
+      HasDevice vifs i device → HasDevice vifs j device → i ≡ j
 
 -- the index of the first row with this device
 abbrev pub first_index_with : List ℕ → List (ℕ × VifText) → Option ℕ

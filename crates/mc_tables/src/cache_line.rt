@@ -73,7 +73,11 @@ fn row_of_words(
     check_counter(first.bytes)?;
     check_counter(first.wrong)?;
     let entry = entry_of_words(alloc, iif, outgoing)?;
-    Ok(CacheRow::new(group, origin, entry))
+    Ok(CacheRow {
+        group,
+        origin,
+        entry,
+    })
 }
 
 fn address(word: &[u8], order: Order) -> Result<Addr, TableFaultKind>

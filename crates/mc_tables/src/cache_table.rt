@@ -1,19 +1,19 @@
 //! The forwarding cache, `/proc/net/ip_mr_cache`.
 
-ghost use Rattle.std.specs.Prelude.{◌≡◌, ◌≢◌, ◌==◌, ◌||◌, [], IfOk, IfErr, IfSome, Ok, Err, None};
+ghost use Rattle.std.specs.Prelude.{◌≡◌, ◌≢◌, ◌<◌, ◌||◌, [], OnOk, IfOk, IfErr, IfSome, Ok, Err, None};
 ghost use Rattle.std.specs.Option.{option_copied};
-ghost use Rattle.std.specs.List.{list_any, filter_map};
 ghost use Rattle.std.specs.FinMap as map;
 ghost use Rattle.std.specs.FinSet as set;
 ghost use Rattle.mc_text.specs.LineView.{line_text};
 ghost use Rattle.mc_tables.specs.declared.fault.TableFaultKind.TheVariants.{Memory};
 ghost use Rattle.mc_tables.specs.Memory.{out_of_memory};
-ghost use Rattle.mc_tables.specs.TableLines.{rows_after};
-ghost use Rattle.mc_tables.specs.CacheTable.{CacheText, IsEntry, StandsForCache, key_cmp, exact_entry, wildcard_of};
-ghost use Rattle.mc_tables.specs.CacheReading.{entry_repeats, row_in_line, row_at, cache_in};
+ghost use Rattle.mc_tables.specs.CacheTable.{CacheText, IsEntry, IsCache, StandsForCache, table_of};
+ghost use Rattle.mc_tables.specs.CacheReading.{cache_in};
+ghost use Rattle.mc_tables.specs.CacheSteps.{row_with_room, line_added, table_after};
 
 use crate::cache_line::row_of_line;
-use crate::cache_row::{CacheRow, is_unspecified};
+use crate::cache_row::CacheRow;
+use crate::cache_rows::CacheRows;
 use crate::entry::Entry;
 use crate::fault::{TableFault, TableFaultKind};
 use crate::table_lines::lines_after_header;
@@ -27,22 +27,19 @@ const MAX_ROWS: usize = 65_536;
 /// Where a router forwards the packets of each source to each group.
 #[derive(Debug, Drop)]
 pub struct CacheTable {
-    rows: Vec<CacheRow>,
+    rows: CacheRows,
 }
 
 impl Model for CacheTable {
-    ghost use Rattle.std.specs.Prelude.{IfSome};
-    ghost use Rattle.std.specs.List.{AllByRecursion};
-    ghost use Rattle.mc_tables.specs.CacheTable.{CacheText, IsEntry, cache_code, table_of};
+    ghost use Rattle.mc_tables.specs.CacheTable.{CacheText, IsCache, cache_code};
 
     ghost Value = { CacheText };
 
     ghost coded = { cache_code };
 
-    ghost view = { λ table. table_of table.rows.items };
+    ghost view = { λ table. table.rows };
 
-    ghost invariant = { λ table.
-        AllByRecursion (λ row. IfSome row.entry IsEntry) table.rows.items };
+    ghost invariant = { λ table. IsCache table.rows };
 }
 
 impl CacheTable {
@@ -70,8 +67,7 @@ impl CacheTable {
     fn from_text(alloc: Global, text: &[u8], order: Order) -> Result<CacheTable, TableFault>
         ensures { result ≢ Err out_of_memory → result ≡ cache_in order text.now }
     {
-        let lines = lines_after_header(text, b"Group")?;
-        let rows = rows_of_lines(alloc, lines, order)?;
+        let rows = rows_of_text(alloc, text, order)?;
         Ok(CacheTable { rows })
     }
 
@@ -80,97 +76,73 @@ impl CacheTable {
         ensures entry { option_copied result ≡ map.get self.now.entries (source, group) }
         ensures stands { IfSome result (λ entry. IsEntry entry.now) }
         ensures unspecified { source ≡ 0 → result ≡ None }
+        ensures rules { IsCache self.now }
     {
-        entry_of(self.rows.as_slice(), &(source, group))
+        self.rows.exact(source, group)
     }
 
     /// Whether a resolved row of source 0.0.0.0 has this group or the group 0.0.0.0.
     pub fn wildcard(&self, group: Addr) -> bool
-        ensures { result ≡
+        ensures found { result ≡
             (set.contains self.now.wildcards group || set.contains self.now.wildcards 0) }
+        ensures rules { IsCache self.now }
     {
-        has_wildcard(self.rows.as_slice(), group)
+        self.rows.wildcard(group)
     }
 }
 
-fn rows_of_lines(alloc: Global, lines: Lines<'_>, order: Order) -> Result<Vec<CacheRow>, TableFault>
-    ensures found { IfOk result (λ rows. rows_after (row_at order) [] lines.entry ≡ Ok rows.items) }
-    ensures fault { IfErr result (λ fault. fault ≢ out_of_memory →
-        rows_after (row_at order) [] lines.entry ≡ Err fault) }
+fn rows_of_text(alloc: Global, text: &[u8], order: Order) -> Result<CacheRows, TableFault>
+    ensures { result ≢ Err out_of_memory → result ≡ cache_in order text.now }
 {
-    let mut rows = Vec::new(alloc);
+    let lines = lines_after_header(text, b"Group")?;
+    rows_of_lines(alloc, lines, order)
+}
+
+fn rows_of_lines(alloc: Global, lines: Lines<'_>, order: Order) -> Result<CacheRows, TableFault>
+    ensures { result ≢ Err out_of_memory →
+        result ≡ table_after order 0 (table_of []) lines.entry }
+{
+    let mut rows = CacheRows::new(alloc);
+    let mut count = 0usize;
     for line in lines {
-        let row = next_row(alloc, rows.as_slice(), &line, order)?;
-        rows.push(row)?;
+        add_line(alloc, &mut rows, count, &line, order).map_err(|kind| kind.at(line.number))?;
+        count += 1;
     }
     Ok(rows)
 }
 
-/// Reads a line after the earlier rows.
-fn next_row(
+/// Adds the row of a line to so many rows.
+fn add_line(
     alloc: Global,
-    earlier: &[CacheRow],
+    rows: &mut CacheRows,
+    count: usize,
     line: &Line<'_>,
     order: Order,
-) -> Result<CacheRow, TableFault>
-    ensures { result ≢ Err out_of_memory → result ≡ row_at order earlier.now (line_text line.now) }
+) -> Result<(), TableFaultKind>
+    ensures room { OnOk result (count < 65536) }
+    ensures added { OnOk result (line_added order count rows.old (line_text line.now) ≡ Ok rows.new) }
+    ensures fault { IfErr result (λ fault. fault ≢ Memory →
+        line_added order count rows.old (line_text line.now) ≡ Err fault) }
 {
-    match new_row(alloc, earlier, line, order) {
-        Ok(row) => Ok(row),
-        Err(TableFaultKind::Memory) => Err(TableFaultKind::Memory.at(0)),
-        Err(kind) => Err(kind.at(line.number)),
-    }
+    let row = row_with_room(alloc, count, line, order)?;
+    rows.add(row)
 }
 
-#[tactic(auto, unfolding(crate::specs::CacheReading::row_in_line))]
-fn new_row(
+/// Reads the row of a line after so many others.
+fn row_with_room(
     alloc: Global,
-    earlier: &[CacheRow],
+    count: usize,
     line: &Line<'_>,
     order: Order,
 ) -> Result<CacheRow, TableFaultKind>
-    ensures { result ≢ Err Memory → result ≡ row_in_line order earlier.now (line_text line.now) }
+    ensures room { OnOk result (count < 65536) }
+    ensures row { result ≢ Err Memory → result ≡ row_with_room order count (line_text line.now) }
 {
     if !line.ended {
         return Err(TableFaultKind::Unended);
     }
-    if earlier.len() >= MAX_ROWS {
+    if count >= MAX_ROWS {
         return Err(TableFaultKind::TooLarge);
     }
-    let row = row_of_line(alloc, line.bytes, order)?;
-    if repeats_entry(earlier, &row) {
-        return Err(TableFaultKind::RepeatedEntry);
-    }
-    Ok(row)
-}
-
-fn repeats_entry(earlier: &[CacheRow], row: &CacheRow) -> bool
-    ensures { result ≡ entry_repeats earlier.now row.now }
-{
-    match row.key() {
-        Some(key) => entry_of(earlier, &key).is_some(),
-        None => false,
-    }
-}
-
-/// The entry of a source and a group.
-#[tactic(auto, using(crate::proofs::CacheLookupLemmas::skip_row, crate::proofs::CacheLookupLemmas::take_row))]
-fn entry_of<'a>(rows: &'a [CacheRow], key: &(Addr, Addr)) -> Option<&'a Entry>
-    ensures { option_copied result ≡ map.find key_cmp key.now (filter_map exact_entry rows.now) }
-{
-    for row in rows {
-        if let Some(entry) = row.entry_for(key.0, key.1) {
-            return Some(entry);
-        }
-    }
-    None
-}
-
-fn has_wildcard(rows: &[CacheRow], group: Addr) -> bool
-    ensures { result ≡
-        list_any (λ wildcard. (wildcard == group) || (wildcard == 0)) (filter_map wildcard_of rows.now) }
-{
-    rows.iter()
-        .filter_map(|row| row.wildcard())
-        .any(|wildcard| wildcard == group || is_unspecified(wildcard))
+    row_of_line(alloc, line.bytes, order)
 }

@@ -2,7 +2,7 @@
 
 ghost use Rattle.std.specs.Prelude.{◌≡◌};
 ghost use Rattle.mc_tables.specs.declared.fault.TableFaultKind.TheVariants.{Memory};
-ghost use Rattle.mc_tables.specs.Memory.{out_of_memory};
+ghost use Rattle.mc_tables.specs.Memory.{out_of_memory, fault_at};
 
 use std::alloc::{AllocError, AllocFailed};
 use thiserror::Error;
@@ -10,7 +10,7 @@ use thiserror::Error;
 /// What is wrong with a table.
 #[derive(Clone, Copy, Debug, PartialEq, Eq, Error)]
 pub enum TableFaultKind {
-    /// (1) The first line's first word isn't the table's.
+    /// (1) The first line's first word isn't the table's, or the text is empty.
     #[error("NoHeader")]
     NoHeader,
     /// (2) No line feed ends the line.
@@ -65,12 +65,17 @@ pub enum TableFaultKind {
 }
 
 impl TableFaultKind {
-    /// The fault of this kind at a line.
+    /// The fault of this kind at a line. Want of memory has no line.
     pub(crate) fn at(self, line: u32) -> TableFault
-        ensures line { result.line ≡ line }
-        ensures kind { result.kind ≡ self }
+        ensures { result ≡ fault_at line self }
     {
-        TableFault { line, kind: self }
+        match self {
+            TableFaultKind::Memory => TableFault {
+                line: 0,
+                kind: TableFaultKind::Memory,
+            },
+            kind => TableFault { line, kind },
+        }
     }
 }
 

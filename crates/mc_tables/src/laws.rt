@@ -5,8 +5,8 @@ ghost use Rattle.std.specs.Ordering.{nat_cmp};
 ghost use Rattle.std.specs.FinMap.{FinMap, get};
 ghost use Rattle.mc_text.specs.declared.addr.Order.{Order};
 ghost use Rattle.mc_tables.specs.VifTable.{VifText, no_device, StandsForVifs};
-ghost use Rattle.mc_tables.specs.VifLookups.{HasDevice};
-ghost use Rattle.mc_tables.specs.CacheTable.{CacheText, IsEntry, StandsForCache};
+ghost use Rattle.mc_tables.specs.VifLookups.{HasDevice, IsVifTable};
+ghost use Rattle.mc_tables.specs.CacheTable.{CacheText, IsEntry, IsCache, StandsForCache};
 ghost use Rattle.mc_tables.specs.VifReading.{vifs_in};
 ghost use Rattle.mc_tables.specs.CacheReading.{cache_in};
 
@@ -24,6 +24,14 @@ pub fn texts_stand_for_one_table()
         StandsForVifs text a → StandsForVifs text b → a ≡ b }
     ensures cache { (order : Order) (text : List ℕ) (a b : CacheText) →
         StandsForCache order text a → StandsForCache order text b → a ≡ b }
+{}
+
+/// A table that a text stands for keeps the rules that every look-up tells of its table.
+pub fn tables_keep_their_rules()
+    ensures vifs { (text : List ℕ) (vifs : FinMap nat_cmp VifText) →
+        StandsForVifs text vifs → IsVifTable vifs }
+    ensures cache { (order : Order) (text : List ℕ) (table : CacheText) →
+        StandsForCache order text table → IsCache table }
 {}
 
 /// A device other than `none` has one vif at most.

@@ -4,6 +4,7 @@
 
 mod cache_line;
 mod cache_row;
+mod cache_rows;
 mod cache_table;
 mod entry;
 mod fault;
@@ -21,7 +22,7 @@ pub use entry::{Entry, Oif, Oifs};
 pub use fault::{TableFault, TableFaultKind};
 pub use laws::{
     devices_have_one_vif, entries_ascend_in_range, tables_are_read_as_they_stand,
-    texts_stand_for_one_table, vifs_are_numbered_to_31,
+    tables_keep_their_rules, texts_stand_for_one_table, vifs_are_numbered_to_31,
 };
 pub use vif::Vif;
 pub use vif_table::VifTable;

@@ -1,6 +1,6 @@
 //! The table of virtual interfaces, `/proc/net/ip_mr_vif`.
 
-ghost use Rattle.std.specs.Prelude.{◌≡◌, ◌≢◌, ◌≤◌, ℕ, nat_eq, [], IfOk, IfErr, IfSome, IsSome, Ok, Err, Some, find};
+ghost use Rattle.std.specs.Prelude.{◌≡◌, ◌≢◌, ◌≤◌, ◌↔◌, ℕ, nat_eq, [], IfOk, IfErr, IfSome, IsSome, Ok, Err, Some, find};
 ghost use Rattle.std.specs.Option.{option_copied, option_map};
 ghost use Rattle.std.specs.List.{list_any};
 ghost use Rattle.std.specs.Ordering.{nat_cmp};
@@ -11,7 +11,7 @@ ghost use Rattle.mc_tables.specs.Memory.{out_of_memory};
 ghost use Rattle.mc_tables.specs.TableLines.{rows_after};
 ghost use Rattle.mc_tables.specs.VifTable.{VifText, no_device, StandsForVifs};
 ghost use Rattle.mc_tables.specs.VifReading.{index_repeats, device_repeats, vif_in_line, vif_at, vifs_in};
-ghost use Rattle.mc_tables.specs.VifLookups.{HasDevice, first_index_with};
+ghost use Rattle.mc_tables.specs.VifLookups.{HasDevice, IsVifTable, first_index_with};
 
 use crate::fault::{TableFault, TableFaultKind};
 use crate::table_lines::lines_after_header;
@@ -87,6 +87,7 @@ impl VifTable {
         ensures found { option_copied result ≡ map.get self.now index }
         // The indexes of the table's vifs are 0 to 31.
         ensures numbered { (i : ℕ) → IsSome (map.get self.now i) → i ≤ 31 }
+        ensures rules { IsVifTable self.now }
     {
         vif_with_index(self.vifs.as_slice(), index)
     }
@@ -98,11 +99,15 @@ impl VifTable {
         ensures no_device { device.now ≡ no_device → result ≡ None }
         ensures only { (index : ℕ) → device.now ≢ no_device →
             HasDevice self.now index device.now → result ≡ Some index }
+        ensures exact { (index : ℕ) → (result ≡ Some index) ↔
+            ((device.now ≢ no_device) × HasDevice self.now index device.now) }
+        ensures rules { IsVifTable self.now }
     {
+        let vifs = self.vifs.as_slice();
         if device == NO_DEVICE {
             return None;
         }
-        index_with_device(self.vifs.as_slice(), device)
+        index_with_device(vifs, device)
     }
 }
 
@@ -113,22 +118,13 @@ fn vifs_of_lines(alloc: Global, lines: Lines<'_>) -> Result<Vec<VifRow>, TableFa
 {
     let mut vifs = Vec::new(alloc);
     for line in lines {
-        let row = next_vif(vifs.as_slice(), &line)?;
+        let row = new_vif(vifs.as_slice(), &line).map_err(|kind| kind.at(line.number))?;
         vifs.push(row)?;
     }
     Ok(vifs)
 }
 
 /// Reads a line after the earlier vifs.
-fn next_vif(earlier: &[VifRow], line: &Line<'_>) -> Result<VifRow, TableFault>
-    ensures { result ≡ vif_at earlier.now (line_text line.now) }
-{
-    match new_vif(earlier, line) {
-        Ok(row) => Ok(row),
-        Err(kind) => Err(kind.at(line.number)),
-    }
-}
-
 #[tactic(auto, unfolding(crate::specs::VifReading::vif_in_line))]
 fn new_vif(earlier: &[VifRow], line: &Line<'_>) -> Result<VifRow, TableFaultKind>
     ensures { result ≡ vif_in_line earlier.now (line_text line.now) }

@@ -2,6 +2,7 @@
 
 use crate::{CacheTable, Oif, Oifs, TableFault, TableFaultKind};
 use mc_text::{Addr, Order};
+use std::alloc::{AllocError, Global};
 use std::test::Fail;
 
 const SOURCE: [u8; 4] = [10, 0, 0, 5];
@@ -275,6 +276,39 @@ fn has_limits(rt: HostRuntime) -> Result<(), Fail> {
             kind: TableFaultKind::NoHeader
         })
     );
+    Ok(())
+}
+
+/// As many rows as there may be, for one source and the groups 239.1.0.0 to 239.1.255.255.
+fn most_rows(alloc: Global) -> Result<Vec<u8>, AllocError> {
+    let mut text = Vec::new(alloc);
+    text.extend_from_slice(b"Group\n")?;
+    for group in 0..65_536u32 {
+        let [_, _, third, last] = group.to_be_bytes();
+        let row = format!(in alloc; "{last:02X}{third:02X}01EF 0500000A 0 0 0 0 1:1\n")?;
+        text.extend_from_slice(row.as_bytes())?;
+    }
+    Ok(text)
+}
+
+#[test]
+fn finds_the_first_and_the_last_of_the_most_rows(rt: HostRuntime) -> Result<(), Fail> {
+    let mut text = most_rows(rt.alloc())?;
+    let table = CacheTable::read(rt.alloc(), text.as_slice(), Order::Little)?;
+    let source = Addr::from_octets(SOURCE);
+    for (group, found) in [
+        ([239, 1, 0, 0], true),
+        ([239, 1, 255, 255], true),
+        ([239, 0, 255, 255], false),
+        ([239, 2, 0, 0], false),
+    ] {
+        let entry = table.exact(source, Addr::from_octets(group));
+        assert_eq!(rt; entry.is_some(), found);
+    }
+    text.extend_from_slice(b"one row more\n")?;
+    let read = CacheTable::read(rt.alloc(), text.as_slice(), Order::Little);
+    let kind = TableFaultKind::TooLarge;
+    assert_eq!(rt; read.err(), Some(TableFault { line: 65_538, kind }));
     Ok(())
 }
 

@@ -3,7 +3,9 @@ use Rattle.std.specs.Prelude.{IsSome}
 use Rattle.std.specs.Ordering.{nat_cmp}
 use Rattle.std.specs.FinMap.{get, find, get-from_entries}
 use Rattle.std.proofs.lemmas.Cmp.{nat_cmp_total}
+use Rattle.mc_tables.specs.VifLookups.{IsVifTable}
 use Rattle.mc_tables.proofs.VifLookupLemmas.{find_first, index_in_map}
+use Rattle.mc_tables.proofs.RuleLemmas.{vif_rules}
 use Rattle.mc_tables.proofs.vif_table.VifTable.vif.Goals as goal
 
 pub returns-clause-found : goal.returns-clause-found
@@ -13,3 +15,6 @@ returns-clause-found c =
 
 pub returns-clause-numbered : goal.returns-clause-numbered
 returns-clause-numbered c = λ i there. index_in_map c.self.inside.vifs.items i c.self.invariant.2 (subst (λ vifs. IsSome (get vifs i)) (sym c.self.view_is) there)
+
+pub returns-clause-rules : goal.returns-clause-rules
+returns-clause-rules c = subst IsVifTable c.self.view_is (vif_rules c.self.inside.vifs.items c.self.invariant.1 c.self.invariant.2)

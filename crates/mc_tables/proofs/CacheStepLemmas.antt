@@ -1,0 +1,153 @@
+-- A table that grows by a row at a time is the table of all the rows.
+use Rattle.std.proofs.Common.{◌≡◌, ℕ, ◌+◌, Bool, true, false, List, [], ◌∷◌, ◌++◌, length, Option, Some, None, Result, Ok, Err, refl, sym, ap, ◌∙◌, inl, inr}
+use Rattle.std.specs.Prelude.{nat_lt, not, is_some, codes}
+use Rattle.std.specs.Option.{option_map}
+use Rattle.std.specs.List.{filter_map, cons_option, list_any}
+use Rattle.std.specs.Ordering.{nat_cmp}
+use Rattle.std.specs.FinMap as map
+use Rattle.std.specs.FinMap.{nat_cmp-IsAntisymmetric}
+use Rattle.std.specs.FinSet as set
+use Rattle.std.proofs.lemmas.Bool.{cases_Bool}
+use Rattle.std.proofs.lemmas.Cmp.{nat_cmp_total}
+use Rattle.std.proofs.lemmas.List.{append-nil, length-append}
+use Rattle.std.proofs.lemmas.List.Elements.{filter_map-append}
+use Rattle.mc_text.specs.declared.addr.Order.{Order}
+use Rattle.mc_text.specs.Lines.{LineText}
+use Rattle.mc_text.specs.Words.{words_of}
+use Rattle.mc_tables.specs.declared.entry.Entry.{Entry}
+use Rattle.mc_tables.specs.declared.fault.TableFault.{TableFault}
+use Rattle.mc_tables.specs.declared.fault.TableFaultKind.{TableFaultKind}
+use Rattle.mc_tables.specs.declared.fault.TableFaultKind.TheVariants.{RepeatedEntry}
+use Rattle.mc_tables.specs.Steps.{◌>>=◌, demand, at_line}
+use Rattle.mc_tables.specs.TableLines.{is_among, lines_in, rows_after}
+use Rattle.mc_tables.specs.CacheTable.{RowText, CacheText, key_cmp, same_key, exact_entry, key_of, wildcard_of, table_of}
+use Rattle.mc_tables.specs.CacheReading.{row_in_words, entry_repeats, row_in_line, row_at, cache_in}
+use Rattle.mc_tables.specs.CacheSteps.{has_key, with_exact, with_wildcard, row_added, entry_added, row_with_room, line_added, table_after}
+use Rattle.mc_tables.proofs.CacheLemmas.{key_total}
+use Rattle.mc_tables.proofs.CacheLookupLemmas.{key_among}
+use Rattle.mc_tables.proofs.CacheMapLemmas.{key_antisymmetric}
+
+-- ---- one row
+
+-- an entry whose key is there is refused
+pub entry_repeated : (table : CacheText) (key : ℕ × ℕ) (entry : Entry) (old : Option Entry) →
+    old ≡ map.get table.entries key → is_some old ≡ true → entry_added table key entry ≡ Err RepeatedEntry
+entry_repeated table key entry old is there =
+    let repeats : is_some (map.get table.entries key) ≡ true = ap is_some (sym is) ∙ there in
+    rw repeats refl
+
+-- an entry whose key is new is added
+pub entry_entered : (table : CacheText) (key : ℕ × ℕ) (entry : Entry) (old : Option Entry)
+    (more : map.FinMap key_cmp Entry) → old ≡ map.get table.entries key → is_some old ≡ false →
+    more ≡ map.insert table.entries key entry →
+    entry_added table key entry ≡ Ok (record { entries = more; wildcards = table.wildcards })
+entry_entered table key entry old more is none grown =
+    let new : is_some (map.get table.entries key) ≡ false = ap is_some (sym is) ∙ none in
+    rw (new, grown) refl
+
+-- the map has a row's key where an earlier row has it
+key_repeats : (exact : Option ((ℕ × ℕ) × Entry)) (rows : List RowText) →
+    has_key (map.from_entries (filter_map exact_entry rows)) exact
+    ≡ is_among same_key (option_map (λ e. e.0) exact) (filter_map key_of rows)
+key_repeats None rows = refl
+key_repeats (Some exact) rows =
+    ap is_some (map.get-from_entries key_total (filter_map exact_entry rows) exact.0) ∙ key_among exact.0 rows
+
+none_is : {A : Type 0} (o : Option A) → is_some o ≡ false → o ≡ None
+none_is None e = refl
+none_is (Some x) e = absurd cc
+
+-- the entries of one row more
+entries_grow : (exact : Option ((ℕ × ℕ) × Entry)) (es : List ((ℕ × ℕ) × Entry)) →
+    has_key (map.from_entries es) exact ≡ false →
+    map.from_entries {R = key_cmp} (es ++ cons_option exact []) ≡ with_exact (map.from_entries es) exact
+entries_grow None es new = ap (map.from_entries {R = key_cmp}) (append-nil es)
+entries_grow (Some exact) es new =
+    map.from_entries_push key_total key_antisymmetric es exact.0 exact.1
+    (sym (map.get-from_entries key_total es exact.0) ∙ none_is (map.get (map.from_entries {R = key_cmp} es) exact.0) new)
+
+-- the groups of one row more
+groups_grow : (wildcard : Option ℕ) (groups : List ℕ) →
+    set.from_list {R = nat_cmp} (groups ++ cons_option wildcard []) ≡ with_wildcard (set.from_list groups) wildcard
+groups_grow None groups = ap (set.from_list {R = nat_cmp}) (append-nil groups)
+groups_grow (Some group) groups = set.from_list_push nat_cmp_total nat_cmp-IsAntisymmetric groups group
+
+-- a table takes a row that repeats no earlier one, and is the table of the rows with it
+row_follows : (rows : List RowText) (row : RowText) →
+    row_added (table_of rows) row
+    ≡ (demand (not (entry_repeats rows row)) RepeatedEntry >>= λ _. Ok (table_of (rows ++ row ∷ [])))
+row_follows rows row =
+    let same : has_key (table_of rows).entries (exact_entry row) ≡ entry_repeats rows row = key_repeats (exact_entry row) rows in
+    elim (cases_Bool (entry_repeats rows row)) [
+      | inl repeats ↦ rw (same ∙ repeats, repeats) refl
+      | inr new ↦
+          let entries : map.from_entries {R = key_cmp} (filter_map exact_entry (rows ++ row ∷ []))
+          ≡ with_exact (map.from_entries (filter_map exact_entry rows)) (exact_entry row) =
+          ap (map.from_entries {R = key_cmp}) (filter_map-append exact_entry rows (row ∷ []))
+          ∙ entries_grow (exact_entry row) (filter_map exact_entry rows) (same ∙ new) in
+          let groups : set.from_list {R = nat_cmp} (filter_map wildcard_of (rows ++ row ∷ []))
+          ≡ with_wildcard (set.from_list (filter_map wildcard_of rows)) (wildcard_of row) =
+          ap (set.from_list {R = nat_cmp}) (filter_map-append wildcard_of rows (row ∷ []))
+          ∙ groups_grow (wildcard_of row) (filter_map wildcard_of rows) in
+          rw (same ∙ new, new, entries, groups) refl
+    ]
+
+-- ---- one line
+
+row_of_words : (rows : List RowText) (read : Result RowText TableFaultKind) →
+    (read >>= row_added (table_of rows))
+    ≡ ((read >>= λ row. demand (not (entry_repeats rows row)) RepeatedEntry >>= λ _. Ok row)
+    >>= λ row. Ok (table_of (rows ++ row ∷ [])))
+row_of_words rows (Err kind) = refl
+row_of_words rows (Ok row) =
+    row_follows rows row
+    ∙ elim (not (entry_repeats rows row)) as (λ b.
+    (demand b RepeatedEntry >>= λ _. Ok (table_of (rows ++ row ∷ [])))
+    ≡ ((demand b RepeatedEntry >>= λ _. Ok row) >>= λ r. Ok (table_of (rows ++ r ∷ [])))) [ true ↦ refl | false ↦ refl ]
+
+line_follows : (order : Order) (rows : List RowText) (line : LineText) →
+    line_added order (length rows) (table_of rows) line
+    ≡ (row_in_line order rows line >>= λ row. Ok (table_of (rows ++ row ∷ [])))
+unfolding row_in_line
+line_follows order rows line =
+    elim (cases_Bool line.ended) [
+      | inr unended ↦ rw unended refl
+      | inl ended ↦
+          elim (cases_Bool (nat_lt (length rows) 65536)) [
+            | inr full ↦ rw (ended, full) refl
+            | inl room ↦ rw (ended, room) (row_of_words rows (row_in_words order (words_of line.bytes)))
+          ]
+    ]
+
+-- ---- all lines
+
+-- a line's number is said of its fault alone
+at_line_then : (n : ℕ) (rows : List RowText) (read : Result RowText TableFaultKind)
+    (then : CacheText → Result CacheText TableFault) (after : List RowText → Result (List RowText) TableFault) →
+    ((row : RowText) → then (table_of (rows ++ row ∷ [])) ≡ (after (rows ++ row ∷ []) >>= λ all. Ok (table_of all))) →
+    (at_line n (read >>= λ row. Ok (table_of (rows ++ row ∷ []))) >>= then)
+    ≡ ((at_line n read >>= λ row. after (rows ++ row ∷ [])) >>= λ all. Ok (table_of all))
+at_line_then n rows (Err kind) then after rest = refl
+at_line_then n rows (Ok row) then after rest = rest row
+
+one_more : (rows : List RowText) (row : RowText) → length rows + 1 ≡ length (rows ++ row ∷ [])
+one_more rows row = sym (length-append rows (row ∷ []))
+
+pub table_of_lines : (order : Order) (lines : List LineText) (rows : List RowText) →
+    table_after order (length rows) (table_of rows) lines
+    ≡ (rows_after (row_at order) rows lines >>= λ all. Ok (table_of all))
+table_of_lines order [] rows = refl
+table_of_lines order (line ∷ lines) rows =
+    ap (λ r. at_line line.number r >>= λ more. table_after order (length rows + 1) more lines) (line_follows order rows line)
+    ∙ at_line_then line.number rows (row_in_line order rows line)
+    (λ more. table_after order (length rows + 1) more lines)
+    (λ all. rows_after (row_at order) all lines)
+    (λ row. ap (λ n. table_after order n (table_of (rows ++ row ∷ [])) lines) (one_more rows row)
+    ∙ table_of_lines order lines (rows ++ row ∷ []))
+
+-- the table of a text's lines
+pub cache_of_lines : (order : Order) (text : List ℕ) (lines : List LineText) (table : Result CacheText TableFault) →
+    lines_in (codes "Group") text ≡ Ok lines → table_after order 0 (table_of []) lines ≡ table →
+    cache_in order text ≡ table
+cache_of_lines order text lines table whole read =
+    rw whole (sym (table_of_lines order lines []) ∙ read)

@@ -1,0 +1,16 @@
+use Rattle.std.proofs.Common.{◌∙◌, ap}
+use Rattle.std.specs.Ordering.{nat_cmp}
+use Rattle.std.specs.FinMap as map
+use Rattle.std.specs.FinSet as set
+use Rattle.mc_tables.specs.CacheTable.{CacheText}
+use Rattle.mc_tables.specs.CacheSteps.{group_added}
+use Rattle.mc_tables.proofs.CacheMapLemmas.{added}
+use Rattle.mc_tables.proofs.cache_rows.CacheRows.add_group.Goals as goal
+
+pub returns-clause-added : goal.returns-clause-added
+returns-clause-added c =
+    ap (λ (groups : set.FinSet nat_cmp). record {
+      entries = map.from_entries c.self.inside.entries.entries;
+      wildcards = groups;
+    }) (added c.args.group c.self.inside.wildcards.keys c.insert.new.self.keys c.in_ok-insert.ensures.updates.0)
+    ∙ ap (λ (table : CacheText). group_added table c.args.group) c.self.view_is

@@ -1,0 +1,66 @@
+-- A cache that grows by a row at a time, while its lines are read.
+use Rattle.std.specs.Prelude.{ℕ, ◌+◌, nat_lt, Bool, false, not, List, [], ◌∷◌, Option, Some, None, is_some, Result, Ok}
+use Rattle.std.specs.FinMap as map
+use Rattle.std.specs.FinSet as set
+use Rattle.std.specs.Ordering.{nat_cmp}
+use Rattle.mc_text.specs.declared.addr.Order.{Order}
+use Rattle.mc_text.specs.Lines.{LineText}
+use Rattle.mc_text.specs.Words.{words_of}
+use Rattle.mc_tables.specs.declared.entry.Entry.{Entry}
+use Rattle.mc_tables.specs.declared.fault.TableFault.{TableFault}
+use Rattle.mc_tables.specs.declared.fault.TableFaultKind.{TableFaultKind}
+use Rattle.mc_tables.specs.declared.fault.TableFaultKind.TheVariants.{Unended, TooLarge, RepeatedEntry}
+use Rattle.mc_tables.specs.Steps.{◌>>=◌, demand, at_line}
+use Rattle.mc_tables.specs.CacheTable.{RowText, CacheText, key_cmp, exact_entry, wildcard_of}
+use Rattle.mc_tables.specs.CacheReading.{row_in_words}
+
+-- the map has the entry's key, if it is one
+abbrev pub has_key : map.FinMap key_cmp Entry → Option ((ℕ × ℕ) × Entry) → Bool
+has_key entries None = false
+has_key entries (Some exact) = is_some (map.get entries exact.0)
+
+-- one entry more, if it is one
+abbrev pub with_exact : map.FinMap key_cmp Entry → Option ((ℕ × ℕ) × Entry) → map.FinMap key_cmp Entry
+with_exact entries None = entries
+with_exact entries (Some exact) = map.insert entries exact.0 exact.1
+
+-- one group more, if it is one
+abbrev pub with_wildcard : set.FinSet nat_cmp → Option ℕ → set.FinSet nat_cmp
+with_wildcard groups None = groups
+with_wildcard groups (Some group) = set.insert groups group
+
+-- a row more, if its source and group are new
+abbrev pub row_added : CacheText → RowText → Result CacheText TableFaultKind
+row_added table row = do
+  _ ← demand (not (has_key table.entries (exact_entry row))) RepeatedEntry
+  Ok (record {
+    entries = with_exact table.entries (exact_entry row);
+    wildcards = with_wildcard table.wildcards (wildcard_of row);
+  })
+
+-- an entry more, if its source and group are new
+abbrev pub entry_added : CacheText → ℕ × ℕ → Entry → Result CacheText TableFaultKind
+entry_added table key entry = do
+  _ ← demand (not (is_some (map.get table.entries key))) RepeatedEntry
+  Ok (record { entries = map.insert table.entries key entry; wildcards = table.wildcards })
+
+-- a group more
+abbrev pub group_added : CacheText → ℕ → CacheText
+group_added table group = record { entries = table.entries; wildcards = set.insert table.wildcards group }
+
+-- the row of a line after so many others
+abbrev pub row_with_room : Order → ℕ → LineText → Result RowText TableFaultKind
+row_with_room order count line = do
+  _ ← demand line.ended Unended
+  _ ← demand (nat_lt count 65536) TooLarge
+  row_in_words order (words_of line.bytes)
+
+-- the table of so many rows, with that of the line
+abbrev pub line_added : Order → ℕ → CacheText → LineText → Result CacheText TableFaultKind
+line_added order count table line = row_with_room order count line >>= row_added table
+
+-- and with those of all lines
+abbrev pub table_after : Order → ℕ → CacheText → List LineText → Result CacheText TableFault
+table_after order count table [] = Ok table
+table_after order count table (line ∷ lines) =
+    at_line line.number (line_added order count table line) >>= λ more. table_after order (count + 1) more lines

@@ -8,7 +8,7 @@ use Rattle.toml.specs.Data.{Data, string, integer, float, boolean, datetime, arr
 use Rattle.mc_text.specs.declared.addr.Order.{Order}
 use Rattle.mc_text.specs.declared.addr.Order.TheVariants.{Little, Big}
 use Rattle.mc_topology.specs.declared.fault.TopologyFaultKind.TheVariants.{MissingKey, BadKind, UnknownKey, TooMany}
-use Rattle.mc_topology.specs.Document.{has_only, rows_in, text_of, number_of, list_of, list_or_empty, text_or_none, table_of, text_at, number_at, list_at, optional_text_at, optional_list_at, rows_at, at_key}
+use Rattle.mc_topology.specs.Document.{has_only, rows_in, text_of, number_of, list_of, list_or_empty, text_or_none, known_table, text_at, number_at, list_at, optional_text_at, optional_list_at, rows_at, at_key}
 use Rattle.mc_topology.specs.Routers.{order_of}
 use Rattle.mc_topology.specs.Stands.{IsTable, AreRows, IsOrder, order_text}
 use Rattle.mc_topology.proofs.Steps.{bind_ok, test_ok, ok_or_ok, ok_is}
@@ -76,9 +76,9 @@ number_at-again key ms z e = rw e refl
 
 -- ---- tables
 
-pub table_of-takes : (known : List (List ℕ)) (d : Data) (ms : Members) → table_of known d ≡ Ok ms → IsTable known d ms
-unfolding table_of
-table_of-takes known d ms e =
+pub known_table-takes : (known : List (List ℕ)) (d : Data) (ms : Members) → known_table known d ≡ Ok ms → IsTable known d ms
+unfolding known_table
+known_table-takes known d ms e =
     let a = bind_ok (ok_or (as_table d) BadKind) (λ ns. cond (has_only known ns) (Ok ns) (Err UnknownKey)) ms e in
     let t = test_ok (has_only known a.0) UnknownKey (Ok a.0) ms a.2 in
     let same : a.0 ≡ ms = ok_is a.0 ms t.1 in
@@ -87,9 +87,9 @@ table_of-takes known d ms e =
       keys = ap (has_only known) (sym same) ∙ t.0;
     }
 
-pub table_of-again : (known : List (List ℕ)) (d : Data) (ms : Members) → IsTable known d ms → table_of known d ≡ Ok ms
-unfolding table_of
-table_of-again known d ms is = rw (is.members, is.keys) refl
+pub known_table-again : (known : List (List ℕ)) (d : Data) (ms : Members) → IsTable known d ms → known_table known d ≡ Ok ms
+unfolding known_table
+known_table-again known d ms is = rw (is.members, is.keys) refl
 
 -- ---- lists
 

@@ -1,39 +1,22 @@
 -- What a text stands for keeps the rules of a topology.
-use Rattle.std.proofs.Common.{◌≡◌, ℕ, zero, suc, ◌<◌, Bool, true, false, cond, List, [], ◌∷◌, length, Some, Ok, refl, subst, ◌∙◌, sym, arith, option_map}
+use Rattle.std.proofs.Common.{◌≡◌, ℕ, zero, suc, ◌<◌, IsTrue, Bool, true, false, cond, List, [], ◌∷◌, length, Some, Ok, refl, subst, ◌∙◌, sym, arith, option_map}
 use Rattle.std.specs.Prelude.{◌==◌, slice_get, find}
 use Rattle.std.specs.Str.{bytes_eq}
 use Rattle.toml.specs.Data.{Data, Members}
 use Rattle.mc_topology.specs.declared.flow.Flow.{Flow}
 use Rattle.mc_topology.specs.Rows.{RouterRow, InterfaceRow, SourceRow}
+use Rattle.mc_topology.specs.Document.{rows_in}
+use Rattle.mc_topology.specs.Names.{is_name}
 use Rattle.mc_topology.specs.Lans.{lans_in}
 use Rattle.mc_topology.specs.Routers.{routers_in}
 use Rattle.mc_topology.specs.Interfaces.{interfaces_in}
 use Rattle.mc_topology.specs.Sources.{lan_of_source, sources_in}
 use Rattle.mc_topology.specs.Flows.{flows_in}
 use Rattle.mc_topology.specs.Reading.{version_in, sections_in}
-use Rattle.mc_topology.specs.Stands.{EachStands, IsInterface, IsSourceRow, IsFlow, DocumentStands, TopologyStands}
-use Rattle.mc_topology.specs.Topology.{Sections, TopologyValue, IsFlowAmong, IsTopology, interface_key, topology_of}
-use Rattle.mc_topology.proofs.InterfaceLemmas.{found, found_one, get-found}
-use Rattle.mc_topology.proofs.NameLemmas.{lan_within}
+use Rattle.mc_topology.specs.Stands.{EachStands, IsLan, IsRouter, IsInterface, IsSourceRow, IsFlow, DocumentStands, TopologyStands}
+use Rattle.mc_topology.specs.Topology.{Sections, TopologyValue, IsInterfaceAmong, IsFlowAmong, IsTopology, topology_of}
+use Rattle.mc_topology.proofs.NameLemmas.{lan_within, router_within}
 use Rattle.mc_topology.proofs.Whole.{each_length, sections_take}
-
--- ---- interfaces
-
-listed_first : (i : InterfaceRow) (is : List InterfaceRow) (key : List ℕ) (lan most : ℕ) (b : Bool) → bytes_eq key (interface_key i.router i.device) ≡ b
-    → i.lan < most → (found key is ≡ Some lan → lan < most) → found key (i ∷ is) ≡ Some lan → lan < most
-listed_first i is key lan most true at within later e =
-    let same : i.lan ≡ lan = let here = found_one key i is true at in cc in
-    omega (arith, same, within)
-listed_first i is key lan most false at within later e = later (sym (found_one key i is false at) ∙ e)
-
--- the LAN of an interface is one of the LANs
-listed : (lans : List (List ℕ)) (routers : List RouterRow) (ds : List Data) (is : List InterfaceRow) (key : List ℕ) (lan : ℕ) → EachStands (IsInterface lans routers) ds is → found key is ≡ Some lan → lan < length lans
-listed lans routers [] [] key lan s e = absurd cc
-listed lans routers [] (i ∷ is) key lan s e = absurd s
-listed lans routers (d ∷ ds) [] key lan s e = absurd s
-listed lans routers (d ∷ ds) (i ∷ is) key lan s e =
-    listed_first i is key lan (length lans) (bytes_eq key (interface_key i.router i.device)) refl
-    (lan_within lans i.lan s.0.lan_name s.0.lan) (λ h. listed lans routers ds is key lan s.1 h) e
 
 -- ---- sources and flows
 
@@ -63,6 +46,22 @@ row_at Stands (d ∷ ds) (y ∷ xs) zero x s e =
     (d, subst (Stands d) same s.0)
 row_at Stands (d ∷ ds) (y ∷ xs) (suc n) x s e = row_at Stands ds xs n x s.1 e
 
+-- each row with what the value that it stands for keeps
+each_kept : {X : Type 0} (Stands : Data → X → Type 0) (Keeps : X → Type 0) → ((d : Data) (x : X) → Stands d x → Keeps x)
+    → (ds : List Data) (xs : List X) (n : ℕ) (x : X) → EachStands Stands ds xs → slice_get xs n ≡ Some x → Keeps x
+each_kept Stands Keeps keeps ds xs n x s e =
+    let row = row_at Stands ds xs n x s e in
+    keeps row.0 x row.1
+
+interface_kept : (lans : List (List ℕ)) (routers : List RouterRow) (t : TopologyValue) → t.lans ≡ lans → t.routers ≡ routers
+    → (d : Data) (i : InterfaceRow) → IsInterface lans routers d i → IsInterfaceAmong t i
+interface_kept lans routers t same_lans same_routers d i is =
+    record {
+      router = rw same_routers (router_within routers i.router is.router_name is.router);
+      device = is.fits;
+      lan = rw same_lans (lan_within lans i.lan is.lan_name is.lan);
+    }
+
 flow_kept : (lans : List (List ℕ)) (sources : List SourceRow) (f : Flow) (d : Data) → IsFlow sources d f → ((address lan : ℕ) → lan_of_source address sources ≡ Some lan → lan < length lans) → IsFlowAmong lans f
 flow_kept lans sources f d is within =
     record {
@@ -81,11 +80,16 @@ document_kept ms s is =
     record {
       few_lans = omega (arith, is.lans.few, each_length _ _ _ is.lans.each);
       few_routers = omega (arith, is.routers.few, each_length _ _ _ is.routers.each);
+      few_interfaces = omega (arith, is.interfaces.few, each_length _ _ _ is.interfaces.each);
       some_flow = is.some_flow;
       few_flows = omega (arith, is.flows.few, each_length _ _ _ is.flows.each);
       lan_names = is.lans.distinct;
       router_names = is.routers.distinct;
-      interface_lans = λ router lan device e. listed s.lans s.routers is.interfaces.rows s.interfaces (interface_key router device) lan is.interfaces.each (sym (get-found (interface_key router device) s.interfaces) ∙ e);
+      interfaces_differ = is.interfaces.distinct;
+      flows_differ = is.flows.distinct;
+      lans_named = λ n name. each_kept IsLan (λ (x : List ℕ). IsTrue (is_name x)) (λ d x lan. lan.fits) (rows_in is.lans.items) s.lans n name is.lans.each;
+      routers_named = λ n r. each_kept IsRouter (λ (x : RouterRow). IsTrue (is_name x.name)) (λ d x router. router.fits) is.routers.rows s.routers n r is.routers.each;
+      interfaces_among = λ n i. each_kept (IsInterface s.lans s.routers) (IsInterfaceAmong (topology_of s)) (interface_kept s.lans s.routers (topology_of s) refl refl) is.interfaces.rows s.interfaces n i is.interfaces.each;
       flows_among =
           λ n f e.
           let row = row_at (IsFlow s.sources) is.flows.rows s.flows n f is.flows.each e in

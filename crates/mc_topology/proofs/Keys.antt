@@ -9,7 +9,7 @@ use Rattle.std.proofs.lemmas.Slice.Eq.{bytes_eq-Decides}
 use Rattle.mc_topology.specs.declared.flow.Flow.{Flow}
 use Rattle.mc_topology.specs.Rows.{RouterRow, InterfaceRow, SourceRow}
 use Rattle.mc_topology.specs.Interfaces.{is_at}
-use Rattle.mc_topology.specs.Topology.{interface_key, lan_key, router_key, key_of_interface, source_key, flow_key}
+use Rattle.mc_topology.specs.Topology.{lan_key, router_key, interface_key, source_key, flow_key}
 
 abbrev pub same_lan : List ℕ → List ℕ → Bool
 same_lan y x = bytes_eq y x
@@ -27,7 +27,7 @@ abbrev pub same_interface : InterfaceRow → InterfaceRow → Bool
 same_interface y x = is_at x.router x.device y
 
 -- an interface is that of a router and a device exactly if it has their key
-pub is_at-Decides : (router : ℕ) (device : List ℕ) (i : InterfaceRow) → Decides (is_at router device i) (key_of_interface i ≡ interface_key router device)
+pub is_at-Decides : (router : ℕ) (device : List ℕ) (i : InterfaceRow) → Decides (is_at router device i) (interface_key i ≡ (router, device))
 is_at-Decides router device i = (
   λ e.
       let (same_router, same_device) = and_parts _ _ e in
@@ -35,12 +35,12 @@ is_at-Decides router device i = (
       let other : i.device ≡ device = (bytes_eq-Decides i.device device).0 same_device in
       rw (one, other) refl,
   λ e.
-      let one : i.router ≡ router = cc in
-      let other : i.device ≡ device = cc in
+      let one : i.router ≡ router = ap (λ (p : ℕ × List ℕ). p.0) e in
+      let other : i.device ≡ device = ap (λ (p : ℕ × List ℕ). p.1) e in
       rw ((unsigned_Decides i.router router).1 one) ((bytes_eq-Decides i.device device).1 other),
 )
 
-pub same_interface-Decides : (y x : InterfaceRow) → Decides (same_interface y x) (key_of_interface y ≡ key_of_interface x)
+pub same_interface-Decides : (y x : InterfaceRow) → Decides (same_interface y x) (interface_key y ≡ interface_key x)
 same_interface-Decides y x = is_at-Decides x.router x.device y
 
 abbrev pub same_source : SourceRow → SourceRow → Bool

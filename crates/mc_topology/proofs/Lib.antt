@@ -1,13 +1,19 @@
-pub mod AddressLemmas
 pub mod Distinct
 pub mod Each
+mod Examples
+pub mod FlowKeys
 pub mod FlowLemmas
 pub mod Fields
+pub mod InterfaceKeys
 pub mod InterfaceLemmas
+pub mod Keyed
+pub mod KeptNames
 pub mod Keys
 pub mod Kept
 pub mod NameLemmas
+pub mod PartNames
 pub mod Parts
+pub mod Places
 pub mod ReadLemmas
 pub mod Whole
 pub mod Steps

@@ -1,15 +1,16 @@
 -- Names and numbers undo each other.
-use Rattle.std.proofs.Common.{◌≡◌, ℕ, ◌<◌, Bool, true, false, List, [], ◌∷◌, length, get_or, Option, Some, None, option_map, refl, ap, subst, ◌∙◌, arith}
+use Rattle.std.proofs.Common.{◌≡◌, ℕ, ◌<◌, ◌≤◌, nat_le, not, codes, Bool, true, false, List, [], ◌∷◌, length, get_or, Option, Some, None, option_map, refl, ap, subst, ◌∙◌, arith}
 use Rattle.std.specs.Prelude.{position, slice_get}
 use Rattle.std.specs.List.{position_or_len}
 use Rattle.std.specs.Str.{bytes_eq}
-use Rattle.std.proofs.lemmas.Bool.{lt-ltb, false_from_ne_true}
+use Rattle.std.proofs.lemmas.Bool.{lt-ltb, leb-true, and_parts, false_from_ne_true}
 use Rattle.std.proofs.lemmas.List.Quantifiers.{position-Some}
 use Rattle.std.proofs.lemmas.List.Sums.{position_or_len_is}
 use Rattle.std.proofs.lemmas.Option.{slice_get_within, slice_get-get_or, get_or_from_slice_get}
 use Rattle.std.proofs.lemmas.Slice.Eq.{bytes_eq-Decides}
 use Rattle.mc_topology.specs.Rows.{RouterRow}
-use Rattle.mc_topology.specs.Names.{index_of}
+use Rattle.mc_text.specs.DeviceName.{is_device_name}
+use Rattle.mc_topology.specs.Names.{is_device, index_of}
 use Rattle.mc_topology.specs.Routers.{router_no_of}
 use Rattle.mc_topology.specs.Topology.{AreDistinctBy, lan_key, router_key}
 
@@ -48,6 +49,11 @@ lan_within lans lan name e = (position-Some (λ y. bytes_eq y name) lans lan nam
 
 -- ---- routers
 
+-- a name's number is below the number of routers
+pub router_within : (routers : List RouterRow) (router : ℕ) (name : List ℕ) → router_no_of name routers ≡ Some router → router < length routers
+router_within [] router name e = absurd cc
+router_within (r ∷ routers) router name e = (position-Some (λ y. bytes_eq y.name name) (r ∷ routers) router r e).0
+
 named : (o : Option RouterRow) (name : List ℕ) → option_map (λ (r : RouterRow). r.name) o ≡ Some name → (r : RouterRow) × (o ≡ Some r) × (r.name ≡ name)
 named None name e = absurd cc
 named (Some r) name e = (r, refl, cc)
@@ -63,3 +69,14 @@ name_of_router (r ∷ routers) router name e =
     let at = position-Some (λ y. bytes_eq y.name name) (r ∷ routers) router r e in
     let found = slice_get-get_or (r ∷ routers) router r at.0 in
     ap (option_map (λ (x : RouterRow). x.name)) found ∙ ap Some ((bytes_eq-Decides (get_or (r ∷ routers) router r).name name).0 at.1)
+
+-- ---- devices
+
+-- the name of a device has at most 15 bytes
+pub device_short : (text : List ℕ) → is_device text ≡ true → length text ≤ 15
+unfolding is_device
+device_short text e =
+    let device = and_parts (is_device_name text) (not (bytes_eq text (codes "none"))) e in
+    let long = and_parts _ _ device.0 in
+    let both = and_parts (nat_le 1 (length text)) (nat_le (length text) 15) long.0 in
+    leb-true (length text) 15 both.1

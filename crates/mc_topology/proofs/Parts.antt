@@ -7,25 +7,28 @@ use Rattle.std.proofs.lemmas.Bool.{leb-true, ltb-true, lt-ltb, and_parts, not-tr
 use Rattle.std.proofs.lemmas.List.{append-nil}
 use Rattle.toml.specs.Data.{Data}
 use Rattle.mc_text.specs.Addr.{IsAddr, IsSource, IsForwardedGroup, dotted}
+use Rattle.mc_text.specs.AddressReading.{address_of_text}
+use Rattle.mc_text.specs.Addr.{is_source, is_forwarded_group}
+use Rattle.mc_text.proofs.AddressReading.{address_of_text-found, address_of_text-again}
+use Rattle.mc_text.proofs.AddressTests.{is_source-tells, is_source-from, is_forwarded_group-tells, is_forwarded_group-from}
 use Rattle.mc_topology.specs.declared.fault.Section.{Section}
 use Rattle.mc_topology.specs.declared.fault.TopologyFaultKind.{TopologyFaultKind}
 use Rattle.mc_topology.specs.declared.fault.TopologyFaultKind.TheVariants.{BadAddress, BadTtl, BadName, UnknownName, RepeatedName, RepeatedInterface, RepeatedFlow}
 use Rattle.mc_topology.specs.declared.flow.Flow.{Flow}
 use Rattle.mc_topology.specs.Rows.{RouterRow, InterfaceRow, SourceRow}
-use Rattle.mc_topology.specs.Addresses.{address_of, is_source, is_forwarded_group, passing, source_address_of, group_address_of}
+use Rattle.mc_topology.specs.Addresses.{passing, source_address_of, group_address_of}
 use Rattle.mc_topology.specs.Answer.{place, each}
-use Rattle.mc_topology.specs.Document.{table_of, text_of, text_at, number_at, optional_text_at}
-use Rattle.mc_topology.specs.Names.{is_name, is_device, is_among, index_of}
-use Rattle.mc_topology.specs.Lans.{lan_of}
+use Rattle.mc_topology.specs.Document.{known_table, text_of, text_at, number_at, optional_text_at}
+use Rattle.mc_topology.specs.Names.{is_name, is_device, index_of}
+use Rattle.mc_topology.specs.Lans.{has_lan, lan_of}
 use Rattle.mc_topology.specs.Routers.{router_keys, router_of, order_of, has_router, router_no_of}
 use Rattle.mc_topology.specs.Interfaces.{interface_keys, interface_of, has_interface}
 use Rattle.mc_topology.specs.Sources.{source_keys, source_of, has_source, lan_of_source}
 use Rattle.mc_topology.specs.Flows.{flow_keys, flow_of, ttl_of, has_flow}
 use Rattle.mc_topology.specs.Stands.{EachStands, IsLan, IsRouter, IsInterface, IsSourceRow, IsFlow}
 use Rattle.mc_topology.specs.Topology.{AreDistinctBy}
-use Rattle.mc_topology.proofs.AddressLemmas.{address_of-found, address_of-dotted}
 use Rattle.mc_topology.proofs.Distinct.{distinct_push, distinct_new}
-use Rattle.mc_topology.proofs.Fields.{text_of-takes, text_at-takes, text_at-again, number_at-takes, number_at-again, table_of-takes, table_of-again, optional_order-takes, optional_order-again}
+use Rattle.mc_topology.proofs.Fields.{text_of-takes, text_at-takes, text_at-again, number_at-takes, number_at-again, known_table-takes, known_table-again, optional_order-takes, optional_order-again}
 use Rattle.mc_topology.proofs.Steps.{bind_ok, refusal_ok, test_ok, ok_or_ok, ok_is, place_ok}
 
 -- ---- addresses and times to live
@@ -37,43 +40,26 @@ passing_ok p (Some b) a e =
     let same : b ≡ a = ok_is b a t.1 in
     (ap Some same, ap p (sym same) ∙ t.0)
 
-is_source-tells : (a : ℕ) → is_source a ≡ true → IsSource a
-is_source-tells a e =
-    let (within, other) = and_parts _ _ e in
-    let (low, high) = and_parts _ _ within in
-    (leb-true _ _ low, leb-true _ _ high, λ same. let none = eqb-false _ _ (not-true _ other) in none same)
-
-is_source-from : (a : ℕ) → IsSource a → is_source a ≡ true
-is_source-from a is = rw (le-leb _ _ is.0, le-leb _ _ is.1, ne_eqb (a / 2 ^ 24) 127 is.2) refl
-
-is_forwarded_group-tells : (a : ℕ) → is_forwarded_group a ≡ true → IsForwardedGroup a
-is_forwarded_group-tells a e =
-    let (low, high) = and_parts _ _ e in
-    (leb-true _ _ low, ltb-true _ _ high)
-
-is_forwarded_group-from : (a : ℕ) → IsForwardedGroup a → is_forwarded_group a ≡ true
-is_forwarded_group-from a is = rw (le-leb _ _ is.0, lt-ltb _ _ is.1) refl
-
 source_takes : (text : List ℕ) (a : ℕ) → source_address_of text ≡ Ok a → (text ≡ dotted a) × IsAddr a × IsSource a
 unfolding source_address_of
 source_takes text a e =
-    let p = passing_ok is_source (address_of text) a e in
-    let at = address_of-found text a p.0 in
+    let p = passing_ok is_source (address_of_text text) a e in
+    let at = address_of_text-found text a p.0 in
     (at.1, at.0, is_source-tells a p.1)
 
 source_again : (a : ℕ) → IsAddr a → IsSource a → source_address_of (dotted a) ≡ Ok a
 unfolding source_address_of
-source_again a is may = rw (address_of-dotted (dotted a) a is refl) (rw (is_source-from a may) refl)
+source_again a is may = rw (address_of_text-again (dotted a) a is refl) (rw (is_source-from a may) refl)
 
 group_takes : (text : List ℕ) (a : ℕ) → group_address_of text ≡ Ok a → (text ≡ dotted a) × IsForwardedGroup a
 unfolding group_address_of
 group_takes text a e =
-    let p = passing_ok is_forwarded_group (address_of text) a e in
-    ((address_of-found text a p.0).1, is_forwarded_group-tells a p.1)
+    let p = passing_ok is_forwarded_group (address_of_text text) a e in
+    ((address_of_text-found text a p.0).1, is_forwarded_group-tells a p.1)
 
 group_again : (a : ℕ) → IsForwardedGroup a → group_address_of (dotted a) ≡ Ok a
 unfolding group_address_of
-group_again a is = rw (address_of-dotted (dotted a) a (omega (arith, is.1)) refl) (rw (is_forwarded_group-from a is) refl)
+group_again a is = rw (address_of_text-again (dotted a) a (omega (arith, is.1)) refl) (rw (is_forwarded_group-from a is) refl)
 
 ttl_takes : (z : ℤ) (n : ℕ) → ttl_of z ≡ Ok n → (z ≡ pos n) × (1 ≤ n) × (n ≤ 255)
 unfolding ttl_of
@@ -90,23 +76,23 @@ ttl_again n low high = rw (le-leb 1 n low, le-leb n 255 high) refl
 
 -- ---- the parts of the sections
 
-pub lan_takes : (earlier : List (List ℕ)) (d : Data) (name : List ℕ) → lan_of earlier d ≡ Ok name → IsLan d name × (is_among name earlier ≡ false)
+pub lan_takes : (earlier : List (List ℕ)) (d : Data) (name : List ℕ) → lan_of earlier d ≡ Ok name → IsLan d name × (has_lan name earlier ≡ false)
 unfolding lan_of
 lan_takes earlier d name e =
     let a = bind_ok (text_of d) _ name e in
     let fits = refusal_ok (not (is_name a.0)) BadName _ name a.2 in
-    let new = refusal_ok (is_among a.0 earlier) RepeatedName (Ok a.0) name fits.1 in
+    let new = refusal_ok (has_lan a.0 earlier) RepeatedName (Ok a.0) name fits.1 in
     let same : a.0 ≡ name = ok_is a.0 name new.1 in
-    subst (λ (x : List ℕ). IsLan d x × (is_among x earlier ≡ false)) same (record { text = text_of-takes d a.0 a.1; fits = not-false _ fits.0 }, new.0)
+    subst (λ (x : List ℕ). IsLan d x × (has_lan x earlier ≡ false)) same (record { text = text_of-takes d a.0 a.1; fits = not-false _ fits.0 }, new.0)
 
-pub lan_again : (earlier : List (List ℕ)) (d : Data) (name : List ℕ) → IsLan d name → is_among name earlier ≡ false → lan_of earlier d ≡ Ok name
+pub lan_again : (earlier : List (List ℕ)) (d : Data) (name : List ℕ) → IsLan d name → has_lan name earlier ≡ false → lan_of earlier d ≡ Ok name
 unfolding lan_of
 lan_again earlier d name is new = rw (is.text, is.fits, new) refl
 
 pub router_takes : (earlier : List RouterRow) (d : Data) (r : RouterRow) → router_of earlier d ≡ Ok r → IsRouter d r × (has_router r.name earlier ≡ false)
 unfolding router_of
 router_takes earlier d r e =
-    let t = bind_ok (table_of router_keys d) _ r e in
+    let t = bind_ok (known_table router_keys d) _ r e in
     let name = bind_ok (text_at (codes "name") t.0) _ r t.2 in
     let text = bind_ok (optional_text_at (codes "order") t.0) _ r name.2 in
     let fits = refusal_ok (not (is_name name.0)) BadName _ r text.2 in
@@ -116,7 +102,7 @@ router_takes earlier d r e =
     subst (λ (x : RouterRow). IsRouter d x × (has_router x.name earlier ≡ false)) (ok_is made r new.1) (
       record {
         members = t.0;
-        is_table = table_of-takes router_keys d t.0 t.1;
+        is_table = known_table-takes router_keys d t.0 t.1;
         name = text_at-takes (codes "name") t.0 name.0 name.1;
         order = optional_order-takes (codes "order") t.0 text.0 order.0 text.1 order.1;
         fits = not-false _ fits.0;
@@ -128,12 +114,12 @@ pub router_again : (earlier : List RouterRow) (d : Data) (r : RouterRow) → IsR
 unfolding router_of
 router_again earlier d r is new =
     let text = optional_order-again (codes "order") is.members r.order is.order in
-    rw (table_of-again router_keys d is.members is.is_table, text_at-again (codes "name") is.members r.name is.name, text.1, is.fits, text.2, new) refl
+    rw (known_table-again router_keys d is.members is.is_table, text_at-again (codes "name") is.members r.name is.name, text.1, is.fits, text.2, new) refl
 
 pub interface_takes : (lans : List (List ℕ)) (routers : List RouterRow) (earlier : List InterfaceRow) (d : Data) (i : InterfaceRow) → interface_of lans routers earlier d ≡ Ok i → IsInterface lans routers d i × (has_interface i.router i.device earlier ≡ false)
 unfolding interface_of
 interface_takes lans routers earlier d i e =
-    let t = bind_ok (table_of interface_keys d) _ i e in
+    let t = bind_ok (known_table interface_keys d) _ i e in
     let router_name = bind_ok (text_at (codes "router") t.0) _ i t.2 in
     let device = bind_ok (text_at (codes "device") t.0) _ i router_name.2 in
     let lan_name = bind_ok (text_at (codes "lan") t.0) _ i device.2 in
@@ -147,7 +133,7 @@ interface_takes lans routers earlier d i e =
         members = t.0;
         router_name = router_name.0;
         lan_name = lan_name.0;
-        is_table = table_of-takes interface_keys d t.0 t.1;
+        is_table = known_table-takes interface_keys d t.0 t.1;
         router_text = text_at-takes (codes "router") t.0 router_name.0 router_name.1;
         device = text_at-takes (codes "device") t.0 device.0 device.1;
         lan_text = text_at-takes (codes "lan") t.0 lan_name.0 lan_name.1;
@@ -162,13 +148,13 @@ pub interface_again : (lans : List (List ℕ)) (routers : List RouterRow) (earli
 unfolding interface_of
 interface_again lans routers earlier d i is new =
     rw
-    (table_of-again interface_keys d is.members is.is_table, text_at-again (codes "router") is.members is.router_name is.router_text, text_at-again (codes "device") is.members i.device is.device, text_at-again (codes "lan") is.members is.lan_name is.lan_text, is.router, is.fits, is.lan, new)
+    (known_table-again interface_keys d is.members is.is_table, text_at-again (codes "router") is.members is.router_name is.router_text, text_at-again (codes "device") is.members i.device is.device, text_at-again (codes "lan") is.members is.lan_name is.lan_text, is.router, is.fits, is.lan, new)
     refl
 
 pub source_row_takes : (lans : List (List ℕ)) (earlier : List SourceRow) (d : Data) (s : SourceRow) → source_of lans earlier d ≡ Ok s → IsSourceRow lans d s × (has_source s.address earlier ≡ false)
 unfolding source_of
 source_row_takes lans earlier d s e =
-    let t = bind_ok (table_of source_keys d) _ s e in
+    let t = bind_ok (known_table source_keys d) _ s e in
     let text = bind_ok (text_at (codes "address") t.0) _ s t.2 in
     let lan_name = bind_ok (text_at (codes "lan") t.0) _ s text.2 in
     let address = bind_ok (source_address_of text.0) _ s lan_name.2 in
@@ -180,7 +166,7 @@ source_row_takes lans earlier d s e =
       record {
         members = t.0;
         lan_name = lan_name.0;
-        is_table = table_of-takes source_keys d t.0 t.1;
+        is_table = known_table-takes source_keys d t.0 t.1;
         address = text_at-takes (codes "address") t.0 (dotted address.0) (text.1 ∙ ap Ok at.0);
         lan_text = text_at-takes (codes "lan") t.0 lan_name.0 lan_name.1;
         is_address = at.1;
@@ -194,13 +180,13 @@ pub source_row_again : (lans : List (List ℕ)) (earlier : List SourceRow) (d : 
 unfolding source_of
 source_row_again lans earlier d s is new =
     rw
-    (table_of-again source_keys d is.members is.is_table, text_at-again (codes "address") is.members (dotted s.address) is.address, text_at-again (codes "lan") is.members is.lan_name is.lan_text, source_again s.address is.is_address is.may_send, is.lan, new)
+    (known_table-again source_keys d is.members is.is_table, text_at-again (codes "address") is.members (dotted s.address) is.address, text_at-again (codes "lan") is.members is.lan_name is.lan_text, source_again s.address is.is_address is.may_send, is.lan, new)
     refl
 
 pub flow_takes : (sources : List SourceRow) (earlier : List Flow) (d : Data) (f : Flow) → flow_of sources earlier d ≡ Ok f → IsFlow sources d f × (has_flow f.source f.group earlier ≡ false)
 unfolding flow_of
 flow_takes sources earlier d f e =
-    let t = bind_ok (table_of flow_keys d) _ f e in
+    let t = bind_ok (known_table flow_keys d) _ f e in
     let source_text = bind_ok (text_at (codes "source") t.0) _ f t.2 in
     let group_text = bind_ok (text_at (codes "group") t.0) _ f source_text.2 in
     let number = bind_ok (number_at (codes "ttl") t.0) _ f group_text.2 in
@@ -216,7 +202,7 @@ flow_takes sources earlier d f e =
     subst (λ (x : Flow). IsFlow sources d x × (has_flow x.source x.group earlier ≡ false)) (ok_is made f new.1) (
       record {
         members = t.0;
-        is_table = table_of-takes flow_keys d t.0 t.1;
+        is_table = known_table-takes flow_keys d t.0 t.1;
         source = text_at-takes (codes "source") t.0 (dotted source.0) (source_text.1 ∙ ap Ok from.0);
         group = text_at-takes (codes "group") t.0 (dotted group.0) (group_text.1 ∙ ap Ok to.0);
         ttl = number_at-takes (codes "ttl") t.0 (pos ttl.0) (number.1 ∙ ap Ok within.0);
@@ -234,7 +220,7 @@ pub flow_again : (sources : List SourceRow) (earlier : List Flow) (d : Data) (f 
 unfolding flow_of
 flow_again sources earlier d f is new =
     rw
-    (table_of-again flow_keys d is.members is.is_table, text_at-again (codes "source") is.members (dotted f.source) is.source, text_at-again (codes "group") is.members (dotted f.group) is.group, number_at-again (codes "ttl") is.members (pos f.ttl) is.ttl, source_again f.source is.is_address is.may_send, is.lan, group_again f.group is.is_group, ttl_again f.ttl is.ttl_from is.ttl_to, new)
+    (known_table-again flow_keys d is.members is.is_table, text_at-again (codes "source") is.members (dotted f.source) is.source, text_at-again (codes "group") is.members (dotted f.group) is.group, number_at-again (codes "ttl") is.members (pos f.ttl) is.ttl, source_again f.source is.is_address is.may_send, is.lan, group_again f.group is.is_group, ttl_again f.ttl is.ttl_from is.ttl_to, new)
     refl
 
 -- ---- all parts of a section

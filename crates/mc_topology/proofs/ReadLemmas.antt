@@ -1,21 +1,69 @@
 -- What `read` promises, from what it gives.
-use Rattle.std.proofs.Common.{◌≡◌, ℕ, List, Result, Ok, Err, sym, subst, ◌∙◌}
-use Rattle.std.specs.Prelude.{IfOk}
+use Rattle.std.proofs.Common.{◌≡◌, ◌≢◌, ℕ, ◌≤◌, Bool, true, false, List, length, None, Result, Ok, Err, le-leb, refl, sym, ◌∙◌}
+use Rattle.std.specs.Prelude.{IfOk, IsUtf8}
+use Rattle.std.specs.Str.{is_utf8}
+use Rattle.std.proofs.lemmas.Str.{IsUtf8-from_is_utf8}
+use Rattle.toml.specs.Data.{Members}
+use Rattle.toml.specs.Parse.{parse_document}
 use Rattle.mc_topology.specs.declared.fault.TopologyFault.{TopologyFault}
-use Rattle.mc_topology.specs.Answer.{Gives}
-use Rattle.mc_topology.specs.Reading.{reading_of}
+use Rattle.mc_topology.specs.declared.fault.TopologyFaultKind.TheVariants.{NotToml}
+use Rattle.mc_topology.specs.Rows.{RouterRow, InterfaceRow, SourceRow}
+use Rattle.mc_topology.specs.Lans.{lans_in}
+use Rattle.mc_topology.specs.Routers.{routers_in}
+use Rattle.mc_topology.specs.Interfaces.{interfaces_in}
+use Rattle.mc_topology.specs.Sources.{sources_in}
+use Rattle.mc_topology.specs.Flows.{flows_in}
+use Rattle.mc_topology.specs.Answer.{out_of_memory}
+use Rattle.mc_topology.specs.Reading.{utf8_text, document_of, version_in, sections_in, topology_in, reading_of}
 use Rattle.mc_topology.specs.Stands.{TopologyStands}
 use Rattle.mc_topology.specs.Topology.{TopologyValue}
 use Rattle.mc_topology.proofs.Steps.{ok_is}
 use Rattle.mc_topology.proofs.Whole.{reading_takes, reading_again}
 
-pub read_found : (text : List ℕ) (r : Result TopologyValue TopologyFault) → Gives (λ (t : TopologyValue). t) r (reading_of text) → IfOk r (TopologyStands text)
-read_found text (Ok t) gives = reading_takes text t gives
+-- what was read stands there
+found_at : (text : List ℕ) (r : Result TopologyValue TopologyFault) → r ≡ reading_of text → IfOk r (TopologyStands text)
+found_at text (Ok t) gives = reading_takes text t (sym gives)
+found_at text (Err fault) gives = tt
+
+pub read_found : (text : List ℕ) (r : Result TopologyValue TopologyFault) → (r ≢ Err out_of_memory → r ≡ reading_of text) → IfOk r (TopologyStands text)
+read_found text (Ok t) gives = found_at text (Ok t) (gives (λ e. absurd cc))
 read_found text (Err fault) gives = tt
 
-pub read_only : (text : List ℕ) (r : Result TopologyValue TopologyFault) → Gives (λ (t : TopologyValue). t) r (reading_of text) → (t : TopologyValue) → TopologyStands text t → Gives (λ (x : TopologyValue). x) r (Ok t)
-read_only text r gives t is = subst (λ (step : Result TopologyValue TopologyFault). Gives (λ (x : TopologyValue). x) r step) (reading_again text t is) gives
+pub read_only : (text : List ℕ) (r : Result TopologyValue TopologyFault) → (r ≢ Err out_of_memory → r ≡ reading_of text) → (t : TopologyValue) → TopologyStands text t → r ≢ Err out_of_memory → r ≡ Ok t
+read_only text r gives t is other = gives other ∙ reading_again text t is
 
 -- a text stands for one topology at most
 pub one_topology : (text : List ℕ) (t u : TopologyValue) → TopologyStands text t → TopologyStands text u → t ≡ u
 one_topology text t u is_t is_u = ok_is {E = TopologyFault} t u (sym (reading_again text t is_t) ∙ reading_again text u is_u)
+
+-- ---- refusals
+
+refused_by : (text : List ℕ) (b : Bool) → is_utf8 text ≡ b → length text ≤ 16777216
+    → (IsUtf8 text → parse_document text ≡ None) → document_of text ≡ Err NotToml
+unfolding document_of utf8_text
+refused_by text true is few none =
+    let read = none (IsUtf8-from_is_utf8 text is) in
+    rw (le-leb (length text) 16777216 few, is, read) refl
+refused_by text false is few none = rw (le-leb (length text) 16777216 few, is) refl
+
+-- a text that isn't TOML in UTF-8
+pub document_refused : (text : List ℕ) → length text ≤ 16777216
+    → (IsUtf8 text → parse_document text ≡ None) → document_of text ≡ Err NotToml
+document_refused text few none = refused_by text (is_utf8 text) refl few none
+
+-- the first fault is among the sources
+pub refused_at_sources : (ms : Members) (lans : List (List ℕ)) (routers : List RouterRow) (interfaces : List InterfaceRow)
+    (fault : TopologyFault) → version_in ms ≡ Ok tt → lans_in ms ≡ Ok lans → routers_in ms ≡ Ok routers
+    → interfaces_in lans routers ms ≡ Ok interfaces → sources_in lans ms ≡ Err fault → topology_in ms ≡ Err fault
+unfolding topology_in sections_in
+refused_at_sources ms lans routers interfaces fault version at_lans at_routers at_interfaces at_sources =
+    rw (version, at_lans, at_routers, at_interfaces, at_sources) refl
+
+-- the first fault is among the flows
+pub refused_at_flows : (ms : Members) (lans : List (List ℕ)) (routers : List RouterRow) (interfaces : List InterfaceRow)
+    (sources : List SourceRow) (fault : TopologyFault) → version_in ms ≡ Ok tt → lans_in ms ≡ Ok lans
+    → routers_in ms ≡ Ok routers → interfaces_in lans routers ms ≡ Ok interfaces → sources_in lans ms ≡ Ok sources
+    → flows_in sources ms ≡ Err fault → topology_in ms ≡ Err fault
+unfolding topology_in sections_in
+refused_at_flows ms lans routers interfaces sources fault version at_lans at_routers at_interfaces at_sources at_flows =
+    rw (version, at_lans, at_routers, at_interfaces, at_sources, at_flows) refl

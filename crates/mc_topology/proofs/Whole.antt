@@ -25,7 +25,7 @@ use Rattle.mc_topology.specs.Sources.{source_of, sources_in}
 use Rattle.mc_topology.specs.Flows.{flow_of, flow_rows, flows_in}
 use Rattle.mc_topology.specs.Reading.{top_keys, utf8_text, document_of, version_in, sections_in, topology_in, reading_of}
 use Rattle.mc_topology.specs.Stands.{HasNumber, EachStands, IsLan, IsRouter, IsInterface, IsSourceRow, IsFlow, LansStand, SectionStands, DocumentStands, TopologyStands}
-use Rattle.mc_topology.specs.Topology.{Sections, TopologyValue, lan_key, router_key, key_of_interface, source_key, flow_key, topology_of}
+use Rattle.mc_topology.specs.Topology.{Sections, TopologyValue, lan_key, router_key, interface_key, source_key, flow_key, topology_of}
 use Rattle.mc_topology.proofs.Distinct.{distinct_none}
 use Rattle.mc_topology.proofs.Fields.{number_at-takes, number_at-again, list_at-takes, list_at-again, optional_list_at-takes, optional_list_at-again, rows_at-takes, rows_at-again}
 use Rattle.mc_topology.proofs.Keys.{same_lan, same_lan-Decides, same_router, same_router-Decides, same_interface, same_interface-Decides, same_source, same_source-Decides, same_flow, same_flow-Decides}
@@ -53,13 +53,13 @@ routers_again : (ms : Members) (rs : List RouterRow) → SectionStands (codes "r
 unfolding routers_in
 routers_again ms rs s = section_again section.Router (codes "router") 256 router_of IsRouter router_key same_router same_router-Decides router_again ms rs s
 
-interfaces_take : (lans : List (List ℕ)) (routers : List RouterRow) (ms : Members) (is : List InterfaceRow) → interfaces_in lans routers ms ≡ Ok is → SectionStands (codes "interface") 8192 (IsInterface lans routers) key_of_interface ms is
+interfaces_take : (lans : List (List ℕ)) (routers : List RouterRow) (ms : Members) (is : List InterfaceRow) → interfaces_in lans routers ms ≡ Ok is → SectionStands (codes "interface") 8192 (IsInterface lans routers) interface_key ms is
 unfolding interfaces_in
-interfaces_take lans routers ms is e = section_takes section.Interface (codes "interface") 8192 (interface_of lans routers) (IsInterface lans routers) key_of_interface same_interface same_interface-Decides (interface_takes lans routers) ms is e
+interfaces_take lans routers ms is e = section_takes section.Interface (codes "interface") 8192 (interface_of lans routers) (IsInterface lans routers) interface_key same_interface same_interface-Decides (interface_takes lans routers) ms is e
 
-interfaces_again : (lans : List (List ℕ)) (routers : List RouterRow) (ms : Members) (is : List InterfaceRow) → SectionStands (codes "interface") 8192 (IsInterface lans routers) key_of_interface ms is → interfaces_in lans routers ms ≡ Ok is
+interfaces_again : (lans : List (List ℕ)) (routers : List RouterRow) (ms : Members) (is : List InterfaceRow) → SectionStands (codes "interface") 8192 (IsInterface lans routers) interface_key ms is → interfaces_in lans routers ms ≡ Ok is
 unfolding interfaces_in
-interfaces_again lans routers ms is s = section_again section.Interface (codes "interface") 8192 (interface_of lans routers) (IsInterface lans routers) key_of_interface same_interface same_interface-Decides (interface_again lans routers) ms is s
+interfaces_again lans routers ms is s = section_again section.Interface (codes "interface") 8192 (interface_of lans routers) (IsInterface lans routers) interface_key same_interface same_interface-Decides (interface_again lans routers) ms is s
 
 sources_take : (lans : List (List ℕ)) (ms : Members) (ss : List SourceRow) → sources_in lans ms ≡ Ok ss → SectionStands (codes "source") 4096 (IsSourceRow lans) source_key ms ss
 unfolding sources_in

@@ -1,15 +1,11 @@
 -- Steps that may be refused, and how a call answers them.
-use Rattle.std.specs.Prelude.{◌≡◌, ◌≢◌, ℕ, ◌+◌, List, [], ◌∷◌, ◌++◌, length, Result, Ok, Err}
+use Rattle.std.specs.Prelude.{◌≡◌, ℕ, ◌+◌, List, [], ◌∷◌, ◌++◌, length, Result, Ok, Err}
+pub use Rattle.mc_text.specs.Steps.{◌>>=◌}
 use Rattle.mc_topology.specs.declared.fault.Section.{Section}
 use Rattle.mc_topology.specs.declared.fault.Section.TheVariants.{Top}
 use Rattle.mc_topology.specs.declared.fault.TopologyFaultKind.{TopologyFaultKind}
 use Rattle.mc_topology.specs.declared.fault.TopologyFaultKind.TheVariants.{Memory}
 use Rattle.mc_topology.specs.declared.fault.TopologyFault.{TopologyFault}
-
-infixl 10 ◌>>=◌
-abbrev pub ◌>>=◌ : {A B E : Type 0} → Result A E → (A → Result B E) → Result B E
-(Ok x) >>= f = f x
-(Err e) >>= f = Err e
 
 -- the fault of a step of this part of a section
 abbrev pub place : {A : Type 0} → Section → ℕ → Result A TopologyFaultKind → Result A TopologyFault
@@ -24,11 +20,6 @@ Answers view (Err e) step = step ≡ Err e
 -- the fault that may stand in place of any answer of a call that takes memory
 abbrev pub out_of_memory : TopologyFault
 out_of_memory = record { section = Top; number = 0; kind = Memory }
-
--- what a call answers, seen by view, unless memory runs out
-abbrev pub Gives : {X Y : Type 0} → (X → Y) → Result X TopologyFault → Result Y TopologyFault → Type 0
-Gives view (Ok x) step = step ≡ Ok (view x)
-Gives view (Err fault) step = fault ≢ out_of_memory → step ≡ Err fault
 
 -- The values of the parts of a section, each read beside those before it, or the first fault.
 unfoldable pub each : {D X : Type 0} → Section → (List X → D → Result X TopologyFaultKind)

@@ -32,8 +32,8 @@ abbrev pub list_of : Data → Result (List Data) TopologyFaultKind
 list_of d = ok_or (as_array d) BadKind >>= λ items. Ok (rows_in items)
 
 -- a table that has no other key than these
-unfoldable pub table_of : List (List ℕ) → Data → Result Members TopologyFaultKind
-table_of known d = ok_or (as_table d) BadKind >>= λ ms. if has_only known ms then Ok ms else Err UnknownKey
+unfoldable pub known_table : List (List ℕ) → Data → Result Members TopologyFaultKind
+known_table known d = ok_or (as_table d) BadKind >>= λ ms. if has_only known ms then Ok ms else Err UnknownKey
 
 -- the value under a key that has to be there
 abbrev pub at_key : List ℕ → Members → Result Data TopologyFaultKind

@@ -10,7 +10,7 @@ use Rattle.mc_topology.specs.declared.fault.TopologyFaultKind.TheVariants.{BadTt
 use Rattle.mc_topology.specs.declared.fault.TopologyFault.{TopologyFault}
 use Rattle.mc_topology.specs.Addresses.{source_address_of, group_address_of}
 use Rattle.mc_topology.specs.Answer.{◌>>=◌, place, each}
-use Rattle.mc_topology.specs.Document.{table_of, text_at, number_at, optional_list_at}
+use Rattle.mc_topology.specs.Document.{known_table, text_at, number_at, optional_list_at}
 use Rattle.mc_topology.specs.Sources.{lan_of_source}
 
 -- the keys of a flow
@@ -33,7 +33,7 @@ has_flow source group flows = list_any (λ f. (f.source == source) && (f.group =
 -- to live (BadTtl), and no earlier flow has the source and the group (RepeatedFlow).
 unfoldable pub flow_of : List SourceRow → List Flow → Data → Result Flow TopologyFaultKind
 flow_of sources earlier d = do
-  table ← table_of flow_keys d
+  table ← known_table flow_keys d
   source_text ← text_at (codes "source") table
   group_text ← text_at (codes "group") table
   number ← number_at (codes "ttl") table

@@ -1,5 +1,5 @@
 -- The interfaces.
-use Rattle.std.specs.Prelude.{ℕ, ◌==◌, ◌&&◌, not, List, [], ◌∷◌, codes, Bool, Result, Ok, Err, ok_or, if◌then◌else◌}
+use Rattle.std.specs.Prelude.{ℕ, ◌==◌, ◌&&◌, not, List, [], ◌∷◌, codes, find, Bool, Option, option_map, Result, Ok, Err, ok_or, if◌then◌else◌}
 use Rattle.std.specs.List.{list_any}
 use Rattle.std.specs.Str.{bytes_eq}
 use Rattle.toml.specs.Data.{Data, Members}
@@ -9,7 +9,7 @@ use Rattle.mc_topology.specs.declared.fault.TopologyFaultKind.{TopologyFaultKind
 use Rattle.mc_topology.specs.declared.fault.TopologyFaultKind.TheVariants.{BadName, UnknownName, RepeatedInterface}
 use Rattle.mc_topology.specs.declared.fault.TopologyFault.{TopologyFault}
 use Rattle.mc_topology.specs.Answer.{◌>>=◌, place, each}
-use Rattle.mc_topology.specs.Document.{table_of, text_at, rows_at}
+use Rattle.mc_topology.specs.Document.{known_table, text_at, rows_at}
 use Rattle.mc_topology.specs.Names.{is_device, index_of}
 use Rattle.mc_topology.specs.Routers.{router_no_of}
 
@@ -25,6 +25,11 @@ is_at router device i = (i.router == router) && bytes_eq i.device device
 abbrev pub has_interface : ℕ → List ℕ → List InterfaceRow → Bool
 has_interface router device interfaces = list_any (is_at router device) interfaces
 
+-- the LAN on which the interface of a router and a device lies
+abbrev pub lan_of_interface : ℕ → List ℕ → List InterfaceRow → Option ℕ
+lan_of_interface router device interfaces =
+    option_map (λ i. i.lan) (find (is_at router device) interfaces)
+
 -- An interface. It has to be a table (else BadKind) of no other keys (UnknownKey). Then the keys: `router`,
 -- `device` and `lan`, in this order, each have to be there (MissingKey) and to be a text (BadKind). Then the
 -- values: a router has the first name (UnknownName), a device can have the second (BadName), a LAN has the
@@ -32,7 +37,7 @@ has_interface router device interfaces = list_any (is_at router device) interfac
 unfoldable pub interface_of : List (List ℕ) → List RouterRow → List InterfaceRow → Data
     → Result InterfaceRow TopologyFaultKind
 interface_of lans routers earlier d = do
-  table ← table_of interface_keys d
+  table ← known_table interface_keys d
   router_name ← text_at (codes "router") table
   device ← text_at (codes "device") table
   lan_name ← text_at (codes "lan") table

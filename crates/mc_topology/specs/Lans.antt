@@ -1,5 +1,7 @@
 -- The list of LANs.
-use Rattle.std.specs.Prelude.{ℕ, not, nat_le, List, [], length, codes, Result, Ok, Err, if◌then◌else◌}
+use Rattle.std.specs.Prelude.{ℕ, not, nat_le, List, [], length, codes, Bool, Result, Ok, Err, if◌then◌else◌}
+use Rattle.std.specs.List.{list_any}
+use Rattle.std.specs.Str.{bytes_eq}
 use Rattle.toml.specs.Data.{Data, Members}
 use Rattle.mc_topology.specs.declared.fault.Section.TheVariants.{Lans}
 use Rattle.mc_topology.specs.declared.fault.TopologyFaultKind.{TopologyFaultKind}
@@ -7,14 +9,18 @@ use Rattle.mc_topology.specs.declared.fault.TopologyFaultKind.TheVariants.{BadNa
 use Rattle.mc_topology.specs.declared.fault.TopologyFault.{TopologyFault}
 use Rattle.mc_topology.specs.Answer.{◌>>=◌, place, each}
 use Rattle.mc_topology.specs.Document.{text_of, list_at}
-use Rattle.mc_topology.specs.Names.{is_name, is_among}
+use Rattle.mc_topology.specs.Names.{is_name}
+
+-- a LAN has the name
+abbrev pub has_lan : List ℕ → List (List ℕ) → Bool
+has_lan name lans = list_any (λ lan. bytes_eq lan name) lans
 
 -- A LAN's name. It has to be a text (else BadKind), then one that can be a name (BadName), and then one
 -- that no earlier LAN has (RepeatedName).
 unfoldable pub lan_of : List (List ℕ) → Data → Result (List ℕ) TopologyFaultKind
 lan_of earlier d = do
   name ← text_of d
-  if not (is_name name) then Err BadName else if is_among name earlier then Err RepeatedName else Ok name
+  if not (is_name name) then Err BadName else if has_lan name earlier then Err RepeatedName else Ok name
 
 -- The list has to be there (else MissingKey), then to be a list (BadKind), and then to have at most 1,024
 -- values (TooMany).

@@ -3,6 +3,7 @@ pub mod Answer
 pub mod Document
 pub mod Flows
 pub mod Interfaces
+pub mod Kept
 pub mod Lans
 pub mod Names
 pub mod Routers
@@ -13,6 +14,7 @@ pub mod Sources
 pub mod Stands
 pub mod Topology
 pub use Rattle.mc_text.specs.Addr
+pub use Rattle.mc_text.specs.Bundle
 pub use Rattle.mc_text.specs.DeviceName
 pub use Rattle.toml.specs.Data
 pub use Rattle.toml.specs.View

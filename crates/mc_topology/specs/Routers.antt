@@ -11,7 +11,7 @@ use Rattle.mc_topology.specs.declared.fault.TopologyFaultKind.{TopologyFaultKind
 use Rattle.mc_topology.specs.declared.fault.TopologyFaultKind.TheVariants.{BadKind, BadName, RepeatedName}
 use Rattle.mc_topology.specs.declared.fault.TopologyFault.{TopologyFault}
 use Rattle.mc_topology.specs.Answer.{◌>>=◌, place, each}
-use Rattle.mc_topology.specs.Document.{table_of, text_at, optional_text_at, rows_at}
+use Rattle.mc_topology.specs.Document.{known_table, text_at, optional_text_at, rows_at}
 use Rattle.mc_topology.specs.Names.{is_name}
 
 -- the keys of a router
@@ -40,7 +40,7 @@ router_no_of name routers = position (λ r. bytes_eq r.name name) routers
 -- the name (RepeatedName).
 unfoldable pub router_of : List RouterRow → Data → Result RouterRow TopologyFaultKind
 router_of earlier d = do
-  table ← table_of router_keys d
+  table ← known_table router_keys d
   name ← text_at (codes "name") table
   order_text ← optional_text_at (codes "order") table
   if not (is_name name) then Err BadName else do

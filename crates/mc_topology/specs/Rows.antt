@@ -1,5 +1,5 @@
 -- What the rows of a topology's sections stand for.
-use Rattle.std.specs.Prelude.{◌≡◌, ℕ, Bool, true, false, List, refl}
+use Rattle.std.specs.Prelude.{◌≡◌, ℕ, Bool, true, false, List, refl, String, string_bytes}
 use Rattle.std.specs.Coded.{Coded, code_by, coded×, coded_bool, coded_ℕ, coded_list}
 use Rattle.mc_text.specs.declared.addr.Order.{Order}
 use Rattle.mc_text.specs.declared.addr.Order.TheVariants.{Little, Big}
@@ -19,6 +19,13 @@ pub record InterfaceRow : Type 0 where
 pub record SourceRow : Type 0 where
   pub address : ℕ
   pub lan : ℕ
+
+-- rows of keys with what is kept of each
+abbrev pub router_row : {A : Type 0} → String A × Order → RouterRow
+router_row e = record { name = string_bytes e.0; order = e.1 }
+
+abbrev pub source_row : ℕ × ℕ → SourceRow
+source_row e = record { address = e.0; lan = e.1 }
 
 -- a row is stored as the tuple of its fields
 abbrev pub is_big : Order → Bool

@@ -9,7 +9,7 @@ use Rattle.mc_topology.specs.declared.fault.TopologyFaultKind.TheVariants.{Unkno
 use Rattle.mc_topology.specs.declared.fault.TopologyFault.{TopologyFault}
 use Rattle.mc_topology.specs.Addresses.{source_address_of}
 use Rattle.mc_topology.specs.Answer.{◌>>=◌, place, each}
-use Rattle.mc_topology.specs.Document.{table_of, text_at, rows_at}
+use Rattle.mc_topology.specs.Document.{known_table, text_at, rows_at}
 use Rattle.mc_topology.specs.Names.{index_of}
 
 -- the keys of a source
@@ -30,7 +30,7 @@ lan_of_source address sources = option_map (λ s. s.lan) (find (λ s. s.address 
 -- earlier source has the address (RepeatedName).
 unfoldable pub source_of : List (List ℕ) → List SourceRow → Data → Result SourceRow TopologyFaultKind
 source_of lans earlier d = do
-  table ← table_of source_keys d
+  table ← known_table source_keys d
   text ← text_at (codes "address") table
   lan_name ← text_at (codes "lan") table
   address ← source_address_of text

@@ -14,7 +14,7 @@ use Rattle.mc_topology.specs.Interfaces.{interface_keys}
 use Rattle.mc_topology.specs.Sources.{source_keys, lan_of_source}
 use Rattle.mc_topology.specs.Flows.{flow_keys}
 use Rattle.mc_topology.specs.Reading.{top_keys}
-use Rattle.mc_topology.specs.Topology.{Sections, TopologyValue, AreDistinctBy, lan_key, router_key, key_of_interface, source_key, flow_key, topology_of}
+use Rattle.mc_topology.specs.Topology.{Sections, TopologyValue, AreDistinctBy, lan_key, router_key, interface_key, source_key, flow_key, topology_of}
 
 -- ---- tables
 
@@ -133,7 +133,7 @@ pub record DocumentStands (ms : Members) (s : Sections) : Type 0 where
   pub lans : LansStand ms s.lans
   pub routers : SectionStands (codes "router") 256 IsRouter router_key ms s.routers
   pub interfaces : SectionStands (codes "interface") 8192 (IsInterface s.lans s.routers)
-      key_of_interface ms s.interfaces
+      interface_key ms s.interfaces
   pub sources : SectionStands (codes "source") 4096 (IsSourceRow s.lans) source_key ms s.sources
   pub flows : SectionStands (codes "flow") 4096 (IsFlow s.sources) flow_key ms s.flows
   pub some_flow : 0 < length s.flows

@@ -1,26 +1,17 @@
 -- What a topology is.
-use Rattle.std.specs.Prelude.{◌≡◌, ℕ, ◌<◌, ◌≤◌, List, ◌∷◌, length, map, refl, Some, slice_get}
-use Rattle.std.specs.Cmp.Lexicographic.{slice_cmp}
+use Rattle.std.specs.Prelude.{◌≡◌, ℕ, ◌<◌, ◌≤◌, IsTrue, List, length, refl, Some, slice_get}
 use Rattle.std.specs.Coded.{Coded, code_by, coded×, coded_ℕ, coded_list}
-use Rattle.std.specs.FinMap as finite
-use Rattle.std.specs.Ordering.{nat_cmp}
 use Rattle.mc_text.specs.Addr.{IsAddr, IsSource, IsForwardedGroup}
 use Rattle.mc_topology.specs.declared.flow.Flow.{Flow}
-use Rattle.mc_topology.specs.Rows.{RouterRow, InterfaceRow, SourceRow, router_code}
+pub use Rattle.mc_topology.specs.Interfaces.{lan_of_interface}
+use Rattle.mc_topology.specs.Names.{is_name, is_device}
+use Rattle.mc_topology.specs.Rows.{RouterRow, InterfaceRow, SourceRow, router_code, interface_code}
 
--- the finite map from interfaces to the numbers of their LANs
-abbrev pub LanByInterface : Type 0
-LanByInterface = finite.FinMap (slice_cmp nat_cmp) ℕ
-
--- the key of an interface: the number of its router before the bytes of its device
-abbrev pub interface_key : ℕ → List ℕ → List ℕ
-interface_key router device = router ∷ device
-
--- The names of the LANs and the routers, each in order, the LAN of each interface, and the flows in order.
+-- The names of the LANs, the routers, the interfaces and the flows, each in the order of the text.
 pub record TopologyValue : Type 0 where
   pub lans : List (List ℕ)
   pub routers : List RouterRow
-  pub interfaces : LanByInterface
+  pub interfaces : List InterfaceRow
   pub flows : List Flow
 
 -- What the five sections of a text stand for.
@@ -31,24 +22,14 @@ pub record Sections : Type 0 where
   pub sources : List SourceRow
   pub flows : List Flow
 
-abbrev pub interface_entry : InterfaceRow → List ℕ × ℕ
-interface_entry i = (interface_key i.router i.device, i.lan)
-
-abbrev pub lan_by_interface : List InterfaceRow → LanByInterface
-lan_by_interface interfaces = finite.from_entries (map interface_entry interfaces)
-
--- the topology of these LANs, routers, interfaces and flows
-abbrev pub topology_with : List (List ℕ) → List RouterRow → List InterfaceRow → List Flow → TopologyValue
-topology_with lans routers interfaces flows = record {
-  lans = lans;
-  routers = routers;
-  interfaces = lan_by_interface interfaces;
-  flows = flows;
-}
-
 -- the topology that the sections make
 abbrev pub topology_of : Sections → TopologyValue
-topology_of s = topology_with s.lans s.routers s.interfaces s.flows
+topology_of s = record {
+  lans = s.lans;
+  routers = s.routers;
+  interfaces = s.interfaces;
+  flows = s.flows;
+}
 
 -- What tells two rows of a section apart: the name of a LAN and of a router,
 abbrev pub lan_key : List ℕ → List ℕ
@@ -58,8 +39,8 @@ abbrev pub router_key : RouterRow → List ℕ
 router_key r = r.name
 
 -- the router and the device of an interface,
-abbrev pub key_of_interface : InterfaceRow → List ℕ
-key_of_interface i = interface_key i.router i.device
+abbrev pub interface_key : InterfaceRow → ℕ × List ℕ
+interface_key i = (i.router, i.device)
 
 -- the address of a source,
 abbrev pub source_key : SourceRow → ℕ
@@ -74,6 +55,16 @@ abbrev pub AreDistinctBy : {X K : Type 0} → (X → K) → List X → Type 0
 AreDistinctBy {X} {K} key xs =
     (i j : ℕ) (x y : X) → slice_get xs i ≡ Some x → slice_get xs j ≡ Some y → key x ≡ key y → i ≡ j
 
+-- an item stands in the list
+abbrev pub IsIn : {X : Type 0} → List X → X → Type 0
+IsIn xs x = (n : ℕ) × (slice_get xs n ≡ Some x)
+
+-- a device of one of the routers, on one of the LANs
+pub record IsInterfaceAmong (t : TopologyValue) (i : InterfaceRow) : Type 0 where
+  pub router : i.router < length t.routers
+  pub device : IsTrue (is_device i.device)
+  pub lan : i.lan < length t.lans
+
 -- a flow from a host that may send, on one of the LANs, to a group that routers forward, with a time to live
 -- of 1 to 255
 pub record IsFlowAmong (lans : List (List ℕ)) (f : Flow) : Type 0 where
@@ -84,17 +75,22 @@ pub record IsFlowAmong (lans : List (List ℕ)) (f : Flow) : Type 0 where
   pub ttl_from : 1 ≤ f.ttl
   pub ttl_to : f.ttl ≤ 255
 
--- What every topology keeps: at most 1,024 LANs and 256 routers, no two of one name, each interface on one of
--- the LANs, and 1 to 4,096 flows, each as above.
+-- What every topology keeps: at most 1,024 LANs and 256 routers, each with a name that is one, no two of
+-- one name; at most 8,192 interfaces, each as above, no two of one router and one device; and 1 to 4,096
+-- flows, each as above, no two of one source and one group.
 pub record IsTopology (t : TopologyValue) : Type 0 where
   pub few_lans : length t.lans ≤ 1024
   pub few_routers : length t.routers ≤ 256
+  pub few_interfaces : length t.interfaces ≤ 8192
   pub some_flow : 0 < length t.flows
   pub few_flows : length t.flows ≤ 4096
   pub lan_names : AreDistinctBy lan_key t.lans
   pub router_names : AreDistinctBy router_key t.routers
-  pub interface_lans : (router lan : ℕ) (device : List ℕ)
-      → finite.get t.interfaces (interface_key router device) ≡ Some lan → lan < length t.lans
+  pub interfaces_differ : AreDistinctBy interface_key t.interfaces
+  pub flows_differ : AreDistinctBy flow_key t.flows
+  pub lans_named : (n : ℕ) (name : List ℕ) → slice_get t.lans n ≡ Some name → IsTrue (is_name name)
+  pub routers_named : (n : ℕ) (r : RouterRow) → slice_get t.routers n ≡ Some r → IsTrue (is_name r.name)
+  pub interfaces_among : (n : ℕ) (i : InterfaceRow) → slice_get t.interfaces n ≡ Some i → IsInterfaceAmong t i
   pub flows_among : (n : ℕ) (f : Flow) → slice_get t.flows n ≡ Some f → IsFlowAmong t.lans f
 
 -- a topology is stored as the tuple of its fields, and so is a flow
@@ -107,9 +103,9 @@ flow_code =
 
 abbrev pub topology_code : Coded TopologyValue
 topology_code =
-    code_by (List (List ℕ) × (List RouterRow × (LanByInterface × List Flow)))
+    code_by (List (List ℕ) × (List RouterRow × (List InterfaceRow × List Flow)))
     (coded× (coded_list (coded_list coded_ℕ)) (coded× (coded_list router_code)
-    (coded× (finite.code (coded_list coded_ℕ) coded_ℕ) (coded_list flow_code))))
+    (coded× (coded_list interface_code) (coded_list flow_code))))
     (λ t. (t.lans, (t.routers, (t.interfaces, t.flows))))
     (λ p. record { lans = p.0; routers = p.1.0; interfaces = p.1.1.0; flows = p.1.1.1 })
     (λ _. refl)

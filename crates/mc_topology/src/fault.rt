@@ -1,7 +1,7 @@
 //! Why a topology is refused.
 
 ghost use Rattle.std.specs.Prelude.{◌≡◌, Some};
-ghost use Rattle.mc_topology.specs.Answer.{out_of_memory};
+ghost use Rattle.mc_topology.specs.Answer.{out_of_memory, place};
 ghost use Rattle.mc_topology.specs.SectionText.{section_text};
 
 use std::alloc::{AllocError, AllocFailed};
@@ -114,6 +114,17 @@ pub struct TopologyFault {
     pub number: u32,
     /// What is wrong there.
     pub kind: TopologyFaultKind,
+}
+
+/// What a step of reading gives, whose fault lies in the part of a section with this number.
+pub(crate) fn place<T>(
+    section: Section,
+    number: u32,
+    step: Result<T, TopologyFaultKind>,
+) -> Result<T, TopologyFault>
+    ensures { result ≡ place section number step }
+{
+    step.map_err(|kind| kind.at(section, number))
 }
 
 impl From<AllocError> for TopologyFault {

@@ -1,124 +1,117 @@
-//! The interfaces of a topology.
+//! The interfaces of a topology, by router and device.
 
-ghost use Rattle.std.specs.Prelude.{◌≡◌, ◌+◌, ◌≤◌, map, length, []};
-ghost use Rattle.toml.specs.View.{view, table_view};
-ghost use Rattle.mc_topology.specs.declared.fault.Section.TheVariants as section;
-ghost use Rattle.mc_topology.specs.Answer.{Answers, Gives, place, each};
-ghost use Rattle.mc_topology.specs.Interfaces.{has_interface, interface_of, interfaces_in};
+ghost use Rattle.std.specs.Prelude.{◌≡◌, ◌++◌, ◌<◌, ◌≤◌, [], ◌∷◌, false, length, slice_get, Some, IfErr, OnOk, MatchOption};
+ghost use Rattle.mc_topology.specs.Answer.{out_of_memory};
+ghost use Rattle.mc_topology.specs.Interfaces.{has_interface, lan_of_interface};
+ghost use Rattle.mc_topology.specs.Kept.{interface_row};
 
-use crate::document::{rows_at, table_of, text_at};
-use crate::fault::{Section, TopologyFault, TopologyFaultKind};
-use crate::interface::{Interface, InterfaceText, MAX_INTERFACES};
-use crate::lans::{MAX_LANS, lan_no_of};
-use crate::name::{Name, is_device};
-use crate::number::RouterNo;
-use crate::router::{MAX_ROUTERS, Router};
-use crate::routers::router_no_of;
+use crate::fault::TopologyFault;
+use crate::interface::Interface;
+use crate::number::{LanNo, RouterNo};
+use arrayvec::ArrayVec;
+use indexmap::IndexMap;
 use std::alloc::Global;
-use toml::{Table, Value};
+use std::marker::Model;
 
-/// Whether a router has an interface of the device.
-fn has_interface(interfaces: &[Interface], router: RouterNo, device: &str) -> bool
-    ensures { result ≡ has_interface router device.now interfaces.now }
-{
-    interfaces
-        .iter()
-        .any(|interface| interface.is_at(router, device.as_bytes()))
+/// The greatest number of interfaces.
+pub(crate) const MAX_INTERFACES: usize = 8192;
+
+/// The greatest length of a device's name, in bytes.
+pub(crate) const MAX_DEVICE: usize = 15;
+
+/// What tells interfaces apart: the router and the device.
+#[derive(Debug, PartialEq, Eq, Hash, Drop)]
+pub(crate) struct InterfaceKey {
+    router: RouterNo,
+    device: ArrayVec<u8, MAX_DEVICE>,
 }
 
-/// Reads one interface, whose router and device none of the earlier ones has.
-#[tactic(auto, unfolding(crate::specs::Interfaces::interface_of))]
-fn interface_of<'a>(
-    lans: &[Name],
-    routers: &[Router],
-    earlier: &[Interface],
-    value: &'a Value,
-) -> Result<InterfaceText<'a>, TopologyFaultKind>
-    requires few_lans { length lans.now ≤ MAX_LANS }
-    requires few_routers { length routers.now ≤ MAX_ROUTERS }
-    ensures { Answers (λ interface. interface) result
-        (interface_of lans.now routers.now earlier.now (view value.now)) }
-{
-    let table = table_of(value, &["router", "device", "lan"])?;
-    let router_name = text_at(table, "router")?;
-    let device = text_at(table, "device")?;
-    let lan_name = text_at(table, "lan")?;
-    let router = router_no_of(routers, router_name).ok_or(TopologyFaultKind::UnknownName)?;
-    if !is_device(device) {
-        return Err(TopologyFaultKind::BadName);
+impl InterfaceKey {
+    /// The key of a router and a device. There is none for a name of more than 15 bytes.
+    pub(crate) fn new(router: RouterNo, device: &[u8]) -> Option<InterfaceKey>
+        ensures { MatchOption result (15 < length device.now)
+            (λ key. (key.router ≡ router) × (key.device.items ≡ device.now) × (length device.now ≤ 15)) }
+    {
+        let device = ArrayVec::try_from(device).ok()?;
+        Some(InterfaceKey { router, device })
     }
-    let lan = lan_no_of(lans, lan_name).ok_or(TopologyFaultKind::UnknownName)?;
-    if has_interface(earlier, router, device) {
-        return Err(TopologyFaultKind::RepeatedInterface);
+}
+
+/// The interfaces, each with its LAN, in the order of the topology.
+#[derive(Debug, Drop)]
+pub(crate) struct Interfaces {
+    lans: IndexMap<InterfaceKey, LanNo>,
+}
+
+impl Model for Interfaces {
+    ghost use Rattle.std.specs.Prelude.{List, map};
+    ghost use Rattle.mc_topology.specs.Rows.{InterfaceRow};
+
+    ghost Value = { List InterfaceRow };
+
+    ghost use Rattle.mc_topology.specs.Kept.{interface_row, HaveShortDevices};
+
+    ghost view = { λ a. map interface_row a.lans.entries };
+
+    ghost invariant = { λ a. HaveShortDevices (map interface_row a.lans.entries) };
+}
+
+impl Interfaces {
+    /// No interfaces.
+    pub(crate) fn new(alloc: Global) -> Interfaces
+        ensures { result ≡ [] }
+    {
+        Interfaces {
+            lans: IndexMap::new(alloc),
+        }
     }
-    Ok(InterfaceText {
-        router,
-        device,
-        lan,
-    })
-}
 
-/// Reads one interface, and adds to a fault its section and number.
-fn interface_at<'a>(
-    lans: &[Name],
-    routers: &[Router],
-    earlier: &[Interface],
-    value: &'a Value,
-) -> Result<InterfaceText<'a>, TopologyFault>
-    requires few_lans { length lans.now ≤ MAX_LANS }
-    requires few_routers { length routers.now ≤ MAX_ROUTERS }
-    requires few { length earlier.now ≤ MAX_INTERFACES }
-    ensures { Answers (λ interface. interface) result
-        (place section.Interface (length earlier.now + 1)
-        (interface_of lans.now routers.now earlier.now (view value.now))) }
-{
-    let number = earlier.len() as u32 + 1;
-    interface_of(lans, routers, earlier, value).map_err(|kind| kind.at(Section::Interface, number))
-}
-
-/// The interfaces of a list, one after the other.
-fn each_interface(
-    alloc: Global,
-    lans: &[Name],
-    routers: &[Router],
-    rows: &[Value],
-) -> Result<Vec<Interface>, TopologyFault>
-    requires few_lans { length lans.now ≤ MAX_LANS }
-    requires few_routers { length routers.now ≤ MAX_ROUTERS }
-    requires few { length rows.now ≤ MAX_INTERFACES }
-    ensures { Gives (λ interfaces. interfaces.items) result
-        (each section.Interface (interface_of lans.now routers.now) [] (map view rows.now)) }
-{
-    let mut interfaces = Vec::new(alloc);
-    for row in rows {
-        let interface = interface_at(lans, routers, &interfaces, row)?;
-        let device = Name::new(alloc, interface.device)?;
-        let (router, lan) = (interface.router, interface.lan);
-        interfaces.push(Interface {
-            router,
-            device,
-            lan,
-        })?;
+    /// How many there are.
+    pub(crate) fn len(&self) -> usize
+        ensures { result ≡ length self.now }
+    {
+        self.lans.len()
     }
-    Ok(interfaces)
-}
 
-/// The interfaces, in order.
-#[tactic(auto, unfolding(crate::specs::Interfaces::interfaces_in))]
-pub(crate) fn interfaces_in(
-    alloc: Global,
-    lans: &[Name],
-    routers: &[Router],
-    table: &Table,
-) -> Result<Vec<Interface>, TopologyFault>
-    requires few_lans { length lans.now ≤ MAX_LANS }
-    requires few_routers { length routers.now ≤ MAX_ROUTERS }
-    ensures { Gives (λ interfaces. interfaces.items) result
-        (interfaces_in lans.now routers.now (table_view table.now)) }
-{
-    let rows = rows_at(table, "interface", MAX_INTERFACES).map_err(|kind| kind.at(
-        Section::Interface,
-        0,
-    ))?;
-    each_interface(alloc, lans, routers, rows)
+    /// The LAN on which the interface of a router and a device lies.
+    pub(crate) fn lan_of(&self, router: RouterNo, device: &[u8]) -> Option<LanNo>
+        ensures { result ≡ lan_of_interface router device.now self.now }
+    {
+        let lans = &self.lans;
+        let key = InterfaceKey::new(router, device)?;
+        let lan = lans.get(&key)?;
+        Some(*lan)
+    }
+
+    /// Whether there is an interface with the key.
+    pub(crate) fn has(&self, key: &InterfaceKey) -> bool
+        ensures { result ≡ has_interface key.now.router key.now.device.items self.now }
+    {
+        self.lans.contains_key(key)
+    }
+
+    /// The interface with this number.
+    pub(crate) fn interface(&self, interface: u32) -> Interface<'_>
+        requires { interface < length self.now }
+        ensures { slice_get self.now interface ≡ Some result }
+    {
+        let keys = self.lans.keys();
+        let key = &keys.as_slice()[interface as usize];
+        Interface {
+            router: key.router,
+            device: key.device.as_slice(),
+            lan: self.lans[interface as usize],
+        }
+    }
+
+    /// Adds an interface with a key that no interface has.
+    pub(crate) fn push(&mut self, key: InterfaceKey, lan: LanNo) -> Result<(), TopologyFault>
+        requires new { has_interface key.router key.device.items self.old ≡ false }
+        requires short { length key.device.items ≤ 15 }
+        ensures added { OnOk result (self.new ≡ self.old ++ interface_row (key, lan) ∷ []) }
+        ensures fault { IfErr result (λ fault. fault ≡ out_of_memory) }
+    {
+        self.lans.insert(key, lan)?;
+        Ok(())
+    }
 }

@@ -1,90 +1,83 @@
-//! The list of LANs.
+//! The LANs of a topology, by name and by number.
 
-ghost use Rattle.std.specs.Prelude.{◌≡◌, ◌+◌, ◌<◌, ◌≤◌, map, length, vec_len, [], IfOk, IfSome};
-ghost use Rattle.toml.specs.View.{view, table_view};
-ghost use Rattle.mc_topology.specs.declared.fault.Section.TheVariants.{Lans};
-ghost use Rattle.mc_topology.specs.Answer.{Answers, Gives, place, each};
+ghost use Rattle.std.specs.Prelude.{◌≡◌, ◌++◌, ◌<◌, ◌≤◌, [], ◌∷◌, false, length, slice_get, Some, IfErr, IfSome, OnOk};
+ghost use Rattle.mc_topology.specs.Answer.{out_of_memory};
+ghost use Rattle.mc_topology.specs.Lans.{has_lan};
 ghost use Rattle.mc_topology.specs.Names.{index_of};
-ghost use Rattle.mc_topology.specs.Lans.{lan_of, lan_rows, lans_in};
 
-use crate::document::{list_at, text_of};
-use crate::fault::{Section, TopologyFault, TopologyFaultKind};
-use crate::name::{Name, index_of, is_among, is_name};
+use crate::fault::TopologyFault;
 use crate::number::LanNo;
+use indexmap::IndexSet;
 use std::alloc::Global;
-use toml::{Table, Value};
+use std::marker::Model;
 
 /// The greatest number of LANs.
 pub(crate) const MAX_LANS: usize = 1024;
 
-/// The number of the LAN with the name.
-pub(crate) fn lan_no_of(lans: &[Name], name: &str) -> Option<LanNo>
-    requires { length lans.now ≤ MAX_LANS }
-    ensures number { result ≡ index_of name.now lans.now }
-    ensures listed { IfSome result (λ lan. lan < length lans.now) }
-{
-    let place = index_of(lans, name)?;
-    Some(LanNo(place as u32))
+/// The names of the LANs, in the order of the topology.
+#[derive(Debug, Drop)]
+pub(crate) struct Lans {
+    names: IndexSet<String>,
 }
 
-/// Reads the name of one LAN, which none of the earlier ones has.
-#[tactic(auto, unfolding(crate::specs::Lans::lan_of))]
-fn lan_of<'a>(earlier: &[Name], value: &'a Value) -> Result<&'a str, TopologyFaultKind>
-    ensures { Answers (λ name. name.now) result (lan_of earlier.now (view value.now)) }
-{
-    let name = text_of(value)?;
-    if !is_name(name) {
-        return Err(TopologyFaultKind::BadName);
+impl Model for Lans {
+    ghost use Rattle.std.specs.Prelude.{List, ℕ, map, string_bytes};
+
+    ghost Value = { List (List ℕ) };
+
+    ghost view = { λ a. map string_bytes a.names.keys };
+}
+
+impl Lans {
+    /// No LANs.
+    pub(crate) fn new(alloc: Global) -> Lans
+        ensures { result ≡ [] }
+    {
+        Lans {
+            names: IndexSet::new(alloc),
+        }
     }
-    if is_among(earlier, name) {
-        return Err(TopologyFaultKind::RepeatedName);
+
+    /// How many there are.
+    pub(crate) fn len(&self) -> usize
+        ensures { result ≡ length self.now }
+    {
+        self.names.len()
     }
-    Ok(name)
-}
 
-/// Reads the name of one LAN, and adds to a fault its section and number.
-fn lan_at<'a>(earlier: &[Name], value: &'a Value) -> Result<&'a str, TopologyFault>
-    requires { length earlier.now ≤ MAX_LANS }
-    ensures { Answers (λ name. name.now) result
-        (place Lans (length earlier.now + 1) (lan_of earlier.now (view value.now))) }
-{
-    let number = earlier.len() as u32 + 1;
-    lan_of(earlier, value).map_err(|kind| kind.at(Section::Lans, number))
-}
-
-/// The list of LANs.
-#[tactic(auto, unfolding(crate::specs::Lans::lan_rows))]
-fn lan_rows(table: &Table) -> Result<&[Value], TopologyFaultKind>
-    ensures rows { Answers (λ rows. map view rows.now) result (lan_rows (table_view table.now)) }
-    ensures few { IfOk result (λ rows. length rows.now ≤ MAX_LANS) }
-{
-    let rows = list_at(table, "lans")?;
-    if rows.len() > MAX_LANS {
-        return Err(TopologyFaultKind::TooMany);
+    /// Whether a LAN has the name.
+    pub(crate) fn has(&self, name: &str) -> bool
+        ensures { result ≡ has_lan name.now self.now }
+    {
+        self.names.contains(name)
     }
-    Ok(rows)
-}
 
-/// The names of the LANs of a list, one after the other.
-fn each_lan(alloc: Global, rows: &[Value]) -> Result<Vec<Name>, TopologyFault>
-    requires { length rows.now ≤ MAX_LANS }
-    ensures lans { Gives (λ lans. lans.items) result (each Lans lan_of [] (map view rows.now)) }
-    ensures few { IfOk result (λ lans. vec_len lans ≤ MAX_LANS) }
-{
-    let mut lans = Vec::new(alloc);
-    for row in rows {
-        let name = lan_at(&lans, row)?;
-        lans.push(Name::new(alloc, name)?)?;
+    /// The number of the LAN with the name.
+    pub(crate) fn number_of(&self, name: &str) -> Option<LanNo>
+        requires { length self.now ≤ MAX_LANS }
+        ensures number { result ≡ index_of name.now self.now }
+        ensures listed { IfSome result (λ lan. lan < length self.now) }
+    {
+        let place = self.names.get_index_of(name)?;
+        Some(LanNo(place as u32))
     }
-    Ok(lans)
-}
 
-/// The names of the LANs, in order.
-#[tactic(auto, unfolding(crate::specs::Lans::lans_in))]
-pub(crate) fn lans_in(alloc: Global, table: &Table) -> Result<Vec<Name>, TopologyFault>
-    ensures lans { Gives (λ lans. lans.items) result (lans_in (table_view table.now)) }
-    ensures few { IfOk result (λ lans. vec_len lans ≤ MAX_LANS) }
-{
-    let rows = lan_rows(table).map_err(|kind| kind.at(Section::Lans, 0))?;
-    each_lan(alloc, rows)
+    /// The name of a LAN.
+    pub(crate) fn name(&self, lan: LanNo) -> &str
+        requires { lan < length self.now }
+        ensures { slice_get self.now lan ≡ Some result.now }
+    {
+        let name = &self.names.as_slice()[lan.0 as usize];
+        name.as_str()
+    }
+
+    /// Adds a LAN whose name no LAN has.
+    pub(crate) fn push(&mut self, alloc: Global, name: &str) -> Result<(), TopologyFault>
+        requires { has_lan name.now self.old ≡ false }
+        ensures added { OnOk result (self.new ≡ self.old ++ name.now ∷ []) }
+        ensures fault { IfErr result (λ fault. fault ≡ out_of_memory) }
+    {
+        self.names.insert(String::from_str(alloc, name)?)?;
+        Ok(())
+    }
 }

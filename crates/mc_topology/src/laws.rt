@@ -1,11 +1,15 @@
 //! What follows from the definitions alone, for whoever builds on them.
 
-ghost use Rattle.std.specs.Prelude.{◌≡◌, ◌↔◌, ℕ, List, Some, Ok, option_map, slice_get};
-ghost use Rattle.mc_topology.specs.Names.{index_of};
+ghost use Rattle.std.specs.Prelude.{◌≡◌, ◌↔◌, ℕ, ◌++◌, codes, List, IsTrue, Some, Ok, option_map, slice_get};
+ghost use Rattle.std.specs.Ordering.{nat_cmp};
+ghost use Rattle.mc_text.specs.Bundle.{IsPartName};
+ghost use Rattle.mc_topology.specs.Names.{is_name, index_of};
 ghost use Rattle.mc_topology.specs.Reading.{reading_of};
 ghost use Rattle.mc_topology.specs.Routers.{router_no_of};
 ghost use Rattle.mc_topology.specs.Stands.{TopologyStands};
-ghost use Rattle.mc_topology.specs.Topology.{TopologyValue, IsTopology};
+ghost use Rattle.mc_topology.specs.Topology.{TopologyValue, IsIn, IsTopology, lan_of_interface};
+
+use crate::number::{LanNo, RouterNo};
 
 /// Reading gives a topology exactly where the text stands for it, so a text stands for one topology at
 /// most.
@@ -17,7 +21,7 @@ pub fn topologies_are_read_as_they_stand()
 {}
 
 /// What a text stands for keeps the rules of a topology. Of each topology in memory the clauses `rules` of
-/// `lans`, `routers` and `flows` say so.
+/// `lans`, `routers`, `interfaces` and `flows` say so.
 pub fn texts_stand_for_topologies()
     ensures { (text : List ℕ) (t : TopologyValue) → TopologyStands text t → IsTopology t }
 {}
@@ -40,4 +44,25 @@ pub fn router_numbers_and_names_undo_each_other()
     ensures name_of_number { (t : TopologyValue) (router : ℕ) (name : List ℕ) →
         router_no_of name t.routers ≡ Some router →
         option_map (λ r. r.name) (slice_get t.routers router) ≡ Some name }
+{}
+
+/// The look-up by router and device finds exactly the rows of the interfaces: `lan_of_device` answers a
+/// LAN where there is a row of the router, the device and this LAN, and nothing where there is none.
+pub fn interfaces_are_found_by_router_and_device()
+    ensures { (t : TopologyValue) (router lan : ℕ) (device : List ℕ) → IsTopology t →
+        ((lan_of_interface router device t.interfaces ≡ Some lan) ↔
+        IsIn t.interfaces (record { router = router; device = device; lan = lan })) }
+{}
+
+/// LANs and routers are ordered by their numbers.
+pub fn lans_and_routers_are_ordered_by_number()
+    ensures lans { (a b : ℕ) → ⟦<LanNo as Ord>⟧.cmp a b ≡ nat_cmp a b }
+    ensures routers { (a b : ℕ) → ⟦<RouterNo as Ord>⟧.cmp a b ≡ nat_cmp a b }
+{}
+
+/// What is named for a LAN or a router can be the name of a part of a bundle.
+pub fn names_make_names_of_parts()
+    ensures vif { (name : List ℕ) → IsTrue (is_name name) → IsPartName (codes "vif/" ++ name) }
+    ensures cache { (name : List ℕ) → IsTrue (is_name name) → IsPartName (codes "cache/" ++ name) }
+    ensures igmp { (name : List ℕ) → IsTrue (is_name name) → IsPartName (codes "igmp/" ++ name) }
 {}

@@ -2,8 +2,6 @@
 //! on which LAN, and the flows.
 #![tactic(auto)]
 
-mod address;
-mod document;
 mod fault;
 mod flow;
 mod flows;
@@ -14,17 +12,18 @@ mod laws;
 mod name;
 mod number;
 mod read;
-mod router;
 mod routers;
-mod source;
 mod sources;
 mod topology;
 
 pub use fault::{Section, TopologyFault, TopologyFaultKind};
 pub use flow::Flow;
+pub use interface::Interface;
 pub use laws::{
-    lan_numbers_and_names_undo_each_other, router_numbers_and_names_undo_each_other,
-    texts_stand_for_topologies, topologies_are_read_as_they_stand,
+    interfaces_are_found_by_router_and_device, lan_numbers_and_names_undo_each_other,
+    lans_and_routers_are_ordered_by_number, names_make_names_of_parts,
+    router_numbers_and_names_undo_each_other, texts_stand_for_topologies,
+    topologies_are_read_as_they_stand,
 };
 pub use number::{LanNo, RouterNo};
 pub use topology::Topology;

@@ -1,44 +1,42 @@
-//! Reading a topology.
+//! Reading a topology: the text as a whole, its keys and version, and then its sections in order.
 
-ghost use Rattle.std.specs.Prelude.{◌≡◌};
+mod address;
+mod document;
+mod flows;
+mod interfaces;
+mod lans;
+mod routers;
+mod sources;
+
+ghost use Rattle.std.specs.Prelude.{◌≡◌, ◌≢◌, Ok, Err, IfErr, IfOk};
 ghost use Rattle.toml.specs.View.{table_view};
 ghost use Rattle.mc_topology.specs.declared.fault.Section.TheVariants as section;
-ghost use Rattle.mc_topology.specs.Answer.{Answers, Gives, place};
-ghost use Rattle.mc_topology.specs.Reading.{utf8_text, document_of, version_in, topology_in, reading_of};
+ghost use Rattle.mc_topology.specs.Answer.{out_of_memory, place};
+ghost use Rattle.mc_topology.specs.Reading.{document_of, version_in, topology_in, reading_of};
 
-use crate::document::{has_only, number_at};
-use crate::fault::{Section, TopologyFault, TopologyFaultKind};
-use crate::flows::flows_in;
-use crate::interfaces::interfaces_in;
-use crate::lans::lans_in;
-use crate::routers::routers_in;
-use crate::sources::sources_in;
+use crate::fault::{Section, TopologyFault, TopologyFaultKind, place};
 use crate::topology::Topology;
+use document::{has_only, number_at};
+use flows::flows_in;
+use interfaces::interfaces_in;
+use lans::lans_in;
 use mc_text::MAX_TEXT;
+use routers::routers_in;
+use sources::sources_in;
 use std::alloc::Global;
-use std::str;
 use toml::Table;
 
-/// The bytes as text.
-fn utf8_text(bytes: &[u8]) -> Result<&str, TopologyFaultKind>
-    ensures { Answers (λ text. text.now) result (utf8_text bytes.now) }
-{
-    match str::from_utf8(bytes) {
-        Ok(text) => Ok(text),
-        Err(_) => Err(TopologyFaultKind::NotToml),
-    }
-}
-
 /// The table that a text is.
-#[tactic(auto, unfolding(crate::specs::Reading::document_of))]
+#[tactic(auto, unfolding(crate::specs::Reading::document_of, crate::specs::Reading::utf8_text))]
 fn document_of(alloc: Global, text: &[u8]) -> Result<Table, TopologyFault>
-    ensures { Gives table_view result (place section.Top 0 (document_of text.now)) }
+    ensures found { IfOk result (λ table. document_of text.now ≡ Ok (table_view table)) }
+    ensures fault { IfErr result (λ fault. fault ≢ out_of_memory →
+        place section.Top 0 (document_of text.now) ≡ Err fault) }
 {
     if text.len() > MAX_TEXT {
         return Err(TopologyFaultKind::TooMany.at(Section::Top, 0));
     }
-    let text = utf8_text(text).map_err(|kind| kind.at(Section::Top, 0))?;
-    match toml::table_from_str(alloc, text) {
+    match toml::table_from_slice(alloc, text) {
         Ok(table) => Ok(table),
         Err(error) if error.is_memory() => Err(TopologyFaultKind::Memory.at(Section::Top, 0)),
         Err(_) => Err(TopologyFaultKind::NotToml.at(Section::Top, 0)),
@@ -48,7 +46,7 @@ fn document_of(alloc: Global, text: &[u8]) -> Result<Table, TopologyFault>
 /// Looks at the keys and the version.
 #[tactic(auto, unfolding(crate::specs::Reading::version_in))]
 fn version_in(table: &Table) -> Result<(), TopologyFaultKind>
-    ensures { Answers (λ _. tt) result (version_in (table_view table.now)) }
+    ensures { result ≡ version_in (table_view table.now) }
 {
     if !has_only(
         table,
@@ -66,9 +64,9 @@ fn version_in(table: &Table) -> Result<(), TopologyFaultKind>
 /// The topology of a table.
 #[tactic(auto, unfolding(crate::specs::Reading::sections_in, crate::specs::Reading::topology_in))]
 fn topology_in(alloc: Global, table: &Table) -> Result<Topology, TopologyFault>
-    ensures { Gives (λ t. t) result (topology_in (table_view table.now)) }
+    ensures { result ≢ Err out_of_memory → result ≡ topology_in (table_view table.now) }
 {
-    version_in(table).map_err(|kind| kind.at(Section::Top, 0))?;
+    place(Section::Top, 0, version_in(table))?;
     let lans = lans_in(alloc, table)?;
     let routers = routers_in(alloc, table)?;
     let interfaces = interfaces_in(alloc, &lans, &routers, table)?;
@@ -80,7 +78,7 @@ fn topology_in(alloc: Global, table: &Table) -> Result<Topology, TopologyFault>
 /// The topology of a text.
 #[tactic(auto, unfolding(crate::specs::Reading::reading_of))]
 pub(crate) fn reading_of(alloc: Global, text: &[u8]) -> Result<Topology, TopologyFault>
-    ensures { Gives (λ t. t) result (reading_of text.now) }
+    ensures { result ≢ Err out_of_memory → result ≡ reading_of text.now }
 {
     let table = document_of(alloc, text)?;
     topology_in(alloc, &table)

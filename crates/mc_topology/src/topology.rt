@@ -1,20 +1,20 @@
 //! A topology and what it answers.
 
-ghost use Rattle.std.specs.Prelude.{◌≡◌, ◌<◌, ◌≤◌, length, Some, IfSome, option_map, slice_get};
-ghost use Rattle.std.specs.FinMap as finite;
-ghost use Rattle.mc_topology.specs.Names.{index_of};
+ghost use Rattle.std.specs.Prelude.{◌≡◌, ◌<◌, ◌≤◌, length, Some, None, IfSome, IsTrue, option_map, slice_get};
+ghost use Rattle.mc_topology.specs.Interfaces.{lan_of_interface};
+ghost use Rattle.mc_topology.specs.Names.{is_name, index_of};
 ghost use Rattle.mc_topology.specs.Routers.{router_no_of};
-ghost use Rattle.mc_topology.specs.Topology.{interface_key, lan_by_interface, topology_with, IsFlowAmong, IsTopology};
+ghost use Rattle.mc_topology.specs.Topology.{IsInterfaceAmong, IsFlowAmong, IsTopology};
 
 use crate::fault::TopologyFault;
 use crate::flow::Flow;
+use crate::flows::Flows;
 use crate::interface::Interface;
-use crate::lans::lan_no_of;
-use crate::name::Name;
+use crate::interfaces::Interfaces;
+use crate::lans::Lans;
 use crate::number::{LanNo, RouterNo};
 use crate::read::reading_of;
-use crate::router::Router;
-use crate::routers::router_no_of;
+use crate::routers::Routers;
 use mc_text::Order;
 use std::alloc::Global;
 use std::marker::Model;
@@ -22,53 +22,60 @@ use std::marker::Model;
 /// The LANs and routers of a domain by name, the LAN of each interface, and the flows.
 #[derive(Debug, Drop)]
 pub struct Topology {
-    lans: Vec<Name>,
-    routers: Vec<Router>,
-    interfaces: Vec<Interface>,
-    flows: Vec<Flow>,
+    lans: Lans,
+    routers: Routers,
+    interfaces: Interfaces,
+    flows: Flows,
 }
 
 impl Model for Topology {
-    ghost use Rattle.mc_topology.specs.Topology.{TopologyValue, topology_code, topology_with, IsTopology};
+    ghost use Rattle.mc_topology.specs.Topology.{TopologyValue, topology_code, IsTopology};
 
     ghost Value = { TopologyValue };
 
     ghost coded = { topology_code };
 
-    ghost view = { λ s. topology_with s.lans.items s.routers.items s.interfaces.items s.flows.items };
+    ghost view = { λ s. record {
+      lans = s.lans;
+      routers = s.routers;
+      interfaces = s.interfaces;
+      flows = s.flows;
+    } };
 
-    ghost invariant = { λ s. IsTopology
-        (topology_with s.lans.items s.routers.items s.interfaces.items s.flows.items) };
-}
-
-/// The LAN of the interface of a router and a device.
-fn lan_of_interface(interfaces: &[Interface], router: RouterNo, device: &[u8]) -> Option<LanNo>
-    ensures { result ≡ finite.get (lan_by_interface interfaces.now) (interface_key router device.now) }
-{
-    for interface in interfaces {
-        if interface.is_at(router, device) {
-            return Some(interface.lan);
-        }
-    }
-    None
+    ghost invariant = { λ s. IsTopology (record {
+      lans = s.lans;
+      routers = s.routers;
+      interfaces = s.interfaces;
+      flows = s.flows;
+    }) };
 }
 
 impl Topology {
-    ghost use Rattle.std.specs.Prelude.{IfOk, Ok};
-    ghost use Rattle.mc_topology.specs.Answer.{Gives};
+    ghost use Rattle.std.specs.Prelude.{◌≢◌, IfOk, Ok, Err};
+    ghost use Rattle.mc_topology.specs.Answer.{out_of_memory};
     ghost use Rattle.mc_topology.specs.Reading.{reading_of};
     ghost use Rattle.mc_topology.specs.Stands.{TopologyStands};
     ghost use Rattle.mc_topology.specs.Topology.{TopologyValue};
 
-    /// The topology of its parts.
+    /// The topology of its sections.
     pub(crate) fn new(
-        lans: Vec<Name>,
-        routers: Vec<Router>,
-        interfaces: Vec<Interface>,
-        flows: Vec<Flow>,
+        lans: Lans,
+        routers: Routers,
+        interfaces: Interfaces,
+        flows: Flows,
     ) -> Topology
-        requires { IsTopology (topology_with lans.items routers.items interfaces.items flows.items) }
-        ensures { result ≡ topology_with lans.items routers.items interfaces.items flows.items }
+        requires { IsTopology (record {
+          lans = lans;
+          routers = routers;
+          interfaces = interfaces;
+          flows = flows;
+        }) }
+        ensures { result ≡ record {
+          lans = lans;
+          routers = routers;
+          interfaces = interfaces;
+          flows = flows;
+        } }
     {
         Topology {
             lans,
@@ -88,9 +95,9 @@ impl Topology {
         ensures found { IfOk result (TopologyStands text.now) }
         // A text that stands for a topology is read as that, unless memory runs out.
         ensures only { (t : TopologyValue) → TopologyStands text.now t →
-            Gives (λ x. x) result (Ok t) }
-        // Which fault it is.
-        ensures fault { Gives (λ x. x) result (reading_of text.now) }
+            result ≢ Err out_of_memory → result ≡ Ok t }
+        // Which fault it is, unless memory runs out.
+        ensures fault { result ≢ Err out_of_memory → result ≡ reading_of text.now }
     {
         reading_of(alloc, text)
     }
@@ -111,6 +118,14 @@ impl Topology {
         self.routers.len() as u32
     }
 
+    /// How many interfaces there are, at most 8,192.
+    pub fn interfaces(&self) -> u32
+        ensures count { result ≡ length self.now.interfaces }
+        ensures rules { IsTopology self.now }
+    {
+        self.interfaces.len() as u32
+    }
+
     /// How many flows there are, 1 to 4,096.
     pub fn flows(&self) -> u32
         ensures count { result ≡ length self.now.flows }
@@ -124,17 +139,26 @@ impl Topology {
         requires { router < length self.now.routers }
         ensures { option_map (λ r. r.order) (slice_get self.now.routers router) ≡ Some result }
     {
-        let found = &self.routers[router.0 as usize];
-        found.order
+        self.routers.order(router)
     }
 
     /// The LAN on which the interface of a router and a device lies. None where the topology names no
     /// interface of the router and the device.
     pub fn lan_of_device(&self, router: RouterNo, device: &[u8]) -> Option<LanNo>
-        ensures lan { result ≡ finite.get self.now.interfaces (interface_key router device.now) }
+        ensures lan { result ≡ lan_of_interface router device.now self.now.interfaces }
         ensures listed { IfSome result (λ lan. lan < length self.now.lans) }
+        ensures no_router { length self.now.routers ≤ router → result ≡ None }
     {
-        lan_of_interface(&self.interfaces, router, device)
+        self.interfaces.lan_of(router, device)
+    }
+
+    /// The interface with this number, counted from 0 in the order of the topology.
+    pub fn interface(&self, interface: u32) -> Interface<'_>
+        requires { interface < length self.now.interfaces }
+        ensures interface { slice_get self.now.interfaces interface ≡ Some result }
+        ensures among { IsInterfaceAmong self.now result }
+    {
+        self.interfaces.interface(interface)
     }
 
     /// The flow with this number, counted from 0 in the order of the topology.
@@ -143,7 +167,7 @@ impl Topology {
         ensures flow { slice_get self.now.flows flow ≡ Some result.now }
         ensures among { IsFlowAmong self.now.lans result.now }
     {
-        &self.flows[flow as usize]
+        self.flows.flow(flow)
     }
 
     /// The name of a router.
@@ -152,9 +176,9 @@ impl Topology {
         ensures name { option_map (λ r. r.name) (slice_get self.now.routers router) ≡
             Some result.now }
         ensures number { router_no_of result.now self.now.routers ≡ Some router }
+        ensures named { IsTrue (is_name result.now) }
     {
-        let found = &self.routers[router.0 as usize];
-        found.name.as_str()
+        self.routers.name(router)
     }
 
     /// The name of a LAN.
@@ -162,8 +186,9 @@ impl Topology {
         requires { lan < length self.now.lans }
         ensures name { slice_get self.now.lans lan ≡ Some result.now }
         ensures number { index_of result.now self.now.lans ≡ Some lan }
+        ensures named { IsTrue (is_name result.now) }
     {
-        self.lans[lan.0 as usize].as_str()
+        self.lans.name(lan)
     }
 
     /// The number of the router with the name. None where no router has it.
@@ -171,7 +196,7 @@ impl Topology {
         ensures number { result ≡ router_no_of name.now self.now.routers }
         ensures listed { IfSome result (λ router. router < length self.now.routers) }
     {
-        router_no_of(&self.routers, name)
+        self.routers.number_of(name)
     }
 
     /// The number of the LAN with the name. None where no LAN has it.
@@ -179,6 +204,6 @@ impl Topology {
         ensures number { result ≡ index_of name.now self.now.lans }
         ensures listed { IfSome result (λ lan. lan < length self.now.lans) }
     {
-        lan_no_of(&self.lans, name)
+        self.lans.number_of(name)
     }
 }

@@ -61,30 +61,54 @@ pub(super) fn answer(alloc: Global, text: &[u8]) -> Result<String, AllocError> {
 fn look_ups(rt: HostRuntime) -> Result<(), Fail> {
     let n = Topology::read(rt.alloc(), NETWORK.as_bytes())?;
     assert_eq!(rt; (n.lans(), n.routers(), n.flows()), (3, 2, 1));
-    let r1 = n.router_no("r1").ok_or("r1")?;
-    let r2 = n.router_no("r2").ok_or("r2")?;
-    let l1 = n.lan_no("l1").ok_or("l1")?;
-    assert_eq!(rt; (r1, r2, l1), (RouterNo(0), RouterNo(1), LanNo(1)));
+    assert_eq!(rt; n.router_no("r1"), Some(RouterNo(0)));
+    assert_eq!(rt; n.router_no("r2"), Some(RouterNo(1)));
+    assert_eq!(rt; n.lan_no("l1"), Some(LanNo(1)));
     assert_eq!(rt; n.router_no("l1"), None);
     assert_eq!(rt; n.lan_no("r1"), None);
+    Ok(())
+}
+
+#[test]
+fn lans_of_devices(rt: HostRuntime) -> Result<(), Fail> {
+    let n = Topology::read(rt.alloc(), NETWORK.as_bytes())?;
     for (router, device, lan) in [
-        (RouterNo(0), "eth0", Some(LanNo(0))),
-        (RouterNo(0), "eth1", Some(LanNo(1))),
-        (RouterNo(1), "eth0", Some(LanNo(1))),
-        (RouterNo(1), "eth1", Some(LanNo(2))),
-        (RouterNo(1), "eth2", None),
-        (RouterNo(2), "eth0", None),
+        (0u32, "eth0", 0u32),
+        (0, "eth1", 1),
+        (1, "eth0", 1),
+        (1, "eth1", 2),
     ] {
-        assert_eq!(rt;
-            n.lan_of_device(router, device.as_bytes()),
-            lan,
-            "at {device}"
-        );
+        let found = n.lan_of_device(RouterNo(router), device.as_bytes());
+        assert_eq!(rt; found, Some(LanNo(lan)), "at {device}");
     }
-    assert!(rt; n.routers() == 2 && n.lans() == 3 && n.flows() == 1);
-    assert_eq!(rt; n.order(RouterNo(1)), Order::Little);
+    assert_eq!(rt; n.lan_of_device(RouterNo(1), b"eth2"), None);
+    assert_eq!(rt; n.lan_of_device(RouterNo(2), b"eth0"), None);
+    Ok(())
+}
+
+#[test]
+fn names_by_number(rt: HostRuntime) -> Result<(), Fail> {
+    let n = Topology::read(rt.alloc(), NETWORK.as_bytes())?;
+    assert!(rt; n.routers() == 2 && n.lans() == 3);
     assert_eq!(rt; n.router_name(RouterNo(1)), "r2");
     assert_eq!(rt; n.lan_name(LanNo(2)), "l2");
+    Ok(())
+}
+
+#[test]
+fn interface_by_number(rt: HostRuntime) -> Result<(), Fail> {
+    let n = Topology::read(rt.alloc(), NETWORK.as_bytes())?;
+    assert!(rt; n.interfaces() == 4);
+    let third = n.interface(2);
+    assert_eq!(rt; (third.router, third.lan), (RouterNo(1), LanNo(1)));
+    assert_eq!(rt; third.device, b"eth0".as_slice());
+    Ok(())
+}
+
+#[test]
+fn flow_by_number(rt: HostRuntime) -> Result<(), Fail> {
+    let n = Topology::read(rt.alloc(), NETWORK.as_bytes())?;
+    assert!(rt; n.flows() == 1);
     let flow = Flow {
         source: Addr::from_octets([10, 0, 0, 5]),
         lan: LanNo(0),
@@ -92,6 +116,11 @@ fn look_ups(rt: HostRuntime) -> Result<(), Fail> {
         ttl: 3,
     };
     assert_eq!(rt; *n.flow(0), flow);
+    Ok(())
+}
+
+#[test]
+fn byte_orders(rt: HostRuntime) -> Result<(), Fail> {
     let text = changed(
         rt.alloc(),
         r#"name = "r2""#,

@@ -1,0 +1,98 @@
+-- Rows that are kept by their keys: a look-up by key finds what a search of the rows finds, and a row with a
+-- new key goes last.
+use Rattle.std.proofs.Common.{◌≡◌, ℕ, Bool, true, false, ◌||◌, ◌&&◌, cond, List, [], ◌∷◌, ◌++◌, map, Option, Some, None, option_map, is_some, refl, sym, ap, subst, ◌∙◌}
+use Rattle.std.specs.Prelude.{◌==◌, find, position, String, string_bytes}
+use Rattle.std.specs.Bool.{Decides}
+use Rattle.std.specs.Cmp.{unsigned_Decides}
+use Rattle.std.specs.List.{list_any, position_or_len}
+use Rattle.std.specs.Map.{lookup, keys_of, values_of}
+use Rattle.std.specs.Str.{bytes_eq}
+use Rattle.std.proofs.lemmas.Bool.Decides.{same_from_decides}
+use Rattle.std.proofs.lemmas.List.{map-append, length-map}
+use Rattle.std.proofs.lemmas.Map.Entries.{length-keys_of}
+use Rattle.std.proofs.lemmas.Slice.Eq.{bytes_eq-Decides}
+use Rattle.indexmap.specs.IndexMap.{IndexMap, insert_entry}
+use Rattle.indexmap.specs.IndexSet.{insert_key}
+use Rattle.indexmap.proofs.CallerLemmas.{insert_entry-new}
+
+-- ---- tests
+
+-- two tests of one fact are one
+same_tests : {P Q : Type 0} (r s : Bool) → Decides r P → Decides s Q → (P → Q) → (Q → P) → r ≡ s
+same_tests r s decides_p decides_q to from =
+    same_from_decides r s decides_p (λ e. from (decides_q.0 e), λ p. decides_q.1 (to p))
+
+pub same_text : (a b : List ℕ) → bytes_eq a b ≡ bytes_eq b a
+same_text a b =
+    same_tests (bytes_eq a b) (bytes_eq b a) (bytes_eq-Decides a b) (bytes_eq-Decides b a) (λ e. sym e) (λ e. sym e)
+
+pub same_number : (a b : ℕ) → (a == b) ≡ (b == a)
+same_number a b =
+    same_tests (a == b) (b == a) (unsigned_Decides a b) (unsigned_Decides b a) (λ e. sym e) (λ e. sym e)
+
+-- ---- keys alone
+
+module _ {K R : Type 0} (row : K → R) (test : K → Bool) (same : R → Bool) (agree : (k : K) → test k ≡ same (row k)) where
+  -- a key passes exactly if a row does
+  pub any_of_rows : (ks : List K) → list_any test ks ≡ list_any same (map row ks)
+  any_of_rows [] = refl
+  any_of_rows (k ∷ ks) = rw (agree k, any_of_rows ks) refl
+
+  -- as many keys fail before the first that passes as rows do
+  before_row : (ks : List K) → position_or_len test ks ≡ position_or_len same (map row ks)
+  before_row [] = refl
+  before_row (k ∷ ks) = rw (agree k, before_row ks) refl
+
+  -- the first key that passes has the place of the first row that does
+  pub place_of_row : (ks : List K) → position test ks ≡ position same (map row ks)
+  place_of_row ks = rw (before_row ks, length-map ks row) refl
+
+-- a new key goes last
+pub push_key : {K R : Type 0} (row : K → R) (eq : K → K → Bool) (same : R → Bool) (ks : List K) (k : K) → ((j : K) → eq k j ≡ same (row j))
+    → list_any same (map row ks) ≡ false → map row (insert_key eq ks k) ≡ map row ks ++ row k ∷ []
+push_key row eq same ks k agree new =
+    let none = any_of_rows row (eq k) same agree ks ∙ new in
+    rw none (map-append row ks (k ∷ []))
+
+-- ---- keys with what is kept of each
+
+module _ {K V R : Type 0} (row : K × V → R) (test : K → Bool) (same : R → Bool) (agree : (e : K × V) → test e.0 ≡ same (row e)) where
+  -- the first entry whose key passes is that of the first row that does
+  value_first : (value : R → V) (e : K × V) (es : List (K × V)) (b : Bool) → same (row e) ≡ b → value (row e) ≡ e.1 → lookup test es ≡ option_map value (find same (map row es))
+      → lookup test (e ∷ es) ≡ option_map value (find same (map row (e ∷ es)))
+  value_first value e es true is of later = rw (agree e, is, of) refl
+  value_first value e es false is of later = rw (agree e, is) later
+
+  pub value_of_row : (value : R → V) → ((e : K × V) → value (row e) ≡ e.1) → (es : List (K × V)) → lookup test es ≡ option_map value (find same (map row es))
+  value_of_row value of [] = refl
+  value_of_row value of (e ∷ es) = value_first value e es (same (row e)) refl (of e) (value_of_row value of es)
+
+  -- a key passes exactly if a row does
+  any_first : (e : K × V) (es : List (K × V)) (b : Bool) → same (row e) ≡ b → is_some (lookup test es) ≡ list_any same (map row es)
+      → is_some (lookup test (e ∷ es)) ≡ list_any same (map row (e ∷ es))
+  any_first e es true is later = rw (agree e, is) refl
+  any_first e es false is later = rw (agree e, is) later
+
+  pub any_of_entries : (es : List (K × V)) → is_some (lookup test es) ≡ list_any same (map row es)
+  any_of_entries [] = refl
+  any_of_entries (e ∷ es) = any_first e es (same (row e)) refl (any_of_entries es)
+
+  -- as many keys fail before the first that passes as rows do
+  before_entry : (es : List (K × V)) → position_or_len test (keys_of es) ≡ position_or_len same (map row es)
+  before_entry [] = refl
+  before_entry (e ∷ es) = rw (agree e, before_entry es) refl
+
+  -- the first key that passes has the place of the first row that does
+  pub place_of_entry : (es : List (K × V)) → position test (keys_of es) ≡ position same (map row es)
+  place_of_entry es = rw (before_entry es, length-keys_of es, length-map es row) refl
+
+pub none_from : {V : Type 0} (o : Option V) → is_some o ≡ false → o ≡ None
+none_from None e = refl
+none_from (Some v) e = absurd cc
+
+-- an entry with a new key goes last
+pub push_entry : {K V R S : Type 0} (row : K × V → R) (eq : K → K → Bool) (same : R → Bool) (m : IndexMap K V S) (k : K) (v : V) → ((e : K × V) → eq k e.0 ≡ same (row e))
+    → list_any same (map row m.entries) ≡ false → map row (insert_entry eq m.entries k v) ≡ map row m.entries ++ row (k, v) ∷ []
+push_entry row eq same m k v agree new =
+    let none = none_from (lookup (eq k) m.entries) (any_of_entries row (eq k) same agree m.entries ∙ new) in
+    ap (map row) (insert_entry-new eq m k v none) ∙ map-append row m.entries ((k, v) ∷ [])

@@ -1,6 +1,0 @@
-use Rattle.std.proofs.Common.{◌∙◌}
-use Rattle.mc_topology.proofs.Tables.{has_only-now}
-use Rattle.mc_topology.proofs.document.has_only.Goals as goal
-
-pub returns : goal.returns
-returns c = c.each_key_is_known.ensures ∙ has_only-now c.args.known.now c.args.table.now.entries

@@ -1,0 +1,32 @@
+use Rattle.std.proofs.Common.{◌∙◌, sym, refl, map}
+use Rattle.mc_topology.specs.Interfaces.{is_at}
+use Rattle.mc_topology.specs.Kept.{interface_row}
+use Rattle.mc_topology.proofs.InterfaceKeys.{interface_agrees, lan_of_long_device}
+use Rattle.mc_topology.proofs.Keyed.{value_of_row}
+use Rattle.mc_topology.proofs.interfaces.Interfaces.lan_of.Goals as goal
+
+pub returns-in_err-key : goal.returns-in_err-key
+returns-in_err-key c =
+    let rows = map interface_row c.self.inside.lans.entries in
+    let none =
+    lan_of_long_device rows c.args.router c.args.device.now _ c.self.invariant c.in_err-key.ensures refl in
+    rw (← c.self.view_is) (c.from_residual.ensures ∙ sym none)
+
+pub returns-in_err-lan : goal.returns-in_err-lan
+returns-in_err-lan c =
+    let key = c.in_ok-key.key in
+    let (router, device, short) = c.in_ok-key.ensures in
+    let value =
+    value_of_row interface_row _ (is_at key.router key.device.items) (interface_agrees key)
+    (λ i. i.lan) (λ e. refl) c.self.inside.lans.entries in
+    rw (← c.self.view_is, ← router, ← device)
+    (c.from_residual-in_err-lan.ensures ∙ (c.in_err-lan.ensures.value ∙ value))
+
+pub returns : goal.returns
+returns c =
+    let key = c.in_ok-key.key in
+    let (router, device, short) = c.in_ok-key.ensures in
+    let value =
+    value_of_row interface_row _ (is_at key.router key.device.items) (interface_agrees key)
+    (λ i. i.lan) (λ e. refl) c.self.inside.lans.entries in
+    rw (← c.self.view_is, ← router, ← device) (c.in_ok-lan.ensures.value ∙ value)

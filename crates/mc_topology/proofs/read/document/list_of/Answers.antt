@@ -1,0 +1,9 @@
+use Rattle.std.proofs.Common.{◌≡◌, Some, Ok, ap}
+use Rattle.mc_topology.proofs.Tables.{rows_in-view}
+use Rattle.mc_topology.proofs.read.document.list_of.Goals as goal
+
+pub returns : goal.returns
+returns c =
+    let got = rw c.in_ok-values.was at c.ok_or.ensures.ok_part in
+    let found = rw got at c.as_array.ensures in
+    rw (← found, c.as_slice.ensures.value) (ap Ok (rows_in-view c.in_ok-values.values.now.items))

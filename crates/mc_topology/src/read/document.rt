@@ -1,0 +1,157 @@
+//! What stands under the keys of a table.
+
+ghost use Rattle.std.specs.Prelude.{◌≡◌, ◌≤◌, length, map, option_map, string_bytes, IfOk};
+ghost use Rattle.std.specs.BTreeMap.{keys};
+ghost use Rattle.std.specs.List.{list_all, list_any};
+ghost use Rattle.std.specs.Str.{bytes_eq};
+ghost use Rattle.toml.specs.Data.{get_member};
+ghost use Rattle.toml.specs.View.{view, table_view};
+ghost use Rattle.mc_topology.specs.Answer.{Answers};
+ghost use Rattle.mc_topology.specs.Document.{has_only, text_of, number_of, list_of, known_table, text_at, number_at, list_at, optional_text_at, optional_list_at, rows_at};
+
+use crate::fault::TopologyFaultKind;
+use toml::{Table, Value};
+
+/// Whether the key is one of these.
+fn is_known(known: &[&str], key: &str) -> bool
+    ensures { result ≡ list_any (λ k. bytes_eq k.now key.now) known.now }
+{
+    known.iter().any(|k| *k == key)
+}
+
+/// Whether each key of the table is one of these.
+fn each_key_is_known(table: &Table, known: &[&str]) -> bool
+    ensures { result ≡
+        list_all (λ key. list_any (λ k. bytes_eq k.now (string_bytes key)) known.now) (keys table.now) }
+{
+    table.keys().all(|key| is_known(known, key.as_str()))
+}
+
+/// Whether the table has no other key than these.
+pub(crate) fn has_only(table: &Table, known: &[&str]) -> bool
+    ensures { result ≡ has_only (map (λ k. k.now) known.now) (table_view table.now) }
+{
+    each_key_is_known(table, known)
+}
+
+/// The text that a value is.
+pub(crate) fn text_of(value: &Value) -> Result<&str, TopologyFaultKind>
+    ensures { Answers (λ text. text.now) result (text_of (view value.now)) }
+{
+    value.as_str().ok_or(TopologyFaultKind::BadKind)
+}
+
+/// The values of the list that a value is.
+pub(crate) fn list_of(value: &Value) -> Result<&[Value], TopologyFaultKind>
+    ensures { Answers (λ values. map view values.now) result (list_of (view value.now)) }
+{
+    let values = value.as_array().ok_or(TopologyFaultKind::BadKind)?;
+    Ok(values.as_slice())
+}
+
+/// The table that a value is, if it has no other key than these.
+#[tactic(auto, unfolding(crate::specs::Document::known_table))]
+pub(crate) fn known_table<'a>(
+    value: &'a Value,
+    known: &[&str],
+) -> Result<&'a Table, TopologyFaultKind>
+    ensures { Answers (λ table. table_view table.now) result
+        (known_table (map (λ k. k.now) known.now) (view value.now)) }
+{
+    let table = value.as_table().ok_or(TopologyFaultKind::BadKind)?;
+    if !has_only(table, known) {
+        return Err(TopologyFaultKind::UnknownKey);
+    }
+    Ok(table)
+}
+
+/// The value under a key.
+pub(crate) fn value_at<'a>(table: &'a Table, key: &str) -> Option<&'a Value>
+    ensures { option_map (λ value. view value.now) result ≡
+        get_member key.now (table_view table.now) }
+{
+    table.get(key)
+}
+
+/// The text under a key.
+#[tactic(auto, unfolding(crate::specs::Document::text_at))]
+pub(crate) fn text_at<'a>(table: &'a Table, key: &str) -> Result<&'a str, TopologyFaultKind>
+    ensures { Answers (λ text. text.now) result (text_at key.now (table_view table.now)) }
+{
+    let value = value_at(table, key).ok_or(TopologyFaultKind::MissingKey)?;
+    text_of(value)
+}
+
+/// The whole number that a value is.
+pub(crate) fn number_of(value: &Value) -> Result<i64, TopologyFaultKind>
+    ensures { result ≡ number_of (view value.now) }
+{
+    value.as_integer().ok_or(TopologyFaultKind::BadKind)
+}
+
+/// The whole number under a key.
+#[tactic(auto, unfolding(crate::specs::Document::number_at))]
+pub(crate) fn number_at(table: &Table, key: &str) -> Result<i64, TopologyFaultKind>
+    ensures { result ≡ number_at key.now (table_view table.now) }
+{
+    let value = value_at(table, key).ok_or(TopologyFaultKind::MissingKey)?;
+    number_of(value)
+}
+
+/// The values of the list under a key.
+#[tactic(auto, unfolding(crate::specs::Document::list_at))]
+pub(crate) fn list_at<'a>(table: &'a Table, key: &str) -> Result<&'a [Value], TopologyFaultKind>
+    ensures { Answers (λ values. map view values.now) result
+        (list_at key.now (table_view table.now)) }
+{
+    let value = value_at(table, key).ok_or(TopologyFaultKind::MissingKey)?;
+    list_of(value)
+}
+
+/// The text under a key that may be missing.
+#[tactic(auto, unfolding(crate::specs::Document::optional_text_at))]
+pub(crate) fn optional_text_at<'a>(
+    table: &'a Table,
+    key: &str,
+) -> Result<Option<&'a str>, TopologyFaultKind>
+    ensures { Answers (option_map (λ text. text.now)) result
+        (optional_text_at key.now (table_view table.now)) }
+{
+    match value_at(table, key) {
+        Some(value) => Ok(Some(text_of(value)?)),
+        None => Ok(None),
+    }
+}
+
+/// The values of the list under a key that may be missing, and then is empty.
+#[tactic(auto, unfolding(crate::specs::Document::optional_list_at))]
+pub(crate) fn optional_list_at<'a>(
+    table: &'a Table,
+    key: &str,
+) -> Result<&'a [Value], TopologyFaultKind>
+    ensures { Answers (λ values. map view values.now) result
+        (optional_list_at key.now (table_view table.now)) }
+{
+    match value_at(table, key) {
+        Some(value) => list_of(value),
+        None => Ok(&[]),
+    }
+}
+
+/// The values of a list of at most so many, under a key that may be missing.
+#[tactic(auto, unfolding(crate::specs::Document::rows_at))]
+pub(crate) fn rows_at<'a>(
+    table: &'a Table,
+    key: &str,
+    most: usize,
+) -> Result<&'a [Value], TopologyFaultKind>
+    ensures rows { Answers (λ rows. map view rows.now) result
+        (rows_at key.now most (table_view table.now)) }
+    ensures few { IfOk result (λ rows. length rows.now ≤ most) }
+{
+    let rows = optional_list_at(table, key)?;
+    if rows.len() > most {
+        return Err(TopologyFaultKind::TooMany);
+    }
+    Ok(rows)
+}

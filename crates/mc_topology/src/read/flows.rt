@@ -1,0 +1,97 @@
+//! Reading the flows.
+
+ghost use Rattle.std.specs.Prelude.{◌≡◌, ◌≢◌, ◌≤◌, map, length, [], Err, IfOk};
+ghost use Rattle.toml.specs.View.{view, table_view};
+ghost use Rattle.mc_topology.specs.declared.fault.Section.TheVariants as section;
+ghost use Rattle.mc_topology.specs.Answer.{Answers, out_of_memory, each};
+ghost use Rattle.mc_topology.specs.Flows.{ttl_of, flow_of, flow_rows, flows_in};
+
+use crate::fault::{Section, TopologyFault, TopologyFaultKind, place};
+use crate::flow::{Flow, MAX_FLOWS};
+use crate::flows::Flows;
+use crate::read::address::{group_address_of, source_address_of};
+use crate::read::document::{known_table, number_at, optional_list_at, text_at};
+use crate::sources::Sources;
+use std::alloc::Global;
+use toml::{Table, Value};
+
+/// A time to live, 1 to 255.
+fn ttl_of(number: i64) -> Result<u8, TopologyFaultKind>
+    ensures { result ≡ ttl_of number }
+{
+    if !(1..=255).contains(&number) {
+        return Err(TopologyFaultKind::BadTtl);
+    }
+    Ok(number as u8)
+}
+
+/// Reads one flow, whose source and group none of the earlier ones has.
+#[tactic(auto, unfolding(crate::specs::Flows::flow_of))]
+fn flow_of(sources: &Sources, earlier: &Flows, value: &Value) -> Result<Flow, TopologyFaultKind>
+    ensures { result ≡ flow_of sources.now earlier.now (view value.now) }
+{
+    let table = known_table(value, &["source", "group", "ttl"])?;
+    let source_text = text_at(table, "source")?;
+    let group_text = text_at(table, "group")?;
+    let number = number_at(table, "ttl")?;
+    let source = source_address_of(source_text)?;
+    let lan = sources
+        .lan_of(source)
+        .ok_or(TopologyFaultKind::UnknownName)?;
+    let group = group_address_of(group_text)?;
+    let ttl = ttl_of(number)?;
+    if earlier.has(source, group) {
+        return Err(TopologyFaultKind::RepeatedFlow);
+    }
+    Ok(Flow {
+        source,
+        lan,
+        group,
+        ttl,
+    })
+}
+
+/// The list of flows, of which there is one at least.
+#[tactic(auto, unfolding(crate::specs::Flows::flow_rows))]
+fn flow_rows(table: &Table) -> Result<&[Value], TopologyFaultKind>
+    ensures rows { Answers (λ rows. map view rows.now) result (flow_rows (table_view table.now)) }
+    ensures few { IfOk result (λ rows. length rows.now ≤ MAX_FLOWS) }
+{
+    let rows = optional_list_at(table, "flow")?;
+    if rows.is_empty() {
+        return Err(TopologyFaultKind::NoFlow);
+    }
+    if rows.len() > MAX_FLOWS {
+        return Err(TopologyFaultKind::TooMany);
+    }
+    Ok(rows)
+}
+
+/// The flows of a list, one after the other.
+fn each_flow(alloc: Global, sources: &Sources, rows: &[Value]) -> Result<Flows, TopologyFault>
+    requires { length rows.now ≤ MAX_FLOWS }
+    ensures { result ≢ Err out_of_memory →
+        result ≡ each section.Flow (flow_of sources.now) [] (map view rows.now) }
+{
+    let mut flows = Flows::new(alloc);
+    for row in rows {
+        let number = flows.len() as u32 + 1;
+        let flow = place(Section::Flow, number, flow_of(sources, &flows, row))?;
+        flows.push(flow)?;
+    }
+    Ok(flows)
+}
+
+/// The flows, in order.
+#[tactic(auto, unfolding(crate::specs::Flows::flows_in))]
+pub(crate) fn flows_in(
+    alloc: Global,
+    sources: &Sources,
+    table: &Table,
+) -> Result<Flows, TopologyFault>
+    ensures { result ≢ Err out_of_memory →
+        result ≡ flows_in sources.now (table_view table.now) }
+{
+    let rows = place(Section::Flow, 0, flow_rows(table))?;
+    each_flow(alloc, sources, rows)
+}

@@ -1,0 +1,96 @@
+//! Reading the interfaces.
+
+ghost use Rattle.std.specs.Prelude.{◌≡◌, ◌≢◌, ◌≤◌, map, length, [], Err, IfOk};
+ghost use Rattle.toml.specs.View.{view, table_view};
+ghost use Rattle.mc_topology.specs.declared.fault.Section.TheVariants as section;
+ghost use Rattle.mc_topology.specs.Answer.{Answers, out_of_memory, each};
+ghost use Rattle.mc_topology.specs.Interfaces.{interface_of, interfaces_in};
+ghost use Rattle.mc_topology.specs.Kept.{interface_row};
+
+use crate::fault::{Section, TopologyFault, TopologyFaultKind, place};
+use crate::interfaces::{InterfaceKey, Interfaces, MAX_INTERFACES};
+use crate::lans::{Lans, MAX_LANS};
+use crate::name::is_device;
+use crate::number::LanNo;
+use crate::read::document::{known_table, rows_at, text_at};
+use crate::routers::{MAX_ROUTERS, Routers};
+use std::alloc::Global;
+use toml::{Table, Value};
+
+/// Reads one interface, whose router and device none of the earlier ones has.
+#[tactic(auto, unfolding(crate::specs::Interfaces::interface_of))]
+fn interface_of(
+    lans: &Lans,
+    routers: &Routers,
+    earlier: &Interfaces,
+    value: &Value,
+) -> Result<(InterfaceKey, LanNo), TopologyFaultKind>
+    requires few_lans { length lans.now ≤ MAX_LANS }
+    requires few_routers { length routers.now ≤ MAX_ROUTERS }
+    ensures interface { Answers interface_row result
+        (interface_of lans.now routers.now earlier.now (view value.now)) }
+    ensures short { IfOk result (λ i. length i.0.device.items ≤ 15) }
+{
+    let table = known_table(value, &["router", "device", "lan"])?;
+    let router_name = text_at(table, "router")?;
+    let device = text_at(table, "device")?;
+    let lan_name = text_at(table, "lan")?;
+    let router = routers
+        .number_of(router_name)
+        .ok_or(TopologyFaultKind::UnknownName)?;
+    if !is_device(device) {
+        return Err(TopologyFaultKind::BadName);
+    }
+    let key = InterfaceKey::new(router, device.as_bytes()).ok_or(TopologyFaultKind::BadName)?;
+    let lan = lans
+        .number_of(lan_name)
+        .ok_or(TopologyFaultKind::UnknownName)?;
+    if earlier.has(&key) {
+        return Err(TopologyFaultKind::RepeatedInterface);
+    }
+    Ok((key, lan))
+}
+
+/// The interfaces of a list, one after the other.
+fn each_interface(
+    alloc: Global,
+    lans: &Lans,
+    routers: &Routers,
+    rows: &[Value],
+) -> Result<Interfaces, TopologyFault>
+    requires few_lans { length lans.now ≤ MAX_LANS }
+    requires few_routers { length routers.now ≤ MAX_ROUTERS }
+    requires few { length rows.now ≤ MAX_INTERFACES }
+    ensures { result ≢ Err out_of_memory → result ≡
+        each section.Interface (interface_of lans.now routers.now) [] (map view rows.now) }
+{
+    let mut interfaces = Interfaces::new(alloc);
+    for row in rows {
+        let number = interfaces.len() as u32 + 1;
+        let read = interface_of(lans, routers, &interfaces, row);
+        let (key, lan) = place(Section::Interface, number, read)?;
+        interfaces.push(key, lan)?;
+    }
+    Ok(interfaces)
+}
+
+/// The interfaces, in order.
+#[tactic(auto, unfolding(crate::specs::Interfaces::interfaces_in))]
+pub(crate) fn interfaces_in(
+    alloc: Global,
+    lans: &Lans,
+    routers: &Routers,
+    table: &Table,
+) -> Result<Interfaces, TopologyFault>
+    requires few_lans { length lans.now ≤ MAX_LANS }
+    requires few_routers { length routers.now ≤ MAX_ROUTERS }
+    ensures { result ≢ Err out_of_memory →
+        result ≡ interfaces_in lans.now routers.now (table_view table.now) }
+{
+    let rows = place(
+        Section::Interface,
+        0,
+        rows_at(table, "interface", MAX_INTERFACES),
+    )?;
+    each_interface(alloc, lans, routers, rows)
+}

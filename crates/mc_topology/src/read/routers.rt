@@ -1,0 +1,87 @@
+//! Reading the routers.
+
+ghost use Rattle.std.specs.Prelude.{◌≡◌, ◌≢◌, ◌≤◌, map, length, [], Err, IfOk, option_map};
+ghost use Rattle.toml.specs.View.{view, table_view};
+ghost use Rattle.mc_topology.specs.declared.fault.Section.TheVariants as section;
+ghost use Rattle.mc_topology.specs.Answer.{Answers, out_of_memory, each};
+ghost use Rattle.mc_topology.specs.Routers.{order_of, router_of, routers_in};
+
+use crate::fault::{Section, TopologyFault, TopologyFaultKind, place};
+use crate::name::is_name;
+use crate::read::document::{known_table, optional_text_at, rows_at, text_at};
+use crate::routers::{MAX_ROUTERS, Routers};
+use mc_text::Order;
+use std::alloc::Global;
+use std::marker::Model;
+use toml::{Table, Value};
+
+/// A router whose name is still in the topology's text.
+#[derive(Drop)]
+struct RouterText<'a> {
+    name: &'a str,
+    order: Order,
+}
+
+impl<'a> Model for RouterText<'a> {
+    ghost use Rattle.mc_topology.specs.Rows.{RouterRow};
+
+    ghost Value = { RouterRow };
+
+    ghost view = { λ r. record { name = r.name.now; order = r.order } };
+}
+
+/// The byte order that a text names.
+#[tactic(auto, unfolding(crate::specs::Routers::order_of))]
+fn order_of(text: Option<&str>) -> Result<Order, TopologyFaultKind>
+    ensures { result ≡ order_of (option_map (λ t. t.now) text.entry) }
+{
+    match text {
+        None | Some("little") => Ok(Order::Little),
+        Some("big") => Ok(Order::Big),
+        Some(_) => Err(TopologyFaultKind::BadKind),
+    }
+}
+
+/// Reads one router, whose name none of the earlier ones has.
+#[tactic(auto, unfolding(crate::specs::Routers::router_of))]
+fn router_of<'a>(earlier: &Routers, value: &'a Value) -> Result<RouterText<'a>, TopologyFaultKind>
+    ensures { result ≡ router_of earlier.now (view value.now) }
+{
+    let table = known_table(value, &["name", "order"])?;
+    let name = text_at(table, "name")?;
+    let order_text = optional_text_at(table, "order")?;
+    if !is_name(name) {
+        return Err(TopologyFaultKind::BadName);
+    }
+    let order = order_of(order_text)?;
+    if earlier.has(name) {
+        return Err(TopologyFaultKind::RepeatedName);
+    }
+    Ok(RouterText { name, order })
+}
+
+/// The routers of a list, one after the other.
+fn each_router(alloc: Global, rows: &[Value]) -> Result<Routers, TopologyFault>
+    requires { length rows.now ≤ MAX_ROUTERS }
+    ensures routers { result ≢ Err out_of_memory →
+        result ≡ each section.Router router_of [] (map view rows.now) }
+    ensures few { IfOk result (λ routers. length routers ≤ MAX_ROUTERS) }
+{
+    let mut routers = Routers::new(alloc);
+    for row in rows {
+        let number = routers.len() as u32 + 1;
+        let router = place(Section::Router, number, router_of(&routers, row))?;
+        routers.push(alloc, router.name, router.order)?;
+    }
+    Ok(routers)
+}
+
+/// The routers, in order.
+#[tactic(auto, unfolding(crate::specs::Routers::routers_in))]
+pub(crate) fn routers_in(alloc: Global, table: &Table) -> Result<Routers, TopologyFault>
+    ensures routers { result ≢ Err out_of_memory → result ≡ routers_in (table_view table.now) }
+    ensures few { IfOk result (λ routers. length routers ≤ MAX_ROUTERS) }
+{
+    let rows = place(Section::Router, 0, rows_at(table, "router", MAX_ROUTERS))?;
+    each_router(alloc, rows)
+}

@@ -1,0 +1,6 @@
+use Rattle.std.proofs.Common.{◌∙◌}
+use Rattle.mc_cert.proofs.Objects.{has_only-now}
+use Rattle.mc_cert.proofs.object.has_only.Goals as goal
+
+pub returns : goal.returns
+returns c = c.each_key_is_known.ensures ∙ has_only-now c.args.known.now c.args.object.now.entries

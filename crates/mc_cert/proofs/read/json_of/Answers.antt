@@ -1,0 +1,17 @@
+use Rattle.std.proofs.Common.{refl, ap, rules}
+use Rattle.std.proofs.lemmas.Str.{is_utf8-from_IsUtf8}
+use Rattle.serde_json.specs.Errors.{IsMemory}
+use Rattle.mc_cert.specs.declared.fault.CertPlace.TheVariants.{Top}
+use Rattle.mc_cert.specs.Answer.{place}
+use Rattle.mc_cert.specs.Reading.{json_of}
+use Rattle.mc_cert.proofs.ReadLemmas.{json_refused}
+use Rattle.mc_cert.proofs.read.json_of.Goals as goal
+
+pub returns-in-Ok : goal.returns-in-Ok
+unfolding json_of
+returns-in-Ok c = rw (is_utf8-from_IsUtf8 c.args.text.now c.in-Ok.ensures.ok.0, c.in-Ok.ensures.ok.1) refl
+
+pub returns-in-Err-2 : goal.returns-in-Err-2
+returns-in-Err-2 c =
+    let calm : ¬ IsMemory c.in-Err-2.field-0 = search rules in
+    rw c.at-in-Err-2.ensures (λ _. ap (place Top) (json_refused c.args.text.now (λ utf8. c.in-Err-2.ensures.err calm utf8)))

@@ -1,0 +1,35 @@
+-- Steps that may be refused, and how a call answers them.
+use Rattle.std.specs.Prelude.{◌≡◌, ◌≢◌, ℕ, ◌+◌, List, [], ◌∷◌, ◌++◌, length, Result, Ok, Err}
+use Rattle.mc_cert.specs.declared.fault.CertPlace.{CertPlace}
+use Rattle.mc_cert.specs.declared.fault.CertPlace.TheVariants.{Top, Flow, FlowEntry, Tree, TreeEntry}
+use Rattle.mc_cert.specs.declared.fault.CertFaultKind.{CertFaultKind}
+use Rattle.mc_cert.specs.declared.fault.CertFaultKind.TheVariants.{Memory}
+use Rattle.mc_cert.specs.declared.fault.CertFault.{CertFault}
+use Rattle.mc_topology.specs.Answer.{◌>>=◌}
+
+-- the fault of a step at this place
+abbrev pub place : {A : Type 0} → CertPlace → Result A CertFaultKind → Result A CertFault
+place at (Ok x) = Ok x
+place at (Err kind) = Err (record { place = at; kind = kind })
+
+-- the place of the entry with this number of a flow or a tree
+abbrev pub entry_place : CertPlace → ℕ → CertPlace
+entry_place Top e = Top
+entry_place (Flow f) e = FlowEntry f e
+entry_place (FlowEntry f old) e = FlowEntry f e
+entry_place (Tree t) e = TreeEntry t e
+entry_place (TreeEntry t old) e = TreeEntry t e
+
+-- the fault that may stand in place of any answer of a call that takes memory
+abbrev pub out_of_memory : CertFault
+out_of_memory = record { place = Top; kind = Memory }
+
+-- what a call answers, seen by view, unless memory runs out
+abbrev pub Gives : {X Y : Type 0} → (X → Y) → Result X CertFault → Result Y CertFault → Type 0
+Gives view (Ok x) step = step ≡ Ok (view x)
+Gives view (Err fault) step = fault ≢ out_of_memory → step ≡ Err fault
+
+-- The values of rows, each read by its number, counted from 0, or the first fault.
+unfoldable pub each : {D X : Type 0} → (ℕ → D → Result X CertFault) → List X → List D → Result (List X) CertFault
+each one earlier [] = Ok earlier
+each one earlier (d ∷ ds) = one (length earlier) d >>= λ x. each one (earlier ++ x ∷ []) ds

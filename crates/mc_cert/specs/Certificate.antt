@@ -1,0 +1,44 @@
+-- What a certificate is: for each flow of a topology, in order, the list of the LANs that its packets reach.
+use Rattle.std.specs.Prelude.{◌≡◌, ℕ, ◌<◌, ◌≤◌, All, IfSome, List, [], length, map, Option, Some, None, slice_get, unwrap_or}
+use Rattle.mc_theory.specs.Certificates.{Entry}
+use Rattle.mc_topology.specs.Topology.{TopologyValue}
+
+-- the LANs that the packets of a flow reach
+abbrev pub Tree : Type 0
+Tree = List Entry
+
+-- the tree with this number
+abbrev pub tree_at : List Tree → ℕ → Tree
+tree_at trees n = unwrap_or (slice_get trees n) []
+
+-- the tree of each flow: the trees in order, or those with these numbers
+abbrev pub flows_of : List Tree → Option (List ℕ) → List Tree
+flows_of trees None = trees
+flows_of trees (Some numbers) = map (tree_at trees) numbers
+
+-- an entry that a certificate can name
+pub record IsListed (e : Entry) : Type 0 where
+  pub need : 1 ≤ e.need
+  pub vif : IfSome e.forwarder (λ i. i.1 ≤ 31)
+
+-- at most 1,024 of them
+pub record IsList (es : Tree) : Type 0 where
+  pub few : length es ≤ 1024
+  pub each : All IsListed es
+
+-- what every certificate keeps, by its trees and the numbers of the flows' trees
+pub record IsKept (trees : List Tree) (numbers : Option (List ℕ)) : Type 0 where
+  pub lists : All IsList trees
+  pub named : (ns : List ℕ) → numbers ≡ Some ns → All (λ n. n < length trees) ns
+  pub few_flows : length (flows_of trees numbers) ≤ 4096
+
+-- the LAN of an entry and the router of its forwarder are the topology's
+pub record IsEntryOf (t : TopologyValue) (e : Entry) : Type 0 where
+  pub lan : e.lan < length t.lans
+  pub router : IfSome e.forwarder (λ i. i.0 < length t.routers)
+
+-- the certificate belongs to the topology: it has as many flows, and all its numbers are below the topology's
+-- counts
+pub record BelongsTo (t : TopologyValue) (flows : List Tree) : Type 0 where
+  pub count : length flows ≡ length t.flows
+  pub entries : All (All (IsEntryOf t)) flows

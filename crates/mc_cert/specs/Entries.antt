@@ -1,0 +1,61 @@
+-- The entries of a list, each a LAN that the packets of a flow reach.
+use Rattle.std.specs.Prelude.{ℕ, ◌+◌, List, [], ◌∷◌, codes, Option, Some, None, Result, Ok, Err, ok_or}
+use Rattle.serde_json.specs.Data.{Data, Members}
+use Rattle.serde_json.specs.Find.{get_member, as_u64}
+use Rattle.mc_theory.specs.Nets.{Interface}
+use Rattle.mc_theory.specs.Certificates.{Entry}
+use Rattle.mc_topology.specs.Answer.{◌>>=◌}
+use Rattle.mc_topology.specs.Names.{index_of}
+use Rattle.mc_topology.specs.Rows.{RouterRow}
+use Rattle.mc_topology.specs.Routers.{router_no_of}
+use Rattle.mc_topology.specs.Topology.{TopologyValue}
+use Rattle.mc_cert.specs.declared.fault.CertPlace.{CertPlace}
+use Rattle.mc_cert.specs.declared.fault.CertFaultKind.{CertFaultKind}
+use Rattle.mc_cert.specs.declared.fault.CertFaultKind.TheVariants.{MissingKey, UnknownName}
+use Rattle.mc_cert.specs.declared.fault.CertFault.{CertFault}
+use Rattle.mc_cert.specs.Answer.{place, entry_place, each}
+use Rattle.mc_cert.specs.Object.{text_of, number_of, text_at, whole_at, within, object_of}
+
+-- the keys of an entry
+abbrev pub entry_keys : List (List ℕ)
+entry_keys = codes "lan" ∷ codes "need" ∷ codes "rank" ∷ codes "router" ∷ codes "vif" ∷ []
+
+-- the LAN with the name under `lan`
+unfoldable pub lan_in : List (List ℕ) → Members → Result ℕ CertFaultKind
+lan_in lans ms = text_at (codes "lan") ms >>= λ name. ok_or (index_of name lans) UnknownName
+
+-- the router with this name
+unfoldable pub router_of : List RouterRow → Data → Result ℕ CertFaultKind
+router_of routers d = text_of d >>= λ name. ok_or (router_no_of name routers) UnknownName
+
+-- a vif is 0 to 31
+unfoldable pub vif_of : Data → Result ℕ CertFaultKind
+vif_of d = number_of d >>= λ n. within 0 31 (as_u64 n)
+
+-- the interface of a router and its vif, which stand there together or are both missing
+unfoldable pub forwarder_of : List RouterRow → Option Data → Option Data → Result (Option Interface) CertFaultKind
+forwarder_of routers None None = Ok None
+forwarder_of routers None (Some v) = Err MissingKey
+forwarder_of routers (Some d) None = router_of routers d >>= λ router. Err MissingKey
+forwarder_of routers (Some d) (Some v) = do
+  router ← router_of routers d
+  vif ← vif_of v
+  Ok (Some (router, vif))
+
+-- An entry. It has to be an object (else BadKind) of no other keys (UnknownKey). Then each key wholly before
+-- the next: `lan`, `need` and `rank` have to be there (MissingKey), and `router` and `vif` where the other one
+-- is (MissingKey); `lan` and `router` are texts and the others numbers (BadKind); `need` is a whole number
+-- from 1 to 255, `rank` one up to 255 and `vif` one up to 31 (BadNumber); and a LAN and a router have the
+-- names (UnknownName).
+unfoldable pub entry_of : TopologyValue → Data → Result Entry CertFaultKind
+entry_of t d = do
+  members ← object_of entry_keys d
+  lan ← lan_in t.lans members
+  need ← whole_at (codes "need") 1 255 members
+  rank ← whole_at (codes "rank") 0 255 members
+  forwarder ← forwarder_of t.routers (get_member (codes "router") members) (get_member (codes "vif") members)
+  Ok (record { lan = lan; rank = rank; need = need; forwarder = forwarder })
+
+-- the entries of a flow or a tree from the front, each with its number, counted from 1
+unfoldable pub entries_of : TopologyValue → CertPlace → List Data → Result (List Entry) CertFault
+entries_of t at rows = each (λ n d. place (entry_place at (n + 1)) (entry_of t d)) [] rows

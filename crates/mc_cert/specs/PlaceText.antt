@@ -1,0 +1,11 @@
+-- How a refusal writes the place that it is about.
+use Rattle.std.specs.Prelude.{ℕ, List, ◌++◌, codes, decimal}
+use Rattle.mc_cert.specs.declared.fault.CertPlace.{CertPlace}
+use Rattle.mc_cert.specs.declared.fault.CertPlace.TheVariants.{Top, Flow, FlowEntry, Tree, TreeEntry}
+
+abbrev pub place_text : CertPlace → List ℕ
+place_text Top = codes "top"
+place_text (Flow f) = codes "flow " ++ decimal f
+place_text (FlowEntry f e) = codes "flow " ++ decimal f ++ codes " entry " ++ decimal e
+place_text (Tree t) = codes "tree " ++ decimal t
+place_text (TreeEntry t e) = codes "tree " ++ decimal t ++ codes " entry " ++ decimal e

@@ -1,0 +1,62 @@
+-- The certificate that a text stands for, or its first fault, in the order in which a text is judged.
+use Rattle.std.specs.Prelude.{ℕ, ◌==◌, nat_le, List, [], ◌∷◌, length, codes, Option, Some, None, Result, Ok, Err, ok_or, if◌then◌else◌}
+use Rattle.std.specs.Str.{is_utf8}
+use Rattle.serde_json.specs.Data.{Data, Members}
+use Rattle.serde_json.specs.Find.{as_object, as_u64}
+use Rattle.serde_json.specs.Read.{read}
+use Rattle.mc_topology.specs.Answer.{◌>>=◌}
+use Rattle.mc_topology.specs.Topology.{TopologyValue}
+use Rattle.mc_cert.specs.declared.fault.CertPlace.TheVariants.{Top}
+use Rattle.mc_cert.specs.declared.fault.CertFaultKind.{CertFaultKind}
+use Rattle.mc_cert.specs.declared.fault.CertFaultKind.TheVariants.{NotJson, BadVersion, UnknownKey, BadKind, TooMany}
+use Rattle.mc_cert.specs.declared.fault.CertFault.{CertFault}
+use Rattle.mc_cert.specs.declared.version.Version.{Version}
+use Rattle.mc_cert.specs.declared.version.Version.TheVariants.{One, Two}
+use Rattle.mc_cert.specs.Answer.{place}
+use Rattle.mc_cert.specs.Certificate.{Tree}
+use Rattle.mc_cert.specs.Object.{has_only, number_at}
+use Rattle.mc_cert.specs.VersionOne.{flows_in}
+use Rattle.mc_cert.specs.VersionTwo.{shared_flows_in}
+
+-- the value of a text, which is UTF-8 and JSON (else NotJson)
+unfoldable pub json_of : List ℕ → Result Data CertFaultKind
+json_of text = if is_utf8 text then ok_or (read text) NotJson else Err NotJson
+
+-- a text has to have at most 16,777,216 bytes (else TooMany), and then to be JSON
+unfoldable pub value_of : List ℕ → Result Data CertFaultKind
+value_of text = if nat_le (length text) 16777216 then json_of text else Err TooMany
+
+-- the value of a text is an object (else BadKind)
+abbrev pub members_of : Data → Result Members CertFaultKind
+members_of d = ok_or (as_object d) BadKind
+
+-- the version with this number, of which there may be none (BadVersion)
+abbrev pub version_of : Option ℕ → Result Version CertFaultKind
+version_of None = Err BadVersion
+version_of (Some n) = if n == 1 then Ok One else if n == 2 then Ok Two else Err BadVersion
+
+-- the keys of a certificate
+abbrev pub top_keys : Version → List (List ℕ)
+top_keys One = codes "flows" ∷ codes "version" ∷ []
+top_keys Two = codes "flows" ∷ codes "trees" ∷ codes "version" ∷ []
+
+-- The key `version` has to be there (else MissingKey), to be a number (BadKind), and to be 1 or 2 (BadVersion),
+-- and then there has to be no other key than that version's (UnknownKey).
+unfoldable pub version_in : Members → Result Version CertFaultKind
+version_in ms = do
+  number ← number_at (codes "version") ms
+  version ← version_of (as_u64 number)
+  if has_only (top_keys version) ms then Ok version else Err UnknownKey
+
+-- the flows of a certificate of this version
+unfoldable pub flows_by : Version → TopologyValue → Members → Result (List Tree) CertFault
+flows_by One t ms = flows_in t ms
+flows_by Two t ms = shared_flows_in t ms
+
+-- the certificate of a text: first the text as a whole, at `top`, and then its flows
+unfoldable pub reading_of : TopologyValue → List ℕ → Result (List Tree) CertFault
+reading_of t text = do
+  value ← place Top (value_of text)
+  members ← place Top (members_of value)
+  version ← place Top (version_in members)
+  flows_by version t members

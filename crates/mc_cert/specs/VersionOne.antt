@@ -1,0 +1,60 @@
+-- The flows of version 1, each with its own entries.
+use Rattle.std.specs.Prelude.{ℕ, ◌+◌, ◌==◌, ◌&&◌, Bool, List, [], ◌∷◌, length, codes, slice_get, Result, Ok, Err, ok_or, if◌then◌else◌}
+use Rattle.std.specs.Str.{bytes_eq}
+use Rattle.serde_json.specs.Data.{Data, Members}
+use Rattle.mc_text.specs.Addr.{dotted}
+use Rattle.mc_topology.specs.Answer.{◌>>=◌}
+use Rattle.mc_topology.specs.declared.flow.Flow.{Flow}
+use Rattle.mc_topology.specs.Topology.{TopologyValue}
+use Rattle.mc_cert.specs.declared.fault.CertPlace.TheVariants as at
+use Rattle.mc_cert.specs.declared.fault.CertFaultKind.{CertFaultKind}
+use Rattle.mc_cert.specs.declared.fault.CertFaultKind.TheVariants.{WrongFlows}
+use Rattle.mc_cert.specs.declared.fault.CertFault.{CertFault}
+use Rattle.mc_cert.specs.Answer.{place, each}
+use Rattle.mc_cert.specs.Certificate.{Tree}
+use Rattle.mc_cert.specs.Entries.{entries_of}
+use Rattle.mc_cert.specs.Object.{object_of, text_at, list_at, at_most}
+
+-- the texts are the flow's group and its source
+abbrev pub is_flow : Flow → List ℕ → List ℕ → Bool
+is_flow f group source = bytes_eq group (dotted f.group) && bytes_eq source (dotted f.source)
+
+-- the flow of the topology with this number
+abbrev pub flow_at : TopologyValue → ℕ → Result Flow CertFaultKind
+flow_at t n = ok_or (slice_get t.flows n) WrongFlows
+
+-- The list of flows has to be there (else MissingKey), to be a list (BadKind), and to have as many flows as the
+-- topology (WrongFlows). This is the same in both versions.
+unfoldable pub flow_rows : TopologyValue → Members → Result (List Data) CertFaultKind
+flow_rows t ms = do
+  rows ← list_at (codes "flows") ms
+  if length rows == length t.flows then Ok rows else Err WrongFlows
+
+-- the keys of a flow
+abbrev pub flow_keys : List (List ℕ)
+flow_keys = codes "group" ∷ codes "reached" ∷ codes "source" ∷ []
+
+-- A flow, which has to be an object (else BadKind) of no other keys (UnknownKey). Then `group`, `reached` and
+-- `source`, in this order, each have to be there (MissingKey), and to be a text, a list and a text (BadKind). The
+-- group and the source are those of the topology's flow (WrongFlows), and there are at most 1,024 entries
+-- (TooMany).
+unfoldable pub reached_of : Flow → Data → Result (List Data) CertFaultKind
+reached_of f d = do
+  members ← object_of flow_keys d
+  group ← text_at (codes "group") members
+  rows ← list_at (codes "reached") members
+  source ← text_at (codes "source") members
+  if is_flow f group source then at_most 1024 rows else Err WrongFlows
+
+-- the flow with this number, counted from 0, and then its entries
+unfoldable pub flow_of : TopologyValue → ℕ → Data → Result Tree CertFault
+flow_of t n d = do
+  flow ← place (at.Flow (n + 1)) (flow_at t n)
+  rows ← place (at.Flow (n + 1)) (reached_of flow d)
+  entries_of t (at.Flow (n + 1)) rows
+
+-- the flows from the front
+unfoldable pub flows_in : TopologyValue → Members → Result (List Tree) CertFault
+flows_in t ms = do
+  rows ← place at.Top (flow_rows t ms)
+  each (flow_of t) [] rows

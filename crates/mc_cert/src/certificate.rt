@@ -1,0 +1,135 @@
+//! A certificate and what it answers.
+
+ghost use Rattle.std.specs.Prelude.{◌≡◌, ◌<◌, ◌≤◌, All, length, map, Some, None, slice_get, option_map};
+ghost use Rattle.mc_cert.specs.Certificate.{IsList, flows_of, tree_at};
+
+use crate::fault::CertFault;
+use crate::reached::{FlowCert, Reached};
+use crate::read::reading_of;
+use mc_topology::Topology;
+use std::alloc::Global;
+use std::marker::Model;
+
+/// For each flow of a topology, in order, the LANs that its packets reach. In contracts it is the list of
+/// these lists. A list that many flows share is kept once.
+#[derive(Debug, Drop)]
+pub struct Certificate {
+    trees: Vec<Vec<Reached>>,
+    tree_of_flow: Option<Vec<u32>>,
+}
+
+impl Model for Certificate {
+    ghost use Rattle.std.specs.Prelude.{List, option_map, map};
+    ghost use Rattle.mc_cert.specs.Certificate.{Tree, flows_of, IsKept};
+
+    ghost Value = { List Tree };
+
+    ghost view = { λ c. flows_of (map (λ t. t.items) c.trees.items) (option_map (λ n. n.items) c.tree_of_flow) };
+
+    ghost invariant = { λ c. IsKept (map (λ t. t.items) c.trees.items) (option_map (λ n. n.items) c.tree_of_flow) };
+}
+
+impl Certificate {
+    ghost use Rattle.std.specs.Prelude.{List, IfOk, Ok};
+    ghost use Rattle.mc_cert.specs.Answer.{Gives};
+    ghost use Rattle.mc_cert.specs.Certificate.{Tree};
+    ghost use Rattle.mc_cert.specs.Reading.{reading_of};
+    ghost use Rattle.mc_cert.specs.Stands.{CertificateStands};
+
+    /// Reads a certificate of version 1 or 2 of this topology: at most 16,777,216 bytes of JSON, and lists
+    /// of at most 1,024 entries, of which version 2 has at most 4,096. Each part is judged wholly before
+    /// the next one, and the first rule that is broken is answered with its place. `Memory`, at `top`,
+    /// where a growth was refused.
+    pub fn read(alloc: Global, text: &[u8], topology: &Topology) -> Result<Certificate, CertFault>
+        // What is read is what the text stands for.
+        ensures found { IfOk result (CertificateStands topology.now text.now) }
+        // A text that stands for a certificate is read as that, unless memory runs out.
+        ensures only { (flows : List Tree) → CertificateStands topology.now text.now flows →
+            Gives (λ c. c) result (Ok flows) }
+        // Which fault it is.
+        ensures fault { Gives (λ c. c) result (reading_of topology.now text.now) }
+    {
+        reading_of(alloc, topology, text)
+    }
+
+    /// The certificate of these lists, one a flow, in the order of the topology's flows: at most 4,096
+    /// lists of at most 1,024 entries, each with a `need` of at least 1 and a vif of at most 31.
+    pub fn from_flows(flows: Vec<Vec<Reached>>) -> Certificate
+        requires few { length flows.items ≤ 4096 }
+        requires lists { All IsList (map (λ t. t.items) flows.items) }
+        ensures { result ≡ map (λ t. t.items) flows.items }
+    {
+        Certificate {
+            trees: flows,
+            tree_of_flow: None,
+        }
+    }
+
+    /// The certificate of these trees, and for each flow the number of its own, counted from 0: at most
+    /// 4,096 flows, and trees of at most 1,024 entries, each with a `need` of at least 1 and a vif of at
+    /// most 31.
+    pub fn from_trees(trees: Vec<Vec<Reached>>, tree_of_flow: Vec<u32>) -> Certificate
+        requires few { length tree_of_flow.items ≤ 4096 }
+        requires lists { All IsList (map (λ t. t.items) trees.items) }
+        requires named { All (λ n. n < length trees.items) tree_of_flow.items }
+        ensures { result ≡ map (tree_at (map (λ t. t.items) trees.items)) tree_of_flow.items }
+    {
+        Certificate {
+            trees,
+            tree_of_flow: Some(tree_of_flow),
+        }
+    }
+
+    /// How many flows there are, at most 4,096.
+    pub fn flows(&self) -> u32
+        ensures count { result ≡ length self.now }
+        ensures few { length self.now ≤ 4096 }
+    {
+        match &self.tree_of_flow {
+            Some(numbers) => numbers.len() as u32,
+            None => self.trees.len() as u32,
+        }
+    }
+
+    /// The tree of the flow with this number.
+    pub(crate) fn tree(&self, flow: u32) -> &[Reached]
+        requires { flow < length self.now }
+        ensures { slice_get self.now flow ≡ Some result.now }
+    {
+        let number = match &self.tree_of_flow {
+            Some(numbers) => numbers[flow as usize],
+            None => flow,
+        };
+        &self.trees[number as usize]
+    }
+
+    /// The same, and what it keeps.
+    fn listed_tree(&self, flow: u32) -> &[Reached]
+        requires { flow < length self.now }
+        ensures tree { slice_get self.now flow ≡ Some result.now }
+        ensures list { IsList result.now }
+    {
+        let _trees = &self.trees;
+        self.tree(flow)
+    }
+
+    /// What the certificate says of the flow with this number, counted from 0, of the topology that it
+    /// belongs to.
+    pub fn flow<'a>(&'a self, flow: u32, topology: &Topology) -> FlowCert<'a>
+        requires listed { flow < length self.now }
+        requires belongs { length self.now ≡ length topology.now.flows }
+        ensures source { option_map (λ f. f.source) (slice_get topology.now.flows flow) ≡
+            Some result.source }
+        ensures group { option_map (λ f. f.group) (slice_get topology.now.flows flow) ≡
+            Some result.group }
+        ensures reached { slice_get self.now flow ≡ Some result.reached.now }
+        ensures list { IsList result.reached.now }
+    {
+        let listed = topology.flow(flow);
+        FlowCert {
+            source: listed.source,
+            group: listed.group,
+            reached: self.listed_tree(flow),
+        }
+    }
+}

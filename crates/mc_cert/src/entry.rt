@@ -1,0 +1,124 @@
+//! The entries of a list.
+
+ghost use Rattle.std.specs.Prelude.{◌≡◌, ◌+◌, ◌<◌, ◌≤◌, map, length, vec_len, option_map, IfOk};
+ghost use Rattle.serde_json.specs.View.{view, members_view};
+ghost use Rattle.mc_topology.specs.Answer.{Answers};
+ghost use Rattle.mc_cert.specs.Answer.{Gives, place, entry_place};
+ghost use Rattle.mc_cert.specs.Entries.{lan_in, router_of, vif_of, forwarder_of, entry_of, entries_of};
+
+use crate::fault::{CertFault, CertFaultKind, CertPlace};
+use crate::object::{number_of, object_of, text_at, text_of, value_at, whole_at, within};
+use crate::reached::Reached;
+use mc_topology::{LanNo, RouterNo, Topology};
+use serde_json::{Map, Value};
+use std::alloc::Global;
+
+/// The greatest number of entries of a list.
+pub(crate) const MAX_ENTRIES: usize = 1024;
+
+/// The LAN whose name stands under `lan`.
+#[tactic(auto, unfolding(crate::specs::Entries::lan_in))]
+fn lan_in(topology: &Topology, object: &Map<String, Value>) -> Result<LanNo, CertFaultKind>
+    ensures { Answers (λ lan. lan) result
+        (lan_in topology.now.lans (members_view object.now.entries)) }
+{
+    let name = text_at(object, "lan")?;
+    topology.lan_no(name).ok_or(CertFaultKind::UnknownName)
+}
+
+/// The router whose name a value is.
+#[tactic(auto, unfolding(crate::specs::Entries::router_of))]
+fn router_of(topology: &Topology, value: &Value) -> Result<RouterNo, CertFaultKind>
+    ensures { Answers (λ router. router) result
+        (router_of topology.now.routers (view value.now)) }
+{
+    let name = text_of(value)?;
+    topology.router_no(name).ok_or(CertFaultKind::UnknownName)
+}
+
+/// The vif that a value is.
+#[tactic(auto, unfolding(crate::specs::Entries::vif_of))]
+fn vif_of(value: &Value) -> Result<u8, CertFaultKind>
+    ensures { Answers (λ vif. vif) result (vif_of (view value.now)) }
+{
+    let number = number_of(value)?;
+    within(0, 31, number)
+}
+
+/// The interface that sends, by the values of its router and its vif.
+#[tactic(auto, unfolding(crate::specs::Entries::forwarder_of))]
+fn forwarder_of(
+    topology: &Topology,
+    router: Option<&Value>,
+    vif: Option<&Value>,
+) -> Result<Option<(RouterNo, u8)>, CertFaultKind>
+    ensures { Answers (λ forwarder. forwarder) result
+        (forwarder_of topology.now.routers (option_map (λ v. view v.now) router.entry)
+        (option_map (λ v. view v.now) vif.entry)) }
+{
+    let Some(router) = router else {
+        return match vif {
+            None => Ok(None),
+            Some(_) => Err(CertFaultKind::MissingKey),
+        };
+    };
+    let router = router_of(topology, router)?;
+    let vif = vif.ok_or(CertFaultKind::MissingKey)?;
+    Ok(Some((router, vif_of(vif)?)))
+}
+
+/// Reads one entry.
+#[tactic(auto, unfolding(crate::specs::Entries::entry_of))]
+fn entry_of(topology: &Topology, value: &Value) -> Result<Reached, CertFaultKind>
+    ensures { Answers (λ entry. entry) result (entry_of topology.now (view value.now)) }
+{
+    let object = object_of(value, &["lan", "need", "rank", "router", "vif"])?;
+    let lan = lan_in(topology, object)?;
+    let need = whole_at(object, "need", 1, 255)?;
+    let rank = whole_at(object, "rank", 0, 255)?;
+    let forwarder = forwarder_of(
+        topology,
+        value_at(object, "router"),
+        value_at(object, "vif"),
+    )?;
+    Ok(Reached {
+        lan,
+        rank,
+        need,
+        forwarder,
+    })
+}
+
+/// Reads one entry behind so many others, and adds to a fault its place.
+fn entry_at(
+    topology: &Topology,
+    list: CertPlace,
+    earlier: usize,
+    value: &Value,
+) -> Result<Reached, CertFault>
+    requires { earlier < MAX_ENTRIES }
+    ensures { Answers (λ entry. entry) result
+        (place (entry_place list (earlier + 1)) (entry_of topology.now (view value.now))) }
+{
+    let number = earlier as u32 + 1;
+    entry_of(topology, value).map_err(|kind| kind.at(list.entry(number)))
+}
+
+/// The entries of a flow or a tree, one after the other.
+pub(crate) fn entries_of(
+    alloc: Global,
+    topology: &Topology,
+    list: CertPlace,
+    rows: &[Value],
+) -> Result<Vec<Reached>, CertFault>
+    requires { length rows.now ≤ MAX_ENTRIES }
+    ensures { Gives (λ entries. entries.items) result
+        (entries_of topology.now list (map view rows.now)) }
+{
+    let mut entries = Vec::with_capacity(alloc, rows.len())?;
+    for row in rows {
+        let entry = entry_at(topology, list, entries.len(), row)?;
+        entries.push(entry)?;
+    }
+    Ok(entries)
+}

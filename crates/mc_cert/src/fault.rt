@@ -1,0 +1,125 @@
+//! Why a certificate is refused.
+
+ghost use Rattle.std.specs.Prelude.{◌≡◌, Some};
+ghost use Rattle.mc_cert.specs.Answer.{entry_place, out_of_memory};
+ghost use Rattle.mc_cert.specs.PlaceText.{place_text};
+
+use std::alloc::{AllocError, AllocFailed};
+use std::fmt;
+use thiserror::Error;
+
+/// The place that a fault lies in. Flows, trees and entries are counted from 1.
+#[derive(Clone, Copy, Debug, PartialEq, Eq)]
+pub enum CertPlace {
+    /// The text as a whole, its keys, its version and its lists.
+    Top,
+    /// A flow.
+    Flow(u32),
+    /// A flow, and one of its entries (version 1).
+    FlowEntry(u32, u32),
+    /// A tree (version 2).
+    Tree(u32),
+    /// A tree, and one of its entries (version 2).
+    TreeEntry(u32, u32),
+}
+
+impl CertPlace {
+    /// The place of an entry of this flow or tree.
+    pub(crate) fn entry(self, entry: u32) -> CertPlace
+        ensures { result ≡ entry_place self entry }
+    {
+        match self {
+            CertPlace::Top => CertPlace::Top,
+            CertPlace::Flow(flow) | CertPlace::FlowEntry(flow, _) => {
+                CertPlace::FlowEntry(flow, entry)
+            }
+            CertPlace::Tree(tree) | CertPlace::TreeEntry(tree, _) => {
+                CertPlace::TreeEntry(tree, entry)
+            }
+        }
+    }
+}
+
+impl fmt::Display for CertPlace {
+    ghost output = { λ place. Some (place_text place) };
+
+    fn fmt<W: fmt::Write>(&self, f: &mut fmt::Formatter<W>) -> fmt::Result {
+        match self {
+            CertPlace::Top => f.write_str("top"),
+            CertPlace::Flow(flow) => write!(f, "flow {flow}"),
+            CertPlace::FlowEntry(flow, entry) => write!(f, "flow {flow} entry {entry}"),
+            CertPlace::Tree(tree) => write!(f, "tree {tree}"),
+            CertPlace::TreeEntry(tree, entry) => write!(f, "tree {tree} entry {entry}"),
+        }
+    }
+}
+
+/// What is wrong with a certificate.
+#[derive(Clone, Copy, Debug, PartialEq, Eq, Error)]
+pub enum CertFaultKind {
+    /// (1) The text is no UTF-8 or no JSON (`top`).
+    #[error("NotJson")]
+    NotJson,
+    /// (2) The version is neither 1 nor 2 (`top`).
+    #[error("BadVersion")]
+    BadVersion,
+    /// (3) A key isn't there.
+    #[error("MissingKey")]
+    MissingKey,
+    /// (4) A key stands there that has no meaning.
+    #[error("UnknownKey")]
+    UnknownKey,
+    /// (5) A value is of the wrong type.
+    #[error("BadKind")]
+    BadKind,
+    /// (6) A number isn't whole or out of its range.
+    #[error("BadNumber")]
+    BadNumber,
+    /// (7) No LAN or router has the name.
+    #[error("UnknownName")]
+    UnknownName,
+    /// (8) The flows aren't those of the topology, in its order.
+    #[error("WrongFlows")]
+    WrongFlows,
+    /// (9) The text has too many bytes or trees (`top`), or a flow or a tree too many entries.
+    #[error("TooMany")]
+    TooMany,
+    /// (10) Memory ran out (`top`).
+    #[error("Memory")]
+    Memory,
+}
+
+impl CertFaultKind {
+    /// The fault of this kind at a place.
+    pub(crate) fn at(self, place: CertPlace) -> CertFault
+        ensures { result ≡ record { place = place; kind = self } }
+    {
+        CertFault { place, kind: self }
+    }
+}
+
+/// The first fault of a certificate.
+#[derive(Clone, Copy, Debug, PartialEq, Eq, Error)]
+#[error("{place}: {kind}")]
+pub struct CertFault {
+    /// The place.
+    pub place: CertPlace,
+    /// What is wrong there.
+    pub kind: CertFaultKind,
+}
+
+impl From<AllocError> for CertFault {
+    ghost from_gives = { λ _ fault. fault ≡ out_of_memory };
+
+    fn from(_refused: AllocError) -> CertFault {
+        CertFaultKind::Memory.at(CertPlace::Top)
+    }
+}
+
+impl<T: Drop> From<AllocFailed<T>> for CertFault {
+    ghost from_gives = { λ _ fault. fault ≡ out_of_memory };
+
+    fn from(_refused: AllocFailed<T>) -> CertFault {
+        CertFaultKind::Memory.at(CertPlace::Top)
+    }
+}

@@ -1,0 +1,22 @@
+//! A certificate: for each flow of a topology the LANs that its packets reach, each with its rank, the
+//! least time to live that reaches it and the interface that sends on it.
+#![tactic(auto)]
+
+mod certificate;
+mod entry;
+mod fault;
+mod laws;
+mod object;
+mod reached;
+mod read;
+mod version;
+mod version_one;
+mod version_two;
+
+pub use certificate::Certificate;
+pub use fault::{CertFault, CertFaultKind, CertPlace};
+pub use laws::{certificates_are_read_as_they_stand, texts_stand_for_certificates};
+pub use reached::{FlowCert, Reached};
+
+#[cfg(test)]
+mod tests;

@@ -1,0 +1,171 @@
+//! What stands under the keys of an object.
+
+ghost use Rattle.std.specs.Prelude.{◌≡◌, ◌≤◌, length, map, option_map, string_bytes, IfOk};
+ghost use Rattle.std.specs.BTreeMap.{keys};
+ghost use Rattle.std.specs.List.{list_all, list_any};
+ghost use Rattle.std.specs.Str.{bytes_eq};
+ghost use Rattle.serde_json.specs.Find.{get_member, as_u64};
+ghost use Rattle.serde_json.specs.View.{view, number_view, members_view};
+ghost use Rattle.mc_topology.specs.Answer.{Answers};
+ghost use Rattle.mc_cert.specs.Object.{has_only, text_of, number_of, list_of, object_of, text_at, number_at, list_at, within, whole_at, at_most};
+
+use crate::fault::CertFaultKind;
+use serde_json::{Map, Number, Value};
+
+/// Whether the key is one of these.
+fn is_known(known: &[&str], key: &str) -> bool
+    ensures { result ≡ list_any (λ k. bytes_eq k.now key.now) known.now }
+{
+    known.iter().any(|k| *k == key)
+}
+
+/// Whether each key of the object is one of these.
+fn each_key_is_known(object: &Map<String, Value>, known: &[&str]) -> bool
+    ensures { result ≡
+        list_all (λ key. list_any (λ k. bytes_eq k.now (string_bytes key)) known.now) (keys object.now) }
+{
+    object.keys().all(|key| is_known(known, key.as_str()))
+}
+
+/// Whether the object has no other key than these.
+pub(crate) fn has_only(object: &Map<String, Value>, known: &[&str]) -> bool
+    ensures { result ≡ has_only (map (λ k. k.now) known.now) (members_view object.now.entries) }
+{
+    each_key_is_known(object, known)
+}
+
+/// The text that a value is.
+pub(crate) fn text_of(value: &Value) -> Result<&str, CertFaultKind>
+    ensures { Answers (λ text. text.now) result (text_of (view value.now)) }
+{
+    match value.as_str() {
+        Some(text) => Ok(text),
+        None => Err(CertFaultKind::BadKind),
+    }
+}
+
+/// The number that a value is.
+pub(crate) fn number_of(value: &Value) -> Result<&Number, CertFaultKind>
+    ensures { Answers (λ number. number_view number.now) result (number_of (view value.now)) }
+{
+    match value.as_number() {
+        Some(number) => Ok(number),
+        None => Err(CertFaultKind::BadKind),
+    }
+}
+
+/// The values of the list that a value is.
+pub(crate) fn list_of(value: &Value) -> Result<&[Value], CertFaultKind>
+    ensures { Answers (λ values. map view values.now) result (list_of (view value.now)) }
+{
+    match value.as_array() {
+        Some(values) => Ok(values.as_slice()),
+        None => Err(CertFaultKind::BadKind),
+    }
+}
+
+/// The object that a value is, if it has no other key than these.
+#[tactic(auto, unfolding(crate::specs::Object::object_of))]
+pub(crate) fn object_of<'a>(
+    value: &'a Value,
+    known: &[&str],
+) -> Result<&'a Map<String, Value>, CertFaultKind>
+    ensures { Answers (λ object. members_view object.now.entries) result
+        (object_of (map (λ k. k.now) known.now) (view value.now)) }
+{
+    match value.as_object() {
+        None => Err(CertFaultKind::BadKind),
+        Some(object) if has_only(object, known) => Ok(object),
+        Some(_) => Err(CertFaultKind::UnknownKey),
+    }
+}
+
+/// The value under a key.
+pub(crate) fn value_at<'a>(object: &'a Map<String, Value>, key: &str) -> Option<&'a Value>
+    ensures { option_map (λ value. view value.now) result ≡
+        get_member key.now (members_view object.now.entries) }
+{
+    object.get(key)
+}
+
+/// The text under a key.
+#[tactic(auto, unfolding(crate::specs::Object::text_at))]
+pub(crate) fn text_at<'a>(
+    object: &'a Map<String, Value>,
+    key: &str,
+) -> Result<&'a str, CertFaultKind>
+    ensures { Answers (λ text. text.now) result
+        (text_at key.now (members_view object.now.entries)) }
+{
+    match value_at(object, key) {
+        Some(value) => text_of(value),
+        None => Err(CertFaultKind::MissingKey),
+    }
+}
+
+/// The number under a key.
+#[tactic(auto, unfolding(crate::specs::Object::number_at))]
+pub(crate) fn number_at<'a>(
+    object: &'a Map<String, Value>,
+    key: &str,
+) -> Result<&'a Number, CertFaultKind>
+    ensures { Answers (λ number. number_view number.now) result
+        (number_at key.now (members_view object.now.entries)) }
+{
+    match value_at(object, key) {
+        Some(value) => number_of(value),
+        None => Err(CertFaultKind::MissingKey),
+    }
+}
+
+/// The values of the list under a key.
+#[tactic(auto, unfolding(crate::specs::Object::list_at))]
+pub(crate) fn list_at<'a>(
+    object: &'a Map<String, Value>,
+    key: &str,
+) -> Result<&'a [Value], CertFaultKind>
+    ensures { Answers (λ values. map view values.now) result
+        (list_at key.now (members_view object.now.entries)) }
+{
+    match value_at(object, key) {
+        Some(value) => list_of(value),
+        None => Err(CertFaultKind::MissingKey),
+    }
+}
+
+/// The whole number from low to high that a number is.
+pub(crate) fn within(low: u8, high: u8, number: &Number) -> Result<u8, CertFaultKind>
+    ensures { Answers (λ n. n) result (within low high (as_u64 (number_view number.now))) }
+{
+    match number.as_u64() {
+        Some(n) if low as u64 <= n && n <= high as u64 => Ok(n as u8),
+        _ => Err(CertFaultKind::BadNumber),
+    }
+}
+
+/// The whole number from low to high under a key.
+#[tactic(auto, unfolding(crate::specs::Object::whole_at))]
+pub(crate) fn whole_at(
+    object: &Map<String, Value>,
+    key: &str,
+    low: u8,
+    high: u8,
+) -> Result<u8, CertFaultKind>
+    ensures { Answers (λ n. n) result
+        (whole_at key.now low high (members_view object.now.entries)) }
+{
+    let number = number_at(object, key)?;
+    within(low, high, number)
+}
+
+/// The rows of a list, if they are at most so many.
+#[tactic(auto, unfolding(crate::specs::Object::at_most))]
+pub(crate) fn at_most(most: usize, rows: &[Value]) -> Result<&[Value], CertFaultKind>
+    ensures rows { Answers (λ rows. map view rows.now) result (at_most most (map view rows.now)) }
+    ensures few { IfOk result (λ rows. length rows.now ≤ most) }
+{
+    if rows.len() > most {
+        return Err(CertFaultKind::TooMany);
+    }
+    Ok(rows)
+}

@@ -1,0 +1,121 @@
+//! Reading a certificate.
+
+ghost use Rattle.std.specs.Prelude.{◌≡◌};
+ghost use Rattle.serde_json.specs.View.{view, number_view, members_view};
+ghost use Rattle.serde_json.specs.Find.{as_u64};
+ghost use Rattle.mc_topology.specs.Answer.{Answers};
+ghost use Rattle.mc_cert.specs.declared.fault.CertPlace.TheVariants.{Top};
+ghost use Rattle.mc_cert.specs.Answer.{Gives, place};
+ghost use Rattle.mc_cert.specs.Object.{has_only};
+ghost use Rattle.mc_cert.specs.Reading.{json_of, value_of, members_of, version_of, top_keys, version_in, flows_by, reading_of};
+
+use crate::certificate::Certificate;
+use crate::fault::{CertFault, CertFaultKind, CertPlace};
+use crate::object::{has_only, number_at};
+use crate::version::Version;
+use crate::version_one::flows_in;
+use crate::version_two::shared_flows_in;
+use mc_text::MAX_TEXT;
+use mc_topology::Topology;
+use serde_json::{Map, Number, Value};
+use std::alloc::Global;
+
+/// The value that a text is.
+#[tactic(auto, unfolding(crate::specs::Reading::json_of))]
+fn json_of(alloc: Global, text: &[u8]) -> Result<Value, CertFault>
+    ensures { Gives view result (place Top (json_of text.now)) }
+{
+    match Value::from_slice(alloc, text) {
+        Ok(value) => Ok(value),
+        Err(error) if error.is_memory() => Err(CertFaultKind::Memory.at(CertPlace::Top)),
+        Err(_) => Err(CertFaultKind::NotJson.at(CertPlace::Top)),
+    }
+}
+
+/// The version with this number.
+fn version_of(number: &Number) -> Result<Version, CertFaultKind>
+    ensures { Answers (λ v. v) result (version_of (as_u64 (number_view number.now))) }
+{
+    match number.as_u64() {
+        Some(1) => Ok(Version::One),
+        Some(2) => Ok(Version::Two),
+        _ => Err(CertFaultKind::BadVersion),
+    }
+}
+
+/// The keys of a certificate of this version.
+fn has_keys_of(version: Version, object: &Map<String, Value>) -> bool
+    ensures { result ≡ has_only (top_keys version) (members_view object.now.entries) }
+{
+    match version {
+        Version::One => has_only(object, &["flows", "version"]),
+        Version::Two => has_only(object, &["flows", "trees", "version"]),
+    }
+}
+
+/// Looks at the version and the keys.
+#[tactic(auto, unfolding(crate::specs::Reading::version_in))]
+fn version_in(object: &Map<String, Value>) -> Result<Version, CertFaultKind>
+    ensures { Answers (λ v. v) result (version_in (members_view object.now.entries)) }
+{
+    let number = number_at(object, "version")?;
+    let version = version_of(number)?;
+    if !has_keys_of(version, object) {
+        return Err(CertFaultKind::UnknownKey);
+    }
+    Ok(version)
+}
+
+/// The certificate of an object of this version.
+#[tactic(auto, unfolding(crate::specs::Reading::flows_by))]
+fn flows_by(
+    alloc: Global,
+    version: Version,
+    topology: &Topology,
+    object: &Map<String, Value>,
+) -> Result<Certificate, CertFault>
+    ensures { Gives (λ c. c) result
+        (flows_by version topology.now (members_view object.now.entries)) }
+{
+    match version {
+        Version::One => flows_in(alloc, topology, object),
+        Version::Two => shared_flows_in(alloc, topology, object),
+    }
+}
+
+/// The value of a text that isn't too long.
+#[tactic(auto, unfolding(crate::specs::Reading::value_of))]
+fn value_of(alloc: Global, text: &[u8]) -> Result<Value, CertFault>
+    ensures { Gives view result (place Top (value_of text.now)) }
+{
+    if text.len() > MAX_TEXT {
+        return Err(CertFaultKind::TooMany.at(CertPlace::Top));
+    }
+    json_of(alloc, text)
+}
+
+/// The object that a value is.
+fn members_of(value: &Value) -> Result<&Map<String, Value>, CertFaultKind>
+    ensures { Answers (λ object. members_view object.now.entries) result
+        (members_of (view value.now)) }
+{
+    match value.as_object() {
+        Some(object) => Ok(object),
+        None => Err(CertFaultKind::BadKind),
+    }
+}
+
+/// The certificate of a text.
+#[tactic(auto, unfolding(crate::specs::Reading::reading_of))]
+pub(crate) fn reading_of(
+    alloc: Global,
+    topology: &Topology,
+    text: &[u8],
+) -> Result<Certificate, CertFault>
+    ensures { Gives (λ c. c) result (reading_of topology.now text.now) }
+{
+    let value = value_of(alloc, text)?;
+    let object = members_of(&value).map_err(|kind| kind.at(CertPlace::Top))?;
+    let version = version_in(object).map_err(|kind| kind.at(CertPlace::Top))?;
+    flows_by(alloc, version, topology, object)
+}

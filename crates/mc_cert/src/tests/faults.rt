@@ -1,0 +1,61 @@
+//! Each fault with its place, and which comes first where two rules are broken.
+
+mod entries;
+mod first;
+mod second;
+
+use super::network::{VERSION_ONE, VERSION_TWO, answer, changed, network};
+use mc_topology::Topology;
+use std::alloc::{AllocError, Global};
+use std::process::Abort;
+use std::test::Fail;
+
+/// Texts that stand in one place of a certificate, and what each of them answers.
+struct Case {
+    place: &'static str,
+    instead: &'static [&'static str],
+    answer: &'static str,
+}
+
+/// Puts each text of a case into its place.
+fn check(
+    rt: &impl Abort,
+    alloc: Global,
+    topology: &Topology,
+    certificate: &str,
+    case: &Case,
+) -> Result<(), AllocError> {
+    let (place, wanted) = (case.place, case.answer);
+    assert!(rt; certificate.contains(place), "{place}");
+    for instead in case.instead {
+        let text = changed(alloc, certificate, place, instead)?;
+        let found = answer(alloc, topology, text.as_bytes())?;
+        assert_eq!(rt; found.as_str(), wanted, "at {instead}");
+    }
+    Ok(())
+}
+
+/// The same for many cases.
+fn check_each(
+    rt: &impl Abort,
+    alloc: Global,
+    topology: &Topology,
+    certificate: &str,
+    cases: &[Case],
+) -> Result<(), AllocError> {
+    for case in cases {
+        check(rt, alloc, topology, certificate, case)?;
+    }
+    Ok(())
+}
+
+#[test]
+fn faults(rt: HostRuntime) -> Result<(), Fail> {
+    let topology = network(rt.alloc())?;
+    check_each(&rt, rt.alloc(), &topology, VERSION_ONE, first::CASES)?;
+    check_each(&rt, rt.alloc(), &topology, VERSION_ONE, entries::CASES)?;
+    check_each(&rt, rt.alloc(), &topology, VERSION_TWO, second::CASES)?;
+    let no_text = answer(rt.alloc(), &topology, b"{\"version\":\xff}")?;
+    assert_eq!(rt; no_text.as_str(), "top: NotJson");
+    Ok(())
+}

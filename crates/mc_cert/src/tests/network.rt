@@ -1,0 +1,51 @@
+//! A small network and its certificate in both versions: a source on l0, r1 from l0 to l1, r2 from l1 to l2.
+
+use crate::*;
+use mc_topology::{Topology, TopologyFault};
+use std::alloc::{AllocError, Global};
+
+pub(super) const NETWORK: &str = r#"version = 1
+lans = ["l0", "l1", "l2"]
+router = [{name = "r1"}, {name = "r2"}]
+source = [{address = "10.0.0.5", lan = "l0"}]
+flow = [{source = "10.0.0.5", group = "239.1.2.3", ttl = 3}]
+"#;
+
+pub(super) const VERSION_ONE: &str =
+    r#"{"flows":[{"group":"239.1.2.3","reached":[{"lan":"l0","need":1,"rank":0},{"lan":"l1","need":2,"rank":1,"router":"r1","vif":1},{"lan":"l2","need":3,"rank":2,"router":"r2","vif":1}],"source":"10.0.0.5"}],"version":1}"#;
+
+pub(super) const VERSION_TWO: &str =
+    r#"{"flows":[{"group":"239.1.2.3","source":"10.0.0.5","tree":0}],"trees":[[{"lan":"l0","need":1,"rank":0},{"lan":"l1","need":2,"rank":1,"router":"r1","vif":1},{"lan":"l2","need":3,"rank":2,"router":"r2","vif":1}]],"version":2}"#;
+
+/// The topology of the network.
+pub(super) fn network(alloc: Global) -> Result<Topology, TopologyFault> {
+    Topology::read(alloc, NETWORK.as_bytes())
+}
+
+/// A text with one place changed.
+pub(super) fn changed(
+    alloc: Global,
+    text: &str,
+    from: &str,
+    to: &str,
+) -> Result<String, AllocError> {
+    let mut other = String::new(alloc);
+    if let Some((before, after)) = text.split_once(from) {
+        other.push_str(before)?;
+        other.push_str(to)?;
+        other.push_str(after)?;
+    }
+    Ok(other)
+}
+
+/// The fault of a text, or `read`.
+pub(super) fn answer(
+    alloc: Global,
+    topology: &Topology,
+    text: &[u8],
+) -> Result<String, AllocError> {
+    match Certificate::read(alloc, text, topology) {
+        Ok(_) => String::from_str(alloc, "read"),
+        Err(fault) => fault.to_string(alloc),
+    }
+}

@@ -1,0 +1,10 @@
+//! The versions of a certificate.
+
+/// A version.
+#[derive(Clone, Copy, Debug, PartialEq, Eq)]
+pub(crate) enum Version {
+    /// Each flow has its own entries.
+    One,
+    /// Each flow names a tree of entries.
+    Two,
+}

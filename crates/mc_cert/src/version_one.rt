@@ -1,0 +1,130 @@
+//! The flows of version 1, each with its own entries.
+
+ghost use Rattle.std.specs.Prelude.{◌≡◌, ◌<◌, ◌≤◌, map, length, vec_len, [], IfOk};
+ghost use Rattle.std.specs.Str.{bytes_eq};
+ghost use Rattle.serde_json.specs.View.{view, members_view};
+ghost use Rattle.mc_text.specs.Addr.{IsAddr, dotted};
+ghost use Rattle.mc_topology.specs.Answer.{Answers};
+ghost use Rattle.mc_topology.specs.Topology.{IsFlowAmong};
+ghost use Rattle.mc_cert.specs.Answer.{Gives, each};
+ghost use Rattle.mc_cert.specs.VersionOne.{is_flow, flow_rows, reached_of, flow_of, flows_in};
+
+use crate::certificate::Certificate;
+use crate::entry::{MAX_ENTRIES, entries_of};
+use crate::fault::{CertFault, CertFaultKind, CertPlace};
+use crate::object::{at_most, list_at, object_of, text_at};
+use crate::reached::Reached;
+use mc_text::Addr;
+use mc_topology::{Flow, Topology};
+use serde_json::{Map, Value};
+use std::alloc::Global;
+
+/// The greatest number of flows.
+pub(crate) const MAX_FLOWS: usize = 4096;
+
+/// Whether the text is the address's.
+fn spells(text: &str, address: Addr) -> bool
+    requires { IsAddr address }
+    ensures { result ≡ bytes_eq text.now (dotted address) }
+{
+    Addr::parse_dotted(text.as_bytes()) == Some(address)
+}
+
+/// Whether the texts are the flow's group and its source.
+pub(crate) fn is_flow(flow: &Flow, group: &str, source: &str) -> bool
+    requires group { IsAddr flow.now.group }
+    requires source { IsAddr flow.now.source }
+    ensures { result ≡ is_flow flow.now group.now source.now }
+{
+    spells(group, flow.group) && spells(source, flow.source)
+}
+
+/// The list of flows, which are as many as the topology's.
+#[tactic(auto, unfolding(crate::specs::VersionOne::flow_rows))]
+pub(crate) fn flow_rows<'a>(
+    topology: &Topology,
+    object: &'a Map<String, Value>,
+) -> Result<&'a [Value], CertFaultKind>
+    ensures rows { Answers (λ rows. map view rows.now) result
+        (flow_rows topology.now (members_view object.now.entries)) }
+    ensures count { IfOk result (λ rows. length rows.now ≡ length topology.now.flows) }
+    ensures few { IfOk result (λ rows. length rows.now ≤ MAX_FLOWS) }
+{
+    let rows = list_at(object, "flows")?;
+    if rows.len() != topology.flows() as usize {
+        return Err(CertFaultKind::WrongFlows);
+    }
+    Ok(rows)
+}
+
+/// The entries of a flow, still unread.
+#[tactic(auto, unfolding(crate::specs::VersionOne::reached_of))]
+fn reached_of<'a>(flow: &Flow, value: &'a Value) -> Result<&'a [Value], CertFaultKind>
+    requires group { IsAddr flow.now.group }
+    requires source { IsAddr flow.now.source }
+    ensures rows { Answers (λ rows. map view rows.now) result
+        (reached_of flow.now (view value.now)) }
+    ensures few { IfOk result (λ rows. length rows.now ≤ MAX_ENTRIES) }
+{
+    let object = object_of(value, &["group", "reached", "source"])?;
+    let group = text_at(object, "group")?;
+    let rows = list_at(object, "reached")?;
+    let source = text_at(object, "source")?;
+    if !is_flow(flow, group, source) {
+        return Err(CertFaultKind::WrongFlows);
+    }
+    at_most(MAX_ENTRIES, rows)
+}
+
+/// Reads the flow with this number.
+#[tactic(auto, unfolding(crate::specs::VersionOne::flow_of))]
+fn flow_of(
+    alloc: Global,
+    topology: &Topology,
+    number: usize,
+    value: &Value,
+) -> Result<Vec<Reached>, CertFault>
+    requires few { number < MAX_FLOWS }
+    requires listed { number < length topology.now.flows }
+    ensures { Gives (λ entries. entries.items) result
+        (flow_of topology.now number (view value.now)) }
+{
+    let place = CertPlace::Flow(number as u32 + 1);
+    let flow = topology.flow(number as u32);
+    let rows = reached_of(flow, value).map_err(|kind| kind.at(place))?;
+    entries_of(alloc, topology, place, rows)
+}
+
+/// The flows, one after the other.
+fn each_flow(
+    alloc: Global,
+    topology: &Topology,
+    rows: &[Value],
+) -> Result<Vec<Vec<Reached>>, CertFault>
+    requires few { length rows.now ≤ MAX_FLOWS }
+    requires count { length rows.now ≡ length topology.now.flows }
+    ensures flows { Gives (λ flows. map (λ f. f.items) flows.items) result
+        (each (flow_of topology.now) [] (map view rows.now)) }
+    ensures few { IfOk result (λ flows. vec_len flows ≤ MAX_FLOWS) }
+{
+    let mut flows = Vec::with_capacity(alloc, rows.len())?;
+    for row in rows {
+        let flow = flow_of(alloc, topology, flows.len(), row)?;
+        flows.push(flow)?;
+    }
+    Ok(flows)
+}
+
+/// The certificate of an object of version 1.
+#[tactic(auto, unfolding(crate::specs::VersionOne::flows_in))]
+pub(crate) fn flows_in(
+    alloc: Global,
+    topology: &Topology,
+    object: &Map<String, Value>,
+) -> Result<Certificate, CertFault>
+    ensures { Gives (λ c. c) result (flows_in topology.now (members_view object.now.entries)) }
+{
+    let rows = flow_rows(topology, object).map_err(|kind| kind.at(CertPlace::Top))?;
+    let flows = each_flow(alloc, topology, rows)?;
+    Ok(Certificate::from_flows(flows))
+}

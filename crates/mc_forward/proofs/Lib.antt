@@ -1,0 +1,9 @@
+pub mod BelowLemmas
+pub mod DomainLemmas
+pub mod EntryLemmas
+pub mod LateLemmas
+pub mod RouterLemmas
+pub mod EachLemmas
+pub mod PlaceLemmas
+pub mod WantsLemmas
+pub mod RunLemmas

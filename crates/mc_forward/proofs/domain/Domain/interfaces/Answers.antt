@@ -1,0 +1,15 @@
+use Rattle.std.proofs.Common.{ℕ, length, get_or, ap, arith, ◌∙◌}
+use Rattle.mc_forward.specs.DomainParts.{interfaces_of}
+use Rattle.mc_forward.proofs.DomainLemmas.{length-interfaces, interfaces-found}
+use Rattle.mc_forward.proofs.domain.Domain.interfaces.Goals as goal
+
+pub index-interfaces-requires : goal.index-interfaces-requires
+index-interfaces-requires c =
+    let worked_out = c.self.invariant.interfaces ∙ ap interfaces_of c.self.view_is in
+    omega (arith, ap length worked_out, length-interfaces c.args.self.now, c.lan.view_is)
+
+pub returns : goal.returns
+returns c = λ flow.
+    let worked_out = c.self.invariant.interfaces ∙ ap interfaces_of c.self.view_is in
+    c.iter.ensures
+    ∙ interfaces-found c.args.self.now c.self.inside.interfaces.items _ c.args.lan flow worked_out c.requires (c.index-interfaces.ensures ∙ ap (λ (k : ℕ). get_or c.self.inside.interfaces.items k c.index-interfaces.result.now) c.lan.view_is)

@@ -1,0 +1,12 @@
+use Rattle.std.proofs.Common.{length, sym, subst}
+use Rattle.mc_forward.specs.Journeys.{AtRouters}
+use Rattle.mc_forward.proofs.RouterLemmas.{at-without}
+use Rattle.mc_forward.proofs.flight.Flight.lose.Goals as goal
+
+pub invariant_of-self : goal.invariant_of-self
+invariant_of-self c =
+    let routers = length c.self.inside.net.domain.topology.routers in
+    record {
+      flow = c.self.invariant.flow;
+      routers = subst (AtRouters routers) (sym c.lose.ensures) (at-without routers c.args.index c.self.inside.copies c.self.invariant.routers);
+    }

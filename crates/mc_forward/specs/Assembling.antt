@@ -1,0 +1,72 @@
+-- How a domain is put together of its parts.
+use Rattle.std.specs.Prelude.{◌≡◌, ◌↔◌, ℕ, Bool, IsTrue, List, [], length, map, filter, Option}
+use Rattle.std.specs.Prelude.{Some, None, slice_get, slice_index_or, option_and_then}
+use Rattle.std.specs.FinMap as finite
+use Rattle.mc_igmp.specs.declared.record.Record.{Record}
+use Rattle.mc_igmp.specs.Wants.{Wants}
+use Rattle.mc_topology.specs.declared.flow.Flow.{Flow}
+use Rattle.mc_topology.specs.Topology.{TopologyValue}
+use Rattle.mc_theory.specs.Lists.{below}
+use Rattle.mc_theory.specs.Nets.{Interface, is_lan, slots}
+use Rattle.mc_forward.specs.Domains.{TablesValue, DomainValue, lan_of_vif, wants_of}
+
+-- tables for each router, and a list of reports for each LAN
+pub record AreCounted (t : TopologyValue) (ts : List TablesValue) (rs : List (List Record))
+    : Type 0 where
+  pub routers : length ts ≡ length t.routers
+  pub lans : length rs ≡ length t.lans
+
+-- The domain of a topology, of the routers' tables and of the LANs' reports. A LAN wants a flow if
+-- some record of its reports for the flow's group admits the flow's source (RFC 3376, section 3.2).
+pub record IsAssembled (t : TopologyValue) (ts : List TablesValue) (rs : List (List Record))
+    (d : DomainValue) : Type 0 where
+  pub topology : d.topology ≡ t
+  pub tables : d.tables ≡ ts
+  pub wants : (lan flow : ℕ) (records : List Record) (f : Flow) → slice_get rs lan ≡ Some records
+      → slice_get t.flows flow ≡ Some f
+      → IsTrue (wants_of d flow lan) ↔ Wants records f.group f.source
+
+-- ---- step by step
+
+-- what stands at one place of both lists is so related
+abbrev pub EachAt : {A B : Type 0} → (A → B → Type 0) → List A → List B → Type 0
+EachAt {A} {B} R xs ys =
+    (k : ℕ) (x : A) (y : B) → slice_get xs k ≡ Some x → slice_get ys k ≡ Some y → R x y
+
+-- the flow's group is at this place
+abbrev pub IsPlaceOf : List ℕ → Flow → ℕ → Type 0
+IsPlaceOf groups f place = slice_get groups place ≡ Some f.group
+
+-- the places of the flows' groups
+pub record ArePlaces (groups : List ℕ) (flows : List Flow) (places : List ℕ) : Type 0 where
+  pub count : length places ≡ length flows
+  pub each : EachAt (IsPlaceOf groups) flows places
+
+-- whether the flow is wanted by these records
+abbrev pub IsWanted : List Record → Flow → Bool → Type 0
+IsWanted records f wanted = IsTrue wanted ↔ Wants records f.group f.source
+
+-- which of the flows are wanted by these records
+pub record AreWanted (flows : List Flow) (records : List Record) (wanted : List Bool) : Type 0 where
+  pub count : length wanted ≡ length flows
+  pub each : EachAt (IsWanted records) flows wanted
+
+-- the LAN of each vif of one router
+abbrev pub places_by : TopologyValue → ℕ → TablesValue → List (Option ℕ)
+places_by topology router tables =
+    map (λ vif. option_and_then (lan_of_vif topology router) (finite.get tables.vifs vif))
+    (below 32)
+
+-- the place of a vif in a table of the LANs of each router's vifs
+abbrev pub place_in : List (List (Option ℕ)) → ℕ → ℕ → Option ℕ
+place_in places router vif = slice_index_or (slice_index_or places router []) vif None
+
+-- the interfaces of a LAN by such a table, of the first routers
+abbrev pub interfaces_by : List (List (Option ℕ)) → (routers : ℕ) → ℕ → List Interface
+interfaces_by places routers lan =
+    filter (λ i. is_lan (place_in places i.0 i.1) lan) (slots 32 routers)
+
+-- those of one router, among these vifs
+abbrev pub vifs_on : List (Option ℕ) → ℕ → ℕ → List ℕ → List Interface
+vifs_on places router lan vifs =
+    map (λ vif. (router, vif)) (filter (λ vif. is_lan (slice_index_or places vif None) lan) vifs)

@@ -1,0 +1,94 @@
+-- The flight of one packet through a domain.
+use Rattle.std.specs.Prelude.{◌≡◌, ℕ, ◌<◌, List, length, take, Option, refl}
+use Rattle.std.specs.Coded.{Coded, code_by, coded×, coded_list, coded_option, coded_ℕ}
+use Rattle.mc_theory.specs.Lists.{In}
+use Rattle.mc_theory.specs.Nets.{Net, Interface}
+use Rattle.mc_theory.specs.Flights.{Copy, Waiting, Flight}
+use Rattle.mc_forward.specs.Domains.{DomainValue, IsDomain, net_of}
+use Rattle.mc_forward.specs.DomainParts.{domain_code}
+
+-- a flow of a domain, by its number
+pub record FlowIn : Type 0 where
+  pub domain : DomainValue
+  pub flow : ℕ
+
+-- what the packets of the flow meet
+abbrev pub net_in : FlowIn → Net
+net_in f = net_of f.domain f.flow
+
+pub record IsFlowIn (f : FlowIn) : Type 0 where
+  pub domain : IsDomain f.domain
+  pub flow : f.flow < length f.domain.topology.flows
+
+-- The flight of one packet of a flow, by the flow's number, through a domain.
+pub record Journey : Type 0 where
+  pub domain : DomainValue
+  pub flow : ℕ
+  pub flight : Flight
+
+abbrev pub flow_in : Journey → FlowIn
+flow_in j = record { domain = j.domain; flow = j.flow }
+
+-- what the packet meets
+abbrev pub journey_net : Journey → Net
+journey_net j = net_of j.domain j.flow
+
+-- the same packet, so far
+abbrev pub flown : Journey → Flight → Journey
+flown j f = record { domain = j.domain; flow = j.flow; flight = f }
+
+-- copies wait at routers of the domain
+abbrev pub AtRouters : ℕ → Flight → Type 0
+AtRouters routers f = (w : Waiting) → In w f.waiting → w.router < routers
+
+-- what every flight keeps
+pub record IsFlight (n : FlowIn) (f : Flight) : Type 0 where
+  pub flow : IsFlowIn n
+  pub routers : AtRouters (length n.domain.topology.routers) f
+
+-- ---- how they are kept
+
+abbrev pub flight_of : List Copy → List Waiting → List Interface → Flight
+flight_of carried waiting strays = record { carried = carried; waiting = waiting; strays = strays }
+
+abbrev pub flow_in_code : Coded FlowIn
+flow_in_code =
+    code_by (DomainValue × ℕ) (coded× domain_code coded_ℕ) (λ f. (f.domain, f.flow))
+    (λ p. record { domain = p.0; flow = p.1 }) (λ _. refl)
+
+abbrev pub copy_code : Coded Copy
+copy_code =
+    code_by (ℕ × (ℕ × Option Interface))
+    (coded× coded_ℕ (coded× coded_ℕ (coded_option (coded× coded_ℕ coded_ℕ))))
+    (λ c. (c.lan, (c.ttl, c.sender)))
+    (λ p. record { lan = p.0; ttl = p.1.0; sender = p.1.1 }) (λ _. refl)
+
+abbrev pub waiting_code : Coded Waiting
+waiting_code =
+    code_by (ℕ × (ℕ × ℕ)) (coded× coded_ℕ (coded× coded_ℕ coded_ℕ))
+    (λ w. (w.router, (w.vif, w.ttl)))
+    (λ p. record { router = p.0; vif = p.1.0; ttl = p.1.1 }) (λ _. refl)
+
+abbrev pub flight_code : Coded Flight
+flight_code =
+    code_by (List Copy × (List Waiting × List Interface))
+    (coded× (coded_list copy_code)
+    (coded× (coded_list waiting_code) (coded_list (coded× coded_ℕ coded_ℕ))))
+    (λ f. (f.carried, (f.waiting, f.strays))) (λ p. flight_of p.0 p.1.0 p.1.1) (λ _. refl)
+
+abbrev pub journey_code : Coded Journey
+journey_code =
+    code_by (DomainValue × (ℕ × Flight)) (coded× domain_code (coded× coded_ℕ flight_code))
+    (λ j. (j.domain, (j.flow, j.flight)))
+    (λ p. record { domain = p.0; flow = p.1.0; flight = p.1.1 }) (λ _. refl)
+
+-- the flight with only so many copies, waiting copies and strays
+abbrev pub cut : Flight → Flight → Flight
+cut f g = flight_of
+    (take (length f.carried) g.carried)
+    (take (length f.waiting) g.waiting)
+    (take (length f.strays) g.strays)
+
+-- each list of the second flight begins with that of the first
+abbrev pub Extends : Flight → Flight → Type 0
+Extends f g = cut f g ≡ f

@@ -1,0 +1,19 @@
+-- What a domain answers of a router's row.
+use Rattle.mc_tables.specs.CacheTable.{IsEntry}
+use Rattle.mc_theory.specs.Nets.{Row}
+use Rattle.mc_theory.specs.Nets.Row.{Exact as exact, Open as open_row, NoRow as no_row}
+use Rattle.mc_forward.specs.declared.row.RowFor.{RowFor}
+use Rattle.mc_forward.specs.declared.row.RowFor.TheVariants.{Exact, Open, NoRow}
+use Rattle.mc_forward.specs.Domains.{pairs_of}
+
+-- the row that an answer shows
+abbrev pub row_seen : RowFor → Row
+row_seen (Exact entry) = exact entry.now.iif (pairs_of entry.now.oifs)
+row_seen Open = open_row
+row_seen NoRow = no_row
+
+-- an entry that is answered is as a kernel has it
+abbrev pub EntryStands : RowFor → Type 0
+EntryStands (Exact entry) = IsEntry entry.now
+EntryStands Open = Unit {0}
+EntryStands NoRow = Unit {0}

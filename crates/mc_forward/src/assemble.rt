@@ -1,0 +1,100 @@
+//! How a domain is put together.
+
+ghost use Rattle.std.specs.Prelude.{◌≡◌, ◌↔◌, IfOk, IfErr, IsErrAnd};
+ghost use Rattle.mc_forward.specs.declared.refused.DomainFault.TheVariants.{Count};
+ghost use Rattle.mc_forward.specs.Assembling.{AreCounted, IsAssembled};
+ghost use Rattle.mc_forward.specs.Domains.{IsDomain};
+ghost use Rattle.mc_forward.specs.DomainParts.{domain_with, IsWorkedOut};
+
+use crate::domain::Domain;
+use crate::interfaces::{LanInterfaces, interfaces_of_lans};
+use crate::places::{Places, places_of_routers};
+use crate::refused::{DomainFault, Refused};
+use crate::tables::Tables;
+use crate::wants::{WantedFlows, wants_of_lans};
+use mc_igmp::ReportList;
+use mc_text::Memory;
+use mc_topology::Topology;
+use std::alloc::Global;
+
+/// What is worked out once of the parts of a domain.
+#[derive(Drop)]
+struct WorkedOut {
+    wants: Vec<WantedFlows>,
+    places: Vec<Places>,
+    interfaces: Vec<LanInterfaces>,
+}
+
+fn work_out(
+    alloc: Global,
+    topology: &Topology,
+    tables: &[Tables],
+    reports: &[ReportList],
+) -> Result<WorkedOut, Memory>
+    requires { AreCounted topology.now tables.now reports.now }
+    ensures worked_out { IfOk result (λ w.
+        IsWorkedOut (domain_with topology.now tables.now w.wants.items)
+        w.places.items w.interfaces.items) }
+    ensures assembled { IfOk result (λ w. IsAssembled topology.now tables.now reports.now
+        (domain_with topology.now tables.now w.wants.items)) }
+{
+    let wants = wants_of_lans(alloc, topology, reports)?;
+    let places = places_of_routers(alloc, topology, tables)?;
+    let interfaces = interfaces_of_lans(alloc, topology.lans(), &places)?;
+    Ok(WorkedOut {
+        wants,
+        places,
+        interfaces,
+    })
+}
+
+impl Domain {
+    /// Puts a domain together: its topology, the tables of each router and the reports of each LAN,
+    /// in the topology's order of routers and LANs. What hosts report is let go once it is known
+    /// which LAN wants which flow.
+    ///
+    /// # Errors
+    ///
+    /// `Count` where there is not one `Tables` for each router and one list for each LAN, and
+    /// `Memory` where a growth was refused, each with the three arguments as they were.
+    pub fn assemble(
+        alloc: Global,
+        topology: Topology,
+        tables: Vec<Tables>,
+        reports: Vec<ReportList>,
+    ) -> Result<Domain, Refused>
+        ensures assembled { IfOk result (IsAssembled topology tables.items reports.items) }
+        ensures rules { IfOk result IsDomain }
+        ensures count { IsErrAnd result (λ refused. refused.fault ≡ Count) ↔
+            ¬ (AreCounted topology tables.items reports.items) }
+        ensures topology { IfErr result (λ refused. refused.topology ≡ topology) }
+        ensures tables { IfErr result (λ refused. refused.tables ≡ tables) }
+        ensures reports { IfErr result (λ refused. refused.reports ≡ reports) }
+    {
+        if tables.len() != topology.routers() as usize
+            || reports.len() != topology.lans() as usize
+        {
+            return Err(Refused {
+                topology,
+                tables,
+                reports,
+                fault: DomainFault::Count,
+            });
+        }
+        match work_out(alloc, &topology, &tables, &reports) {
+            Ok(
+                WorkedOut {
+                    wants,
+                    places,
+                    interfaces,
+                },
+            ) => Ok(Domain::new(topology, tables, wants, places, interfaces)),
+            Err(Memory) => Err(Refused {
+                topology,
+                tables,
+                reports,
+                fault: DomainFault::Memory,
+            }),
+        }
+    }
+}

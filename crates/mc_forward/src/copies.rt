@@ -1,0 +1,255 @@
+//! All copies of one packet so far, and what one handling adds to them.
+
+ghost use Rattle.std.specs.Prelude.{◌≡◌, ◌-◌, ◌<◌, ◌≤◌, ◌++◌, ◌∷◌, [], Some, length, map, take};
+ghost use Rattle.std.specs.Prelude.{remove, filter, not, is_some, IfOk, OnOk, OnErr, slice_get};
+ghost use Rattle.std.specs.Prelude.{option_map};
+ghost use Rattle.mc_theory.specs.Flights.{hearers, waits_at, is_sender, put, leave, sends, handle};
+ghost use Rattle.mc_theory.specs.Flights.{step, without};
+ghost use Rattle.mc_theory.specs.Events.Outcome.{Sent};
+ghost use Rattle.mc_theory.specs.Events.{event_of, outcome_by, sent_onto, sent_astray};
+ghost use Rattle.mc_forward.specs.Domains.{pairs_of};
+ghost use Rattle.mc_forward.specs.Journeys.{net_in, Extends, AtRouters};
+ghost use Rattle.mc_forward.specs.Outcomes.{outcome_seen};
+
+use crate::copy::{Carried, Stray, WaitingCopy};
+use crate::event::{Event, Outcome};
+use crate::flow_net::FlowNet;
+use crate::row::RowFor;
+use mc_tables::Oif;
+use mc_text::Memory;
+use mc_topology::RouterNo;
+use std::alloc::Global;
+use std::collections::VecDeque;
+use std::marker::Model;
+
+/// The copies that LANs carried, those that wait, and the strays, each in the order in which they
+/// came.
+#[derive(Drop)]
+pub(crate) struct Copies {
+    carried: Vec<Carried>,
+    waiting: VecDeque<WaitingCopy>,
+    strays: Vec<Stray>,
+}
+
+impl Model for Copies {
+    ghost use Rattle.mc_theory.specs.Flights.{Flight};
+    ghost use Rattle.mc_forward.specs.Journeys.{flight_of, flight_code};
+
+    ghost Value = { Flight };
+
+    ghost coded = { flight_code };
+
+    ghost view = { λ c. flight_of c.carried.items c.waiting.items c.strays.items };
+}
+
+/// Whether a router's vif sent the copy.
+fn is_sent_by(copy: &Carried, router: RouterNo, vif: u8) -> bool
+    ensures { result ≡ is_sender copy.now.sender (router, vif) }
+{
+    match copy.sender {
+        Some((sender, sender_vif)) => sender == router && sender_vif == vif,
+        None => false,
+    }
+}
+
+/// A copy that its LAN carries waits at the other interfaces of the LAN.
+fn wait_at_hearers(
+    waiting: &mut VecDeque<WaitingCopy>,
+    net: &FlowNet<'_>,
+    copy: &Carried,
+) -> Result<(), Memory>
+    requires { copy.now.lan < length net.now.domain.topology.lans }
+    ensures ok { OnOk result (waiting.new.items ≡
+        waiting.old.items ++ map (waits_at copy.now.ttl) (hearers (net_in net.now) copy.now)) }
+    ensures kept { take (length waiting.old.items) waiting.new.items ≡ waiting.old.items }
+{
+    for interface in net.interfaces(copy.lan) {
+        let (router, vif) = interface;
+        if !is_sent_by(copy, router, vif) {
+            waiting.push_back(WaitingCopy {
+                router,
+                vif,
+                ttl: copy.ttl,
+            })?;
+        }
+    }
+    Ok(())
+}
+
+/// Takes the copy with this index away. The others keep their order, and the fewer of those before
+/// and after it are moved.
+fn take_away(waiting: &mut VecDeque<WaitingCopy>, index: usize)
+    requires { index < length waiting.old.items }
+    ensures { waiting.new.items ≡ remove waiting.old.items index }
+{
+    let _taken = waiting.remove(index);
+}
+
+impl Copies {
+    /// No copy yet.
+    pub(crate) fn new(alloc: Global) -> Copies
+        ensures { result ≡ record { carried = []; waiting = []; strays = [] } }
+    {
+        Copies {
+            carried: Vec::new(alloc),
+            waiting: VecDeque::new(alloc),
+            strays: Vec::new(alloc),
+        }
+    }
+
+    pub(crate) fn carried(&self) -> &[Carried]
+        ensures { result.now ≡ self.now.carried }
+    {
+        &self.carried
+    }
+
+    pub(crate) fn waiting(&self) -> usize
+        ensures { result ≡ length self.now.waiting }
+    {
+        self.waiting.len()
+    }
+
+    pub(crate) fn strays(&self) -> &[Stray]
+        ensures { result.now ≡ self.now.strays }
+    {
+        &self.strays
+    }
+
+    /// A copy is put on its LAN.
+    pub(crate) fn put(&mut self, net: &FlowNet<'_>, copy: &Carried) -> Result<(), Memory>
+        requires { copy.now.lan < length net.now.domain.topology.lans }
+        ensures ok { OnOk result (self.new ≡ put (net_in net.now) copy.now self.old) }
+        ensures kept { Extends self.old self.new }
+    {
+        self.carried.push(*copy)?;
+        wait_at_hearers(&mut self.waiting, net, copy)
+    }
+
+    /// A router sends by a vif, for a copy that came with one more time to live. Whether that puts
+    /// one on a LAN.
+    fn send(&mut self, net: &FlowNet<'_>, taken: &WaitingCopy, vif: u8) -> Result<bool, Memory>
+        requires ttl { 0 < taken.now.ttl }
+        requires router { taken.now.router < length net.now.domain.topology.routers }
+        ensures ok { OnOk result (self.new ≡ leave (net_in net.now) (taken.now.ttl - 1)
+            (taken.now.router, vif) ((net_in net.now).placed taken.now.router vif) self.old) }
+        ensures onto { IfOk result (λ onto.
+            onto ≡ is_some ((net_in net.now).placed taken.now.router vif)) }
+        ensures kept { Extends self.old self.new }
+    {
+        let router = taken.router;
+        match net.placed(router, vif) {
+            Some(lan) => {
+                let copy = Carried {
+                    lan,
+                    ttl: taken.ttl - 1,
+                    sender: Some((router, vif)),
+                };
+                self.put(net, &copy)?;
+                Ok(true)
+            }
+            None => {
+                self.strays.push(Stray { router, vif })?;
+                Ok(false)
+            }
+        }
+    }
+
+    /// A router sends by each outgoing vif whose threshold the time to live exceeds.
+    fn send_all(
+        &mut self,
+        net: &FlowNet<'_>,
+        taken: &WaitingCopy,
+        oifs: &[Oif],
+    ) -> Result<Outcome, Memory>
+        requires router { taken.now.router < length net.now.domain.topology.routers }
+        requires few { length oifs.now ≤ 32 }
+        ensures ok { OnOk result (self.new ≡
+            sends (net_in net.now) taken.now.router taken.now.ttl (pairs_of oifs.now) self.old) }
+        ensures outcome { IfOk result (λ outcome. outcome_seen outcome ≡ Sent
+            (sent_onto (net_in net.now) taken.now.router taken.now.ttl (pairs_of oifs.now))
+            (sent_astray (net_in net.now) taken.now.router taken.now.ttl (pairs_of oifs.now))) }
+        ensures kept { Extends self.old self.new }
+    {
+        let mut copies = 0;
+        let mut strays = 0;
+        for oif in oifs {
+            if taken.ttl > oif.threshold {
+                if self.send(net, taken, oif.vif)? {
+                    copies += 1;
+                } else {
+                    strays += 1;
+                }
+            }
+        }
+        Ok(Outcome::Sent { copies, strays })
+    }
+
+    /// What a router does with a copy that waits at its vif. The copy still waits afterwards.
+    fn forward(&mut self, net: &FlowNet<'_>, taken: &WaitingCopy) -> Result<Outcome, Memory>
+        requires { taken.now.router < length net.now.domain.topology.routers }
+        ensures ok { OnOk result (self.new ≡ handle (net_in net.now) (Some taken.now) self.old) }
+        ensures outcome { IfOk result (λ outcome. outcome_seen outcome ≡
+            outcome_by (net_in net.now) taken.now ((net_in net.now).row taken.now.router)) }
+        ensures kept { Extends self.old self.new }
+    {
+        match net.row(taken.router) {
+            RowFor::Exact(entry) => {
+                if entry.iif == taken.vif {
+                    self.send_all(net, taken, entry.oifs.as_slice())
+                } else {
+                    Ok(Outcome::OtherVif)
+                }
+            }
+            RowFor::Open => {
+                self.strays.push(Stray {
+                    router: taken.router,
+                    vif: taken.vif,
+                })?;
+                Ok(Outcome::Open)
+            }
+            RowFor::NoRow => Ok(Outcome::NoRow),
+        }
+    }
+
+    /// The waiting copy with this index is taken away and handled. All that grows does so before,
+    /// so that nothing is changed where memory runs out.
+    pub(crate) fn handle(&mut self, net: &FlowNet<'_>, index: usize) -> Result<Event, Memory>
+        requires waits { index < length self.old.waiting }
+        requires routers { AtRouters (length net.now.domain.topology.routers) self.old }
+        ensures ok { OnOk result (self.new ≡ step (net_in net.now) index self.old) }
+        ensures event { IfOk result (λ event.
+            option_map (event_of (net_in net.now)) (slice_get self.old.waiting index)
+            ≡ Some event) }
+        ensures err { OnErr result (self.new ≡ self.old) }
+    {
+        let carried = self.carried.len();
+        let waiting = self.waiting.len();
+        let strays = self.strays.len();
+        let taken = self.waiting[index];
+        match self.forward(net, &taken) {
+            Ok(outcome) => {
+                take_away(&mut self.waiting, index);
+                Ok(Event {
+                    router: taken.router,
+                    vif: taken.vif,
+                    ttl: taken.ttl,
+                    outcome,
+                })
+            }
+            Err(Memory) => {
+                self.carried.truncate(carried);
+                self.waiting.truncate(waiting);
+                self.strays.truncate(strays);
+                Err(Memory)
+            }
+        }
+    }
+
+    /// The waiting copy with this index is taken away.
+    pub(crate) fn lose(&mut self, lost: usize)
+        requires { lost < length self.old.waiting }
+        ensures { self.new ≡ without lost self.old }
+    {
+        take_away(&mut self.waiting, lost);
+    }
+}

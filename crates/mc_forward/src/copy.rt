@@ -1,0 +1,64 @@
+//! Copies of a packet: those that LANs carried, those that wait at routers, and where one left the
+//! known domain.
+
+use mc_topology::{LanNo, RouterNo};
+use std::marker::Model;
+
+/// A copy that a LAN carried.
+#[derive(Clone, Copy, Debug, PartialEq, Eq)]
+pub struct Carried {
+    /// The LAN.
+    pub lan: LanNo,
+    /// The time to live that it had there, at most 255.
+    pub ttl: u8,
+    /// The router and its vif that sent it, or none for the copy of the source.
+    pub sender: Option<(RouterNo, u8)>,
+}
+
+impl Model for Carried {
+    ghost use Rattle.mc_theory.specs.Flights.{Copy};
+
+    ghost Value = { Copy };
+
+    ghost view = { λ a. record { lan = a.lan; ttl = a.ttl; sender = a.sender } };
+
+    ghost inverse = { λ c. record { lan = c.lan; ttl = c.ttl; sender = c.sender } };
+}
+
+/// A copy that waits to be handled by a router that heard it.
+#[derive(Clone, Copy, Debug)]
+pub(crate) struct WaitingCopy {
+    pub(crate) router: RouterNo,
+    pub(crate) vif: u8,
+    pub(crate) ttl: u8,
+}
+
+impl Model for WaitingCopy {
+    ghost use Rattle.mc_theory.specs.Flights.{Waiting};
+
+    ghost Value = { Waiting };
+
+    ghost view = { λ a. record { router = a.router; vif = a.vif; ttl = a.ttl } };
+
+    ghost inverse = { λ w. record { router = w.router; vif = w.vif; ttl = w.ttl } };
+}
+
+/// Where a copy left the known domain: a router and its vif.
+#[derive(Clone, Copy, Debug, PartialEq, Eq)]
+pub struct Stray {
+    /// The router.
+    pub router: RouterNo,
+    /// The vif that it sent the copy to, which is placed on no LAN, or at which the copy met a row
+    /// that is not followed.
+    pub vif: u8,
+}
+
+impl Model for Stray {
+    ghost use Rattle.std.specs.Prelude.{ℕ};
+
+    ghost Value = { ℕ × ℕ };
+
+    ghost view = { λ a. (a.router, a.vif) };
+
+    ghost inverse = { λ i. record { router = i.0; vif = i.1 } };
+}

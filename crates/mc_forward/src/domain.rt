@@ -1,0 +1,132 @@
+//! A domain, and what it says of each flow.
+
+ghost use Rattle.std.specs.Prelude.{◌≡◌, ◌<◌, ℕ, None, IfSome, length, slice_get, unwrap_or};
+ghost use Rattle.mc_theory.specs.Nets.{interfaces};
+ghost use Rattle.mc_forward.specs.Domains.{IsDomain, net_of, placed_of, row_of, wants_of};
+ghost use Rattle.mc_forward.specs.DomainParts.{domain_with, IsWorkedOut};
+ghost use Rattle.mc_forward.specs.Rows.{row_seen, EntryStands};
+
+use crate::interfaces::{Interfaces, LanInterfaces};
+use crate::places::Places;
+use crate::row::RowFor;
+use crate::tables::Tables;
+use crate::wants::WantedFlows;
+use mc_topology::{LanNo, RouterNo, Topology};
+use std::marker::Model;
+
+/// A topology with the kernel tables of each router, and which LAN wants which flow.
+#[derive(Drop)]
+pub struct Domain {
+    topology: Topology,
+    tables: Vec<Tables>,
+    wants: Vec<WantedFlows>,
+    places: Vec<Places>,
+    interfaces: Vec<LanInterfaces>,
+}
+
+impl Model for Domain {
+    ghost use Rattle.mc_forward.specs.Domains.{DomainValue};
+    ghost use Rattle.mc_forward.specs.DomainParts.{domain_code, domain_with, IsWorkedOut};
+
+    ghost Value = { DomainValue };
+
+    ghost coded = { domain_code };
+
+    ghost view = { λ d. domain_with d.topology d.tables.items d.wants.items };
+
+    ghost invariant = { λ d. IsWorkedOut (domain_with d.topology d.tables.items d.wants.items)
+        d.places.items d.interfaces.items };
+}
+
+fn place_of(places: &[Option<LanNo>], vif: u8) -> Option<LanNo>
+    ensures { result ≡ unwrap_or (slice_get places.now vif) None }
+{
+    match places.get(vif as usize) {
+        Some(place) => *place,
+        None => None,
+    }
+}
+
+impl Domain {
+    /// The domain of a topology, the routers' tables, and what was worked out of them.
+    pub(crate) fn new(
+        topology: Topology,
+        tables: Vec<Tables>,
+        wants: Vec<WantedFlows>,
+        places: Vec<Places>,
+        interfaces: Vec<LanInterfaces>,
+    ) -> Domain
+        requires { IsWorkedOut (domain_with topology tables.items wants.items) places.items
+            interfaces.items }
+        ensures { result ≡ domain_with topology tables.items wants.items }
+    {
+        Domain {
+            topology,
+            tables,
+            wants,
+            places,
+            interfaces,
+        }
+    }
+
+    /// The topology that it was put together with.
+    pub fn topology(&self) -> &Topology
+        ensures topology { result.now ≡ self.now.topology }
+        // What every domain keeps.
+        ensures rules { IsDomain self.now }
+    {
+        &self.topology
+    }
+
+    /// The LAN that a router's vif is placed on. None for a vif that its table hasn't, for a tunnel
+    /// or a register interface, and for a device of which the topology has no interface.
+    pub fn placed(&self, router: RouterNo, vif: u8) -> Option<LanNo>
+        requires { router < length self.now.topology.routers }
+        ensures lan { result ≡ placed_of self.now router vif }
+        ensures listed { IfSome result (λ lan. lan < length self.now.topology.lans) }
+    {
+        let places = &self.places[router.0 as usize];
+        place_of(places, vif)
+    }
+
+    /// What a router's forwarding cache has for a flow.
+    pub fn entry(&self, router: RouterNo, flow: u32) -> RowFor<'_>
+        requires router { router < length self.now.topology.routers }
+        requires flow { flow < length self.now.topology.flows }
+        ensures row { row_seen result ≡ row_of self.now flow router }
+        ensures stands { EntryStands result }
+    {
+        let cache = &self.tables[router.0 as usize].cache;
+        let flow = self.topology.flow(flow);
+        match cache.exact(flow.source, flow.group) {
+            Some(entry) => RowFor::Exact(entry),
+            None => {
+                if cache.wildcard(flow.group) {
+                    RowFor::Open
+                } else {
+                    RowFor::NoRow
+                }
+            }
+        }
+    }
+
+    /// Whether a LAN wants a flow: whether some record of its reports for the flow's group admits
+    /// the flow's source.
+    pub fn wants(&self, lan: LanNo, flow: u32) -> bool
+        requires lan { lan < length self.now.topology.lans }
+        requires flow { flow < length self.now.topology.flows }
+        ensures { result ≡ wants_of self.now flow lan }
+    {
+        let wanted = &self.wants[lan.0 as usize];
+        wanted.flows[flow as usize]
+    }
+
+    /// The vifs that are placed on a LAN, by router and then by vif.
+    pub fn interfaces(&self, lan: LanNo) -> Interfaces<'_>
+        requires { lan < length self.now.topology.lans }
+        ensures { (flow : ℕ) → result ≡ interfaces (net_of self.now flow) lan }
+    {
+        let interfaces = &self.interfaces[lan.0 as usize];
+        interfaces.iter()
+    }
+}

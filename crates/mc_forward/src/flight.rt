@@ -1,0 +1,136 @@
+//! The flight of one packet: its copies from the source's on, one handling or loss after another.
+
+ghost use Rattle.std.specs.Prelude.{◌≡◌, ◌<◌, Some, length, min, IfOk, OnOk, OnErr, slice_get};
+ghost use Rattle.std.specs.Prelude.{option_map};
+ghost use Rattle.mc_theory.specs.Flights.{copies_on, start, step, without};
+ghost use Rattle.mc_theory.specs.Events.{event_of};
+ghost use Rattle.mc_forward.specs.Domains.{net_of};
+ghost use Rattle.mc_forward.specs.Journeys.{journey_net, flown};
+
+use crate::copies::Copies;
+use crate::copy::{Carried, Stray};
+use crate::domain::Domain;
+use crate::event::Event;
+use crate::flow_net::FlowNet;
+use mc_text::Memory;
+use mc_topology::LanNo;
+use std::alloc::Global;
+use std::marker::Model;
+
+/// The copies of one packet of a flow, which routers of the domain handle in whatever order the
+/// caller picks. Its value in contracts is the domain, the flow's number and the flight.
+#[derive(Drop)]
+pub struct Flight<'d> {
+    net: FlowNet<'d>,
+    copies: Copies,
+}
+
+impl<'d> Model for Flight<'d> {
+    ghost use Rattle.mc_forward.specs.Journeys.{Journey, IsFlight, journey_code};
+
+    ghost Value = { Journey };
+
+    ghost coded = { journey_code };
+
+    ghost view = { λ f. record { domain = f.net.domain; flow = f.net.flow; flight = f.copies } };
+
+    ghost invariant = { λ f. IsFlight f.net f.copies };
+}
+
+/// How many of the copies a LAN carried, 4,294,967,295 where there are more.
+fn count_on(carried: &[Carried], lan: LanNo) -> u32
+    ensures { result ≡ min (copies_on carried.now lan) 4294967295 }
+{
+    let mut count = 0u32;
+    for copy in carried {
+        if copy.lan == lan {
+            count = count.saturating_add(1);
+        }
+    }
+    count
+}
+
+impl<'d> Flight<'d> {
+    /// The flight in which the LAN of the flow's source carries a packet with this time to live, 1
+    /// to 255, and no router has handled a copy.
+    ///
+    /// # Errors
+    ///
+    /// `Memory` where a growth was refused.
+    pub fn start(
+        alloc: Global,
+        domain: &'d Domain,
+        flow: u32,
+        ttl: u8,
+    ) -> Result<Flight<'d>, Memory>
+        requires { flow < length domain.now.topology.flows }
+        ensures { IfOk result (λ journey. journey ≡ record {
+          domain = domain.now;
+          flow = flow;
+          flight = start (net_of domain.now flow) ttl;
+        }) }
+    {
+        let net = FlowNet::new(domain, flow);
+        let mut copies = Copies::new(alloc);
+        let first = Carried {
+            lan: net.source(),
+            ttl,
+            sender: None,
+        };
+        copies.put(&net, &first)?;
+        Ok(Flight { net, copies })
+    }
+
+    /// How many copies wait.
+    pub fn waiting(&self) -> usize
+        ensures { result ≡ length self.now.flight.waiting }
+    {
+        self.copies.waiting()
+    }
+
+    /// How many copies a LAN carried, 4,294,967,295 where it carried more.
+    pub fn carried(&self, lan: LanNo) -> u32
+        ensures { result ≡ min (copies_on self.now.flight.carried lan) 4294967295 }
+    {
+        count_on(self.copies.carried(), lan)
+    }
+
+    /// Where copies left the known domain, in order.
+    pub fn strays(&self) -> &[Stray]
+        ensures { result.now ≡ self.now.flight.strays }
+    {
+        self.copies.strays()
+    }
+
+    /// The copies that LANs carried, in order. The first is the source's.
+    pub fn copies(&self) -> &[Carried]
+        ensures { result.now ≡ self.now.flight.carried }
+    {
+        self.copies.carried()
+    }
+
+    /// The router at which the waiting copy with this index waits handles it. The copies that it
+    /// sends wait after the others, which keep their order.
+    ///
+    /// # Errors
+    ///
+    /// `Memory` where a growth was refused. The flight is then as it was.
+    pub fn handle(&mut self, index: usize) -> Result<Event, Memory>
+        requires { index < length self.old.flight.waiting }
+        ensures ok { OnOk result (self.new ≡
+            flown self.old (step (journey_net self.old) index self.old.flight)) }
+        ensures event { IfOk result (λ event. option_map (event_of (journey_net self.old))
+            (slice_get self.old.flight.waiting index) ≡ Some event) }
+        ensures err { OnErr result (self.new ≡ self.old) }
+    {
+        self.copies.handle(&self.net, index)
+    }
+
+    /// The waiting copy with this index is lost: no router handles it. Nothing else changes.
+    pub fn lose(&mut self, index: usize)
+        requires { index < length self.old.flight.waiting }
+        ensures { self.new ≡ flown self.old (without index self.old.flight) }
+    {
+        self.copies.lose(index);
+    }
+}

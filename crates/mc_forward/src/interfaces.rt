@@ -1,0 +1,134 @@
+//! The interfaces of a LAN.
+
+ghost use Rattle.std.specs.Prelude.{◌≡◌, ◌<◌, ◌≤◌, ◌++◌, ◌∷◌, [], ℕ, IfOk, OnOk, Some, None};
+ghost use Rattle.std.specs.Prelude.{length, map, slice_index_or};
+ghost use Rattle.mc_theory.specs.Lists.{below};
+ghost use Rattle.mc_forward.specs.Assembling.{vifs_on, place_in, interfaces_by};
+
+use crate::places::Places;
+use mc_text::Memory;
+use mc_topology::RouterNo;
+use std::alloc::Global;
+use std::marker::Model;
+
+/// The vifs that are placed on one LAN, by router and then by vif.
+#[derive(Debug, Drop)]
+pub(crate) struct LanInterfaces {
+    pub(crate) interfaces: Vec<(RouterNo, u8)>,
+}
+
+impl Model for LanInterfaces {
+    ghost use Rattle.std.specs.Prelude.{ℕ, List};
+
+    ghost Value = { List (ℕ × ℕ) };
+
+    ghost view = { λ s. s.interfaces.items };
+}
+
+/// The interfaces of a LAN, from the first: each a router and its vif. Its value in contracts is
+/// the list of those that are left.
+#[derive(Debug, Drop)]
+pub struct Interfaces<'a> {
+    left: &'a [(RouterNo, u8)],
+}
+
+impl<'a> Model for Interfaces<'a> {
+    ghost use Rattle.std.specs.Prelude.{ℕ, List};
+
+    ghost Value = { List (ℕ × ℕ) };
+
+    ghost view = { λ s. s.left.now };
+}
+
+impl LanInterfaces {
+    /// Adds a vif behind the others.
+    fn push(&mut self, router: RouterNo, vif: u8) -> Result<(), Memory>
+        ensures { OnOk result (self.new ≡ self.old ++ (router, vif) ∷ []) }
+    {
+        self.interfaces.push((router, vif))?;
+        Ok(())
+    }
+
+    /// All of them, from the first.
+    pub(crate) fn iter(&self) -> Interfaces<'_>
+        ensures { result ≡ self.now }
+    {
+        Interfaces {
+            left: &self.interfaces,
+        }
+    }
+}
+
+impl<'a> Iterator for Interfaces<'a> {
+    type Item = (RouterNo, u8);
+
+    ghost use Rattle.std.specs.Iterator.{YieldsFirst, item_count};
+
+    ghost next_gives = { YieldsFirst (λ left. left) };
+
+    ghost remaining = { item_count (λ left. left) };
+
+    fn next(&mut self) -> Option<(RouterNo, u8)> {
+        match self.left {
+            [first, rest @ ..] => {
+                self.left = rest;
+                Some(*first)
+            }
+            [] => None,
+        }
+    }
+}
+
+/// No interface yet, for so many LANs.
+fn no_interfaces(alloc: Global, lans: u32) -> Result<Vec<LanInterfaces>, Memory>
+    ensures { IfOk result (λ lists. lists.items ≡ map (λ lan. []) (below lans)) }
+{
+    let mut lists = Vec::new(alloc);
+    for _ in 0..lans {
+        lists.push(LanInterfaces {
+            interfaces: Vec::new(alloc),
+        })?;
+    }
+    Ok(lists)
+}
+
+/// Adds a router's vifs to the LANs on which they are placed.
+fn add_router(
+    lists: &mut Vec<LanInterfaces>,
+    router: RouterNo,
+    places: &Places,
+) -> Result<(), Memory>
+    requires { (vif lan : ℕ) → slice_index_or places.now vif None ≡ Some lan →
+        lan < length lists.old.items }
+    ensures count { length lists.new.items ≡ length lists.old.items }
+    ensures each { OnOk result ((lan : ℕ) → lan < length lists.old.items →
+        slice_index_or lists.new.items lan [] ≡
+        slice_index_or lists.old.items lan [] ++ vifs_on places.now router lan (below 32)) }
+{
+    for vif in 0..32u8 {
+        if let Some(lan) = places[vif as usize] {
+            let list = &mut lists[lan.0 as usize];
+            list.push(router, vif)?;
+        }
+    }
+    Ok(())
+}
+
+/// The interfaces of each LAN, where these are the LANs of the routers' vifs.
+pub(crate) fn interfaces_of_lans(
+    alloc: Global,
+    lans: u32,
+    places: &[Places],
+) -> Result<Vec<LanInterfaces>, Memory>
+    requires few { length places.now ≤ 256 }
+    requires listed { (router vif lan : ℕ) →
+        place_in places.now router vif ≡ Some lan → lan < lans }
+    ensures { IfOk result (λ lists. lists.items ≡
+        map (interfaces_by places.now (length places.now)) (below lans)) }
+{
+    let mut lists = no_interfaces(alloc, lans)?;
+    for (number, own) in places.iter().enumerate() {
+        add_router(&mut lists, RouterNo(number as u32), own)?;
+    }
+    Ok(lists)
+}

@@ -1,0 +1,19 @@
+//! What follows from the definitions alone, for whoever builds on them.
+
+ghost use Rattle.std.specs.Prelude.{◌<◌, ◌≤◌, ℕ, length};
+ghost use Rattle.mc_theory.specs.Nets.{IsNet, WantsBelow};
+ghost use Rattle.mc_forward.specs.Domains.{DomainValue, IsDomain, net_of, source_of, ttl_of};
+
+/// What every domain keeps is what the theorems about a flow rest on: its net is one, wanting LANs
+/// are LANs of the topology, its source is on one, and its packets have a time to live of 1 to 255.
+pub fn domains_are_nets()
+    ensures net { (d : DomainValue) (flow : ℕ) → IsDomain d → IsNet (net_of d flow) }
+    ensures wanting { (d : DomainValue) (flow : ℕ) → IsDomain d →
+        WantsBelow (net_of d flow) (length d.topology.lans) }
+    ensures source { (d : DomainValue) (flow : ℕ) → IsDomain d → flow < length d.topology.flows →
+        source_of d flow < length d.topology.lans }
+    ensures ttl_from { (d : DomainValue) (flow : ℕ) → IsDomain d → flow < length d.topology.flows →
+        1 ≤ ttl_of d flow }
+    ensures ttl_to { (d : DomainValue) (flow : ℕ) → IsDomain d → flow < length d.topology.flows →
+        ttl_of d flow ≤ 255 }
+{}

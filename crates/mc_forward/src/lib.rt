@@ -1,0 +1,38 @@
+//! A domain: its topology, the kernel tables of its routers and the reports of its hosts, put
+//! together. And the flight of one packet's copies through it, one handling at a time.
+#![tactic(auto)]
+
+mod assemble;
+mod copies;
+mod copy;
+mod domain;
+mod event;
+mod flight;
+mod flow_laws;
+mod flow_net;
+mod interfaces;
+mod laws;
+mod places;
+mod refused;
+mod row;
+mod tables;
+mod wants;
+
+pub use copy::{Carried, Stray};
+pub use domain::Domain;
+pub use event::{Event, Outcome};
+pub use flight::Flight;
+pub use flow_laws::{
+    a_finding_shows_that_a_flow_is_wrong, a_flow_is_right_exactly_if_a_list_is_accepted,
+    a_run_goes_on_by_a_pick, a_travel_through_a_domain_ends, an_accepted_list_keeps_the_headline,
+    clean_travels_certify_a_flow, every_complete_run_of_a_flow_delivers,
+    every_run_of_a_flow_is_safe, no_reason_accepts_the_list,
+};
+pub use interfaces::Interfaces;
+pub use laws::domains_are_nets;
+pub use refused::{DomainFault, Refused};
+pub use row::RowFor;
+pub use tables::Tables;
+
+#[cfg(test)]
+mod tests;

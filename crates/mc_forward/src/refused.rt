@@ -1,0 +1,30 @@
+//! Why a domain is refused.
+
+use crate::tables::Tables;
+use mc_igmp::ReportList;
+use mc_topology::Topology;
+use thiserror::Error;
+
+/// What is wrong with the parts of a domain.
+#[derive(Clone, Copy, Debug, PartialEq, Eq, Error)]
+pub enum DomainFault {
+    /// (1) There is not one `Tables` for each router, or not one report list for each LAN.
+    #[error("Count")]
+    Count,
+    /// (2) Memory ran out.
+    #[error("Memory")]
+    Memory,
+}
+
+/// The parts that made no domain, as they were handed in, and why.
+#[derive(Debug, Drop)]
+pub struct Refused {
+    /// The topology.
+    pub topology: Topology,
+    /// The routers' tables.
+    pub tables: Vec<Tables>,
+    /// The LANs' reports.
+    pub reports: Vec<ReportList>,
+    /// What is wrong.
+    pub fault: DomainFault,
+}

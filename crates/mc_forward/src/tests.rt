@@ -1,0 +1,4 @@
+mod kernel;
+mod losses;
+mod network;
+mod steps;

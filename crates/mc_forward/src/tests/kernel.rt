@@ -1,0 +1,200 @@
+//! Domains of the texts of real Linux kernels, and of the reports that hosts sent.
+
+use super::network::*;
+use crate::{Domain, RowFor};
+use mc_topology::{LanNo, RouterNo};
+use std::alloc::Global;
+use std::process::Abort;
+use std::test::Fail;
+
+/// A router with a register vif that no flow uses. As a Linux kernel printed its vifs and its
+/// cache.
+const REGISTER_TOPOLOGY: &str = r#"version = 1
+lans = ["l0", "l1"]
+router = [
+{name = "r1"},
+]
+interface = [
+{router = "r1", device = "eth0", lan = "l0"},
+{router = "r1", device = "eth1", lan = "l1"},
+]
+source = [
+{address = "10.0.0.5", lan = "l0"},
+]
+flow = [
+{source = "10.0.0.5", group = "239.1.2.3", ttl = 2},
+]
+"#;
+
+const REGISTER_VIFS: &str = "Interface      BytesIn  PktsIn  BytesOut PktsOut Flags Local    Remote
+ 0 eth0              0       0         0       0 00000 010014AC 00000000
+ 1 eth1              0       0         0       0 00000 020114AC 00000000
+ 2 pimreg            0       0         0       0 00004 00000000 00000000
+";
+
+const REGISTER_CACHE: &str = "Group    Origin   Iif     Pkts    Bytes    Wrong Oifs
+030201EF 0500000A 0          0        0        0  1:1  
+030201EF 0600000A 2          0        0        0  1:1  
+";
+
+/// A router from l0 to l1 and l2, with five flows. As a Linux kernel printed its vifs and its
+/// cache.
+const FILTERS_TOPOLOGY: &str = r#"version = 1
+lans = ["l0", "l1", "l2"]
+router = [
+{name = "r1"},
+]
+interface = [
+{router = "r1", device = "eth0", lan = "l0"},
+{router = "r1", device = "eth1", lan = "l1"},
+{router = "r1", device = "eth2", lan = "l2"},
+]
+source = [
+{address = "10.0.0.5", lan = "l0"},
+{address = "10.0.0.6", lan = "l0"},
+{address = "10.0.0.7", lan = "l0"},
+]
+flow = [
+{source = "10.0.0.5", group = "239.1.2.3", ttl = 2},
+{source = "10.0.0.6", group = "239.1.2.3", ttl = 2},
+{source = "10.0.0.7", group = "239.1.2.3", ttl = 2},
+{source = "10.0.0.5", group = "232.1.1.1", ttl = 2},
+{source = "10.0.0.6", group = "232.1.1.1", ttl = 2},
+]
+"#;
+
+const FILTERS_VIFS: &str = "Interface      BytesIn  PktsIn  BytesOut PktsOut Flags Local    Remote
+ 0 eth0              0       0         0       0 00000 010014AC 00000000
+ 1 eth1              0       0         0       0 00000 020114AC 00000000
+ 2 eth2              0       0         0       0 00000 030214AC 00000000
+";
+
+const FILTERS_CACHE: &str = "Group    Origin   Iif     Pkts    Bytes    Wrong Oifs
+030201EF 0500000A 0          0        0        0  1:1    2:1  
+030201EF 0600000A 0          0        0        0  1:1  
+030201EF 0700000A 0          0        0        0  2:1  
+010101E8 0500000A 0          0        0        0  1:1  
+010101E8 0600000A 0          0        0        0  1:1    2:1  
+";
+
+/// What was captured on l0, l1 and l2 after a General Query.
+const FILTERS_L0: &str = "1101ecfe0000000002000000\n";
+
+const FILTERS_L1: &str = "1101ecfe0000000002000000
+2200e9f50000000101000001e80101010a000005
+2200cde20000000101000003ef0102030a0000050a0000060a000009
+";
+
+const FILTERS_L2: &str = "1101ecfe0000000002000000
+2200e2de0000000201000001e80101010a00000902000002ef0102030a0000050a000006
+2200e1e00000000202000001e80101010a00000502000002ef0102030a0000060a000007
+2200e0f20000000102000001ef0102030a000006
+";
+
+/// The LAN of a vif of the first router.
+fn placed(rt: &impl Abort, domain: &Domain, vif: u8) -> Option<LanNo> {
+    assert!(rt; domain.topology().routers() > 0);
+    domain.placed(RouterNo(0), vif)
+}
+
+/// Whether a LAN wants a flow.
+fn wants(rt: &impl Abort, domain: &Domain, lan: u32, flow: u32) -> bool {
+    assert!(rt; lan < domain.topology().lans());
+    assert!(rt; flow < domain.topology().flows());
+    domain.wants(LanNo(lan), flow)
+}
+
+/// The outgoing vifs of the first router for a flow, where its row is exact and from vif 0.
+fn sent_to(rt: &impl Abort, domain: &Domain, flow: u32, vifs: &[u8]) -> bool {
+    assert!(rt; domain.topology().routers() > 0);
+    assert!(rt; flow < domain.topology().flows());
+    match domain.entry(RouterNo(0), flow) {
+        RowFor::Exact(entry) => {
+            let oifs = entry.oifs.as_slice();
+            entry.iif == 0
+                && oifs.len() == vifs.len()
+                && oifs.iter().zip(vifs).all(|(oif, vif)| oif.vif == *vif)
+        }
+        RowFor::Open | RowFor::NoRow => false,
+    }
+}
+
+/// A router with a register vif.
+fn registers(alloc: Global) -> Result<Domain, Fail> {
+    let tables = (REGISTER_VIFS, REGISTER_CACHE);
+    domain_of(alloc, REGISTER_TOPOLOGY, &[tables], &["", WANTED])
+}
+
+#[test]
+fn register_vif_lies_on_no_lan(rt: HostRuntime) -> Result<(), Fail> {
+    let domain = registers(rt.alloc())?;
+    assert_eq!(rt; placed(&rt, &domain, 0), Some(LanNo(0)));
+    assert_eq!(rt; placed(&rt, &domain, 1), Some(LanNo(1)));
+    for vif in [2u8, 3, 31, 32, 255] {
+        assert!(rt; placed(&rt, &domain, vif).is_none(), "at vif {vif}");
+    }
+    Ok(())
+}
+
+#[test]
+fn register_vif_is_not_sent_to(rt: HostRuntime) -> Result<(), Fail> {
+    let domain = registers(rt.alloc())?;
+    assert!(rt; sent_to(&rt, &domain, 0, &[1]));
+    Ok(())
+}
+
+/// A router whose three LANs' hosts reported filters of five flows.
+fn filters(alloc: Global) -> Result<Domain, Fail> {
+    let tables = (FILTERS_VIFS, FILTERS_CACHE);
+    let lans = [FILTERS_L0, FILTERS_L1, FILTERS_L2];
+    domain_of(alloc, FILTERS_TOPOLOGY, &[tables], &lans)
+}
+
+#[test]
+fn reports_of_three_hosts(rt: HostRuntime) -> Result<(), Fail> {
+    let domain = filters(rt.alloc())?;
+    for (lan, flow, want) in [
+        (0u32, 0u32, false),
+        (0, 4, false),
+        (1, 0, true),
+        (1, 1, true),
+        (1, 2, false),
+        (1, 3, true),
+        (1, 4, false),
+        (2, 0, true),
+        (2, 1, false),
+        (2, 2, true),
+        (2, 3, false),
+        (2, 4, true),
+    ] {
+        assert_eq!(rt;
+            wants(&rt, &domain, lan, flow),
+            want,
+            "LAN {lan} flow {flow}"
+        );
+    }
+    Ok(())
+}
+
+#[test]
+fn rows_of_five_flows(rt: HostRuntime) -> Result<(), Fail> {
+    let domain = filters(rt.alloc())?;
+    assert!(rt; sent_to(&rt, &domain, 0, &[1, 2]));
+    assert!(rt; sent_to(&rt, &domain, 1, &[1]));
+    assert!(rt; sent_to(&rt, &domain, 2, &[2]));
+    assert!(rt; sent_to(&rt, &domain, 3, &[1]));
+    assert!(rt; sent_to(&rt, &domain, 4, &[1, 2]));
+    Ok(())
+}
+
+#[test]
+fn interface_of_each_lan(rt: HostRuntime) -> Result<(), Fail> {
+    let domain = filters(rt.alloc())?;
+    for (lan, vif) in [(0u32, 0u8), (1, 1), (2, 2)] {
+        assert!(rt; lan < domain.topology().lans());
+        let mut interfaces = domain.interfaces(LanNo(lan));
+        assert_eq!(rt; interfaces.next(), Some((RouterNo(0), vif)));
+        assert_eq!(rt; interfaces.next(), None);
+    }
+    Ok(())
+}

@@ -1,0 +1,5 @@
+pub mod BelowLemmas
+pub mod FirstLemmas
+pub mod PastTables
+pub mod VerdictLemmas
+pub mod AllLemmas

@@ -1,0 +1,6 @@
+pub mod Firsts
+pub mod FlowNet
+pub mod FlowTables
+pub mod Reasons
+pub mod ReasonText
+pub mod Verdicts

@@ -1,0 +1,31 @@
+-- How a reason and a verdict are written, by the names of a topology.
+use Rattle.std.specs.Prelude.{ℕ, List, [], ◌++◌, codes, decimal, slice_get, option_map, unwrap_or}
+use Rattle.mc_topology.specs.Topology.{TopologyValue}
+use Rattle.mc_check.specs.declared.verdict.Reason.{Reason}
+use Rattle.mc_check.specs.declared.verdict.Reason.TheVariants.{TwoEntries, BadSource, Wildcard, Stray, Extra, WrongRank, WrongNeed, Unfed, Missed, Low}
+use Rattle.mc_check.specs.declared.verdict.Verdict.{Verdict}
+use Rattle.mc_check.specs.declared.verdict.Verdict.TheVariants.{Yes, No}
+
+-- the name of a LAN, and of a router; empty for a number that the topology hasn't
+abbrev pub lan_name : TopologyValue → ℕ → List ℕ
+lan_name t lan = unwrap_or (slice_get t.lans lan) []
+
+abbrev pub router_name : TopologyValue → ℕ → List ℕ
+router_name t router = unwrap_or (option_map (λ r. r.name) (slice_get t.routers router)) []
+
+abbrev pub reason_text : TopologyValue → Reason → List ℕ
+reason_text t (TwoEntries lan) = codes "TwoEntries " ++ lan_name t lan
+reason_text t BadSource = codes "BadSource"
+reason_text t (Wildcard router vif) = codes "Wildcard " ++ router_name t router ++ codes " " ++ decimal vif
+reason_text t (Stray router vif) = codes "Stray " ++ router_name t router ++ codes " " ++ decimal vif
+reason_text t (Extra router vif lan) =
+    codes "Extra " ++ router_name t router ++ codes " " ++ decimal vif ++ codes " " ++ lan_name t lan
+reason_text t (WrongRank lan) = codes "WrongRank " ++ lan_name t lan
+reason_text t (WrongNeed lan) = codes "WrongNeed " ++ lan_name t lan
+reason_text t (Unfed lan) = codes "Unfed " ++ lan_name t lan
+reason_text t (Missed lan) = codes "Missed " ++ lan_name t lan
+reason_text t (Low lan) = codes "Low " ++ lan_name t lan
+
+abbrev pub verdict_text : TopologyValue → Verdict → List ℕ
+verdict_text t (Yes copies) = codes "yes copies " ++ decimal copies
+verdict_text t (No reason) = codes "no " ++ reason_text t reason

@@ -1,0 +1,22 @@
+-- The code's reasons as those of the definitions.
+use Rattle.std.specs.Prelude.{Option, Some, None}
+use Rattle.mc_theory.specs.Reasons.{Reason as ReasonValue}
+use Rattle.mc_check.specs.declared.verdict.Reason.{Reason}
+use Rattle.mc_check.specs.declared.verdict.Reason.TheVariants.{TwoEntries, BadSource, Wildcard, Stray, Extra, WrongRank, WrongNeed, Unfed, Missed, Low}
+
+abbrev pub reason_value : Reason → ReasonValue
+reason_value (TwoEntries lan) = ReasonValue.TwoEntries lan
+reason_value BadSource = ReasonValue.BadSource
+reason_value (Wildcard router vif) = ReasonValue.Wildcard router vif
+reason_value (Stray router vif) = ReasonValue.Stray router vif
+reason_value (Extra router vif lan) = ReasonValue.Extra router vif lan
+reason_value (WrongRank lan) = ReasonValue.WrongRank lan
+reason_value (WrongNeed lan) = ReasonValue.WrongNeed lan
+reason_value (Unfed lan) = ReasonValue.Unfed lan
+reason_value (Missed lan) = ReasonValue.Missed lan
+reason_value (Low lan) = ReasonValue.Low lan
+
+-- the reason that was found, if one was
+abbrev pub reason_seen : Option Reason → Option ReasonValue
+reason_seen None = None
+reason_seen (Some reason) = Some (reason_value reason)

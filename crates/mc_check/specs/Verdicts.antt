@@ -1,0 +1,70 @@
+-- What a verdict says of a flow's list of entries.
+use Rattle.std.specs.Prelude.{◌≡◌, ℕ, Bool, true, false, IsTrue, ◌↔◌, List, length, slice_get, Option, Some, None, ⊤}
+use Rattle.mc_theory.specs.Nets.{Net}
+use Rattle.mc_theory.specs.Flights.{EveryRun}
+use Rattle.mc_theory.specs.Certificates.{Entry, IsAccepted, IsSafe, IsDeliveredWhole, IsRight}
+use Rattle.mc_theory.specs.Headline.{HeadlineHolds}
+use Rattle.mc_theory.specs.Reasons.{first_reason}
+use Rattle.mc_forward.specs.Domains.{DomainValue, net_of}
+use Rattle.mc_check.specs.Reasons.{reason_value}
+use Rattle.mc_check.specs.declared.verdict.Reason.{Reason}
+use Rattle.mc_check.specs.declared.verdict.Verdict.{Verdict}
+use Rattle.mc_check.specs.declared.verdict.Verdict.TheVariants.{Yes, No}
+
+-- ---- the answer
+
+-- a fact of the number of copies, where the verdict is yes
+abbrev pub IfYes : Verdict → (ℕ → Type 0) → Type 0
+IfYes (Yes copies) P = P copies
+IfYes (No reason) P = ⊤
+
+-- a fact of the reason, where the verdict is no
+abbrev pub IfNo : Verdict → (Reason → Type 0) → Type 0
+IfNo (Yes copies) P = ⊤
+IfNo (No reason) P = P reason
+
+abbrev pub is_yes : Verdict → Bool
+is_yes (Yes copies) = true
+is_yes (No reason) = false
+
+-- the verdict by the first reason, if there is one, on a list of this length
+abbrev pub verdict_by : Option Reason → ℕ → Verdict
+verdict_by None copies = Yes copies
+verdict_by (Some reason) copies = No reason
+
+-- yes exactly where the list is accepted
+abbrev pub IsExact : Net → List Entry → Verdict → Type 0
+IsExact n es v = IsTrue (is_yes v) ↔ IsAccepted n es
+
+-- a yes has the number of the list's entries
+abbrev pub HasCopies : Net → List Entry → Verdict → Type 0
+HasCopies n es v = IfYes v (λ copies. copies ≡ length es)
+
+-- a no has the first reason, where the LANs are numbered below `count`
+abbrev pub HasFirstReason : ℕ → Net → List Entry → Verdict → Type 0
+HasFirstReason count n es v = IfNo v (λ reason. first_reason n count es ≡ Some (reason_value reason))
+
+-- ---- what a yes is worth, for every packet of the flow and every order in which its copies are handled or lost
+
+-- every run of a packet with any TTL, complete or not, is safe
+abbrev pub YesIsSafe : Net → List Entry → Verdict → Type 0
+YesIsSafe n es v = IfYes v (λ copies. EveryRun n 1 (IsSafe n es))
+
+-- every complete run without loss carries exactly the named LANs whose need the TTL meets
+abbrev pub YesDelivers : Net → List Entry → Verdict → Type 0
+YesDelivers n es v = IfYes v (λ copies. EveryRun n 1 (IsDeliveredWhole es))
+
+-- the flow is right
+abbrev pub YesIsRight : Net → List Entry → Verdict → Type 0
+YesIsRight n es v = IfYes v (λ copies. IsRight n)
+
+-- the headline's promise is kept for the flow, with this many copies
+abbrev pub YesKeepsHeadline : Net → List Entry → Verdict → Type 0
+YesKeepsHeadline n es v = IfYes v (λ copies. HeadlineHolds n copies)
+
+-- ---- of each flow
+
+-- the fact of each flow's net, list and verdict
+abbrev pub OfEachFlow : DomainValue → List (List Entry) → List Verdict → (Net → List Entry → Verdict → Type 0) → Type 0
+OfEachFlow d lists verdicts P = (flow : ℕ) (es : List Entry) (v : Verdict)
+    → slice_get lists flow ≡ Some es → slice_get verdicts flow ≡ Some v → P (net_of d flow) es v

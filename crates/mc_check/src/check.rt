@@ -1,0 +1,140 @@
+//! The verdict on one flow, and on all flows.
+
+ghost use Rattle.std.specs.Prelude.{◌≡◌, ◌<◌, ◌^◌, All, IfOk, None, [], length};
+ghost use Rattle.mc_theory.specs.Reasons.{first_reason, twice};
+ghost use Rattle.mc_forward.specs.Domains.{net_of};
+ghost use Rattle.mc_check.specs.FlowNet.{flow_net};
+ghost use Rattle.mc_check.specs.Reasons.{reason_seen};
+ghost use Rattle.mc_check.specs.Verdicts.{HasCopies, HasFirstReason, IsExact, OfEachFlow, verdict_by};
+ghost use Rattle.mc_check.specs.Verdicts.{YesDelivers, YesIsRight, YesIsSafe, YesKeepsHeadline};
+
+use crate::fed::fed_reason;
+use crate::firsts::{Named, put_firsts};
+use crate::flow_tables::FlowTables;
+use crate::routers::routers_reason;
+use crate::served::{has_source, lans_reason};
+use crate::verdict::{Reason, Verdict};
+use mc_cert::{Certificate, Reached};
+use mc_forward::Domain;
+use mc_text::Memory;
+use std::alloc::Global;
+
+/// The first reason to refuse a flow's entries, no two of which name one LAN.
+fn reason_of(tables: &FlowTables<'_>, named: &Named<'_>) -> Option<Reason>
+    requires once { twice [] named.now ≡ None }
+    ensures { reason_seen result ≡ first_reason (flow_net tables.now)
+        (length tables.now.domain.now.topology.lans) named.now }
+{
+    if !has_source(tables, named) {
+        return Some(Reason::BadSource);
+    }
+    if let Some(reason) = routers_reason(tables, named) {
+        return Some(reason);
+    }
+    if let Some(reason) = fed_reason(tables, named) {
+        return Some(reason);
+    }
+    lans_reason(tables, named)
+}
+
+/// The first reason to refuse a list of entries for a flow.
+fn first_reason_of(
+    alloc: Global,
+    domain: &Domain,
+    flow: u32,
+    entries: &[Reached],
+) -> Result<Option<Reason>, Memory>
+    requires flow { flow < length domain.now.topology.flows }
+    requires lans { All (λ e. e.lan < length domain.now.topology.lans) entries.now }
+    ensures { IfOk result (λ reason. reason_seen reason ≡
+        first_reason (net_of domain.now flow) (length domain.now.topology.lans) entries.now) }
+{
+    let lans = domain.topology().lans();
+    let mut firsts = vec![in alloc; None; lans as usize]?;
+    let tables = FlowTables::of(alloc, domain, flow)?;
+    if let Some(reason) = put_firsts(&mut firsts, entries) {
+        return Ok(Some(reason));
+    }
+    let named = Named::new(entries, firsts);
+    Ok(reason_of(&tables, &named))
+}
+
+/// The verdict by the first reason, if there is one.
+fn verdict_by(reason: Option<Reason>, entries: &[Reached]) -> Verdict
+    requires { reason ≡ None → length entries.now < 2 ^ 32 }
+    ensures { result ≡ verdict_by reason (length entries.now) }
+{
+    match reason {
+        Some(reason) => Verdict::No(reason),
+        None => Verdict::Yes {
+            copies: entries.len() as u32,
+        },
+    }
+}
+
+/// Whether a list of entries certifies the flow with this number.
+pub fn check_flow(
+    alloc: Global,
+    domain: &Domain,
+    flow: u32,
+    entries: &[Reached],
+) -> Result<Verdict, Memory>
+    requires flow { flow < length domain.now.topology.flows }
+    requires lans { All (λ e. e.lan < length domain.now.topology.lans) entries.now }
+    // Yes exactly where the list is accepted,
+    ensures accepted { IfOk result (IsExact (net_of domain.now flow) entries.now) }
+    // with the number of its entries,
+    ensures copies { IfOk result (HasCopies (net_of domain.now flow) entries.now) }
+    // and else no with the first reason.
+    ensures reason { IfOk result (HasFirstReason (length domain.now.topology.lans)
+        (net_of domain.now flow) entries.now) }
+    // After a yes every run of every packet is safe, whatever the order and whatever is lost,
+    ensures safe { IfOk result (YesIsSafe (net_of domain.now flow) entries.now) }
+    // each complete run without loss carries exactly the named LANs whose need the TTL meets,
+    ensures delivered { IfOk result (YesDelivers (net_of domain.now flow) entries.now) }
+    // so the flow is right,
+    ensures right { IfOk result (YesIsRight (net_of domain.now flow) entries.now) }
+    // and the promise of the headline is kept for it.
+    ensures headline { IfOk result (YesKeepsHeadline (net_of domain.now flow) entries.now) }
+{
+    let _rules = domain.topology();
+    let reason = first_reason_of(alloc, domain, flow, entries)?;
+    Ok(verdict_by(reason, entries))
+}
+
+/// The verdict on each flow, in the order of the topology, by a certificate of the domain's topology: a
+/// list for each flow, of the topology's LANs.
+pub fn check_all(
+    alloc: Global,
+    domain: &Domain,
+    certificate: &Certificate,
+) -> Result<Vec<Verdict>, Memory>
+    requires flows { length certificate.now ≡ length domain.now.topology.flows }
+    requires lans { All (All (λ e. e.lan < length domain.now.topology.lans)) certificate.now }
+    // One verdict a flow, and each is what `check_flow` answers: yes exactly where the list is accepted,
+    ensures count { IfOk result (λ vs. length vs.items ≡ length certificate.now) }
+    ensures accepted { IfOk result (λ vs.
+        OfEachFlow domain.now certificate.now vs.items IsExact) }
+    ensures copies { IfOk result (λ vs.
+        OfEachFlow domain.now certificate.now vs.items HasCopies) }
+    ensures reason { IfOk result (λ vs. OfEachFlow domain.now certificate.now vs.items
+        (HasFirstReason (length domain.now.topology.lans))) }
+    // and a yes is worth the same.
+    ensures safe { IfOk result (λ vs.
+        OfEachFlow domain.now certificate.now vs.items YesIsSafe) }
+    ensures delivered { IfOk result (λ vs.
+        OfEachFlow domain.now certificate.now vs.items YesDelivers) }
+    ensures right { IfOk result (λ vs.
+        OfEachFlow domain.now certificate.now vs.items YesIsRight) }
+    ensures headline { IfOk result (λ vs.
+        OfEachFlow domain.now certificate.now vs.items YesKeepsHeadline) }
+{
+    let topology = domain.topology();
+    let mut verdicts = Vec::with_capacity(alloc, certificate.flows() as usize)?;
+    for flow in 0..certificate.flows() {
+        let entries = certificate.flow(flow, topology).reached;
+        let reason = first_reason_of(alloc, domain, flow, entries)?;
+        verdicts.push(verdict_by(reason, entries))?;
+    }
+    Ok(verdicts)
+}

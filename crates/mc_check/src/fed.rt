@@ -1,0 +1,72 @@
+//! Whether each entry's forwarder sends onto its LAN.
+
+ghost use Rattle.std.specs.Prelude.{◌≡◌, Some};
+ghost use Rattle.mc_theory.specs.Reasons.{feeds_from, first_of, is_fed, row_feeds, unless};
+ghost use Rattle.mc_theory.specs.Reasons.Reason.{Unfed};
+ghost use Rattle.mc_forward.specs.Domains.{pairs_of};
+ghost use Rattle.mc_check.specs.FlowNet.{flow_net};
+ghost use Rattle.mc_check.specs.Reasons.{reason_seen};
+
+use crate::firsts::Named;
+use crate::flow_tables::FlowTables;
+use crate::verdict::Reason;
+use mc_cert::Reached;
+use mc_forward::RowFor;
+use mc_tables::Oif;
+use mc_topology::RouterNo;
+
+/// Whether one of the pairs sends by a vif what comes from `base`'s LAN.
+fn feeds(base: &Reached, vif: u8, oifs: &[Oif]) -> bool
+    ensures { result ≡ feeds_from vif (pairs_of oifs.now) (Some base.now) }
+{
+    for oif in oifs {
+        if oif.vif == vif && u16::from(base.rank) + u16::from(oif.threshold) < 255 {
+            return true;
+        }
+    }
+    false
+}
+
+/// Whether a router's row sends by a vif what comes from a named LAN.
+fn row_feeds(tables: &FlowTables<'_>, named: &Named<'_>, router: RouterNo, vif: u8) -> bool
+    ensures { result ≡ row_feeds (flow_net tables.now) named.now router vif
+        ((flow_net tables.now).row router) }
+{
+    match tables.row(router) {
+        RowFor::Exact(entry) => match named.at(tables.placed(router, entry.iif)) {
+            Some(base) => feeds(&base, vif, entry.oifs.as_slice()),
+            None => false,
+        },
+        RowFor::Open | RowFor::NoRow => false,
+    }
+}
+
+/// Whether an entry's forwarder, if it has one, sends on its LAN.
+fn is_fed(tables: &FlowTables<'_>, named: &Named<'_>, entry: &Reached) -> bool
+    ensures { result ≡ is_fed (flow_net tables.now) named.now entry.now.lan entry.now.forwarder }
+{
+    match entry.forwarder {
+        Some((router, vif)) => {
+            let placed = match tables.placed(router, vif) {
+                Some(lan) => lan.0 == entry.lan.0,
+                None => false,
+            };
+            row_feeds(tables, named, router, vif) && placed
+        }
+        None => true,
+    }
+}
+
+/// The first entry that isn't fed.
+pub(crate) fn fed_reason(tables: &FlowTables<'_>, named: &Named<'_>) -> Option<Reason>
+    ensures { reason_seen result ≡ first_of (λ entry.
+        unless (is_fed (flow_net tables.now) named.now entry.lan entry.forwarder) (Unfed entry.lan))
+        named.now }
+{
+    for entry in named.entries() {
+        if !is_fed(tables, named, entry) {
+            return Some(Reason::Unfed(entry.lan));
+        }
+    }
+    None
+}

@@ -1,0 +1,17 @@
+//! The checker: whether a list of entries certifies a flow of a domain. It reads each table entry against
+//! the ranks and needs of the list, and simulates nothing; where it says yes, every packet of the flow is
+//! forwarded right, in every order.
+#![tactic(auto)]
+
+mod check;
+mod fed;
+mod firsts;
+mod flow_tables;
+mod routers;
+mod served;
+mod shown;
+mod verdict;
+
+pub use check::{check_all, check_flow};
+pub use shown::{ShownReason, ShownVerdict};
+pub use verdict::{Reason, Verdict};

@@ -1,0 +1,71 @@
+//! The source's LAN, and the LANs that want the flow.
+
+ghost use Rattle.std.specs.Prelude.{◌≡◌, ◌==◌, ◌||◌, ◌<◌, is_some, length};
+ghost use Rattle.mc_theory.specs.Lists.{below};
+ghost use Rattle.mc_theory.specs.Reasons.{all_pass, entry_on, first_of, has_source, is_source_entry, lan_reason};
+ghost use Rattle.mc_check.specs.FlowNet.{flow_net};
+ghost use Rattle.mc_check.specs.Reasons.{reason_seen};
+
+use crate::firsts::Named;
+use crate::flow_tables::FlowTables;
+use crate::verdict::Reason;
+use mc_cert::Reached;
+use mc_topology::LanNo;
+
+/// Whether a LAN has the source's entry: rank 0, need 1, no forwarder.
+fn is_source_entry(named: &Named<'_>, lan: LanNo) -> bool
+    ensures { result ≡ is_source_entry (entry_on named.now lan) }
+{
+    match named.on(lan) {
+        Some(entry) => entry.rank == 0 && entry.need == 1 && entry.forwarder.is_none(),
+        None => false,
+    }
+}
+
+/// Whether each entry of another LAN has a forwarder.
+fn others_are_forwarded(entries: &[Reached], lan: LanNo) -> bool
+    ensures { result ≡ all_pass (λ entry. (entry.lan == lan) || is_some entry.forwarder) entries.now }
+{
+    for entry in entries {
+        if entry.lan.0 != lan.0 && entry.forwarder.is_none() {
+            return false;
+        }
+    }
+    true
+}
+
+/// Whether the source's LAN has the source's entry, and every other entry a forwarder.
+pub(crate) fn has_source(tables: &FlowTables<'_>, named: &Named<'_>) -> bool
+    ensures { result ≡ has_source (flow_net tables.now) named.now }
+{
+    let source = tables.source();
+    is_source_entry(named, source) && others_are_forwarded(named.entries(), source)
+}
+
+/// Whether a LAN that wants the flow goes without it.
+fn lan_reason(tables: &FlowTables<'_>, named: &Named<'_>, lan: LanNo) -> Option<Reason>
+    requires { lan < length tables.now.domain.now.topology.lans }
+    ensures { reason_seen result ≡ lan_reason (flow_net tables.now) named.now lan }
+{
+    if !tables.wants(lan) {
+        return None;
+    }
+    match named.on(lan) {
+        Some(entry) if entry.need > tables.ttl() => Some(Reason::Low(lan)),
+        Some(_) => None,
+        None => Some(Reason::Missed(lan)),
+    }
+}
+
+/// The first LAN that wants the flow and goes without it.
+pub(crate) fn lans_reason(tables: &FlowTables<'_>, named: &Named<'_>) -> Option<Reason>
+    ensures { reason_seen result ≡ first_of (lan_reason (flow_net tables.now) named.now)
+        (below (length tables.now.domain.now.topology.lans)) }
+{
+    for number in 0..tables.lans() {
+        if let Some(reason) = lan_reason(tables, named, LanNo(number)) {
+            return Some(reason);
+        }
+    }
+    None
+}

@@ -1,0 +1,4 @@
+mod NameLemmas
+mod ContentLemmas
+mod InputLemmas
+mod ReadLemmas

@@ -1,0 +1,16 @@
+-- What was read of a bundle, as the value that it stands for.
+use Rattle.std.specs.Prelude.{ℕ, List, Option, Some, None}
+use denote.Ref.{Bor}
+use Rattle.mc_input.specs.declared.input.BundleInput.{BundleInput}
+use Rattle.mc_input.specs.Input.{InputValue}
+
+abbrev pub input_value : BundleInput → InputValue
+input_value i = record { topology = i.topology; tables = i.tables.items; reports = i.reports.items }
+
+-- the text of the certificate
+abbrev pub certificate_seen : Option (Bor (List ℕ)) → Option (List ℕ)
+certificate_seen None = None
+certificate_seen (Some text) = Some text.now
+
+abbrev pub input_seen : BundleInput → InputValue × Option (List ℕ)
+input_seen i = (input_value i, certificate_seen i.certificate)

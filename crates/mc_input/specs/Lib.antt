@@ -1,0 +1,16 @@
+pub mod Names
+pub mod Input
+pub mod InputReading
+pub mod InputView
+pub use Rattle.mc_text.specs.Bundle
+pub use Rattle.mc_text.specs.BundleReading
+pub use Rattle.mc_tables.specs.VifTable
+pub use Rattle.mc_tables.specs.VifReading
+pub use Rattle.mc_tables.specs.CacheTable
+pub use Rattle.mc_tables.specs.CacheReading
+pub use Rattle.mc_igmp.specs.ReportList
+pub use Rattle.mc_igmp.specs.ReadingList
+pub use Rattle.mc_topology.specs.Topology
+pub use Rattle.mc_topology.specs.Stands
+pub use Rattle.mc_topology.specs.Reading
+pub use Rattle.mc_forward.specs.Domains

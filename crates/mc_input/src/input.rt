@@ -1,0 +1,118 @@
+//! What a bundle tells of a domain, read in the order in which its parts are judged.
+
+ghost use Rattle.std.specs.Prelude.{◌≡◌, ℕ, Bool, List, Option, is_some, IfOk, Ok};
+ghost use Rattle.mc_input.specs.Input.{InputValue, InputStands};
+ghost use Rattle.mc_input.specs.InputReading.{Gives, certificate_in, input_in as input_in_parts, input_of, refused_as, topology_in as topology_in_parts};
+ghost use Rattle.mc_input.specs.InputView.{certificate_seen, input_seen, input_value};
+ghost use Rattle.mc_input.specs.declared.fault.InputFault.TheVariants.{Bundle as bundle_fault};
+ghost use Rattle.mc_text.specs.BundleReading.{bundle_of as parts_of_text};
+
+use crate::fault::InputFault;
+use crate::names::{named, names_in};
+use crate::reports::reports_in;
+use crate::tables::tables_in;
+use mc_forward::Tables;
+use mc_igmp::ReportList;
+use mc_text::{Bundle, BundleFault};
+use mc_topology::{Topology, TopologyFault, TopologyFaultKind};
+use std::alloc::Global;
+
+/// What a bundle tells: the topology, and in its order the tables of each router and the report list of
+/// each LAN. Then the text of the certificate, where one was asked for.
+#[derive(Debug, Drop)]
+pub struct BundleInput<'a> {
+    /// The topology.
+    pub topology: Topology,
+    /// The kernel tables of each router.
+    pub tables: Vec<Tables>,
+    /// The report list of each LAN.
+    pub reports: Vec<ReportList>,
+    /// The text of the certificate.
+    pub certificate: Option<&'a [u8]>,
+}
+
+/// The topology, in the first part.
+#[tactic(auto, unfolding(crate::specs::InputReading::topology_in))]
+fn topology_in(alloc: Global, bundle: &Bundle<'_>) -> Result<Topology, InputFault>
+    ensures { Gives (λ topology. topology) result (topology_in_parts bundle.now) }
+{
+    named(bundle, 0, b"topology", b"")?;
+    match Topology::read(alloc, bundle.part(0).bytes) {
+        Ok(topology) => Ok(topology),
+        Err(
+            TopologyFault {
+                kind: TopologyFaultKind::Memory,
+                ..
+            },
+        ) => Err(InputFault::Memory),
+        Err(fault) => Err(InputFault::Topology(fault)),
+    }
+}
+
+/// What the parts tell: first the topology, then the names and the number of the other parts, and then
+/// their contents.
+#[tactic(auto, unfolding(crate::specs::InputReading::input_in))]
+fn input_in<'a>(
+    alloc: Global,
+    bundle: &Bundle<'a>,
+    certified: bool,
+) -> Result<BundleInput<'a>, InputFault>
+    ensures input { Gives input_value result (input_in_parts certified bundle.now) }
+    ensures certificate { IfOk result (λ input. certificate_seen input.certificate ≡
+        certificate_in certified bundle.now input.topology) }
+{
+    let topology = topology_in(alloc, bundle)?;
+    names_in(bundle, &topology, certified)?;
+    let tables = tables_in(alloc, bundle, &topology)?;
+    let reports = reports_in(alloc, bundle, &topology)?;
+    let last = 1 + 2 * topology.routers() as usize + topology.lans() as usize;
+    let certificate = if certified {
+        Some(bundle.part(last).bytes)
+    } else {
+        None
+    };
+    Ok(BundleInput {
+        topology,
+        tables,
+        reports,
+        certificate,
+    })
+}
+
+/// The parts of a bundle.
+fn bundle_of(alloc: Global, text: &[u8]) -> Result<Bundle<'_>, InputFault>
+    ensures { Gives (λ bundle. bundle) result (refused_as bundle_fault (parts_of_text text.now)) }
+{
+    match Bundle::read(alloc, text) {
+        Ok(bundle) => Ok(bundle),
+        Err(BundleFault::Memory) => Err(InputFault::Memory),
+        Err(fault) => Err(InputFault::Bundle(fault)),
+    }
+}
+
+/// Reads what a bundle tells of a domain: the parts `topology`, `vif/<router>` and `cache/<router>` for each
+/// router, `igmp/<lan>` for each LAN, each in the order of the topology, and `certificate` where `certified`
+/// says that one is to be there.
+///
+/// # Errors
+///
+/// The framing of the whole bundle is judged first, then the name of the first part, the topology, the names
+/// and the number of the other parts, and then their contents in their order. Or `Memory`.
+#[tactic(auto, unfolding(crate::specs::InputReading::input_of))]
+pub fn read_input<'a>(
+    alloc: Global,
+    text: &'a [u8],
+    certified: bool,
+) -> Result<BundleInput<'a>, InputFault>
+    // What is read is what the bundle stands for.
+    ensures found { IfOk result (λ input.
+        InputStands text.now (input_value input) (certificate_seen input.certificate)) }
+    // A bundle that stands for an input is read as that, unless memory runs out.
+    ensures only { (value : InputValue) (certificate : Option (List ℕ)) → is_some certificate ≡ certified →
+        InputStands text.now value certificate → Gives input_seen result (Ok (value, certificate)) }
+    // Which fault it is.
+    ensures fault { Gives input_value result (input_of certified text.now) }
+{
+    let bundle = bundle_of(alloc, text)?;
+    input_in(alloc, &bundle, certified)
+}

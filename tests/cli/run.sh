@@ -3,8 +3,9 @@
 # say. Usage: run.sh PROGRAM
 #
 #   args        its words, one a line
-#   stdin       its standard input (without it: empty); or stdin.sh, which writes it; or stdin.path, the
-#               path of what is opened as standard input, from the top of the repository
+#   stdin       its standard input (without it: empty); or stdin.sh, which writes it; or stdin.pipe, which
+#               writes it while the program runs, and may go on without end; or stdin.path, the path of
+#               what is opened as standard input, from the top of the repository
 #   stdout      its standard output (without it: empty); or stdout.path, where it goes and isn't compared
 #   stderr      its standard error (without it: empty); or stderr.has, of which it has each line's text
 #   status      its exit status (without it: 0)
@@ -41,7 +42,11 @@ run_case() {
     if [ -f "$folder/stdout.path" ]; then
         output=$(cat "$folder/stdout.path")
     fi
-    "$program" "$@" < "$input" > "$output" 2> "$scratch/stderr"
+    if [ -f "$folder/stdin.pipe" ]; then
+        sh "$folder/stdin.pipe" | "$program" "$@" > "$output" 2> "$scratch/stderr"
+    else
+        "$program" "$@" < "$input" > "$output" 2> "$scratch/stderr"
+    fi
     status=$?
     wanted=0
     if [ -f "$folder/status" ]; then

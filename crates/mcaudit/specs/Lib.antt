@@ -7,4 +7,5 @@ pub use Rattle.mc_igmp.specs.Wants
 pub use Rattle.mc_igmp.specs.ReportList
 pub use Rattle.mc_igmp.specs.ReadingList
 pub use Rattle.mc_text.specs.Device
+pub use Rattle.mc_text.specs.Lines
 pub use Rattle.mc_text.specs.ReadFault

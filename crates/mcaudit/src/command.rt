@@ -65,7 +65,7 @@ fn wants_command<'a>(alloc: Global) -> Result<Command<'a>, AllocError> {
         .required(true)
         .help("The source's address");
     Command::new(alloc, "wants")
-        .about("Tells from a LAN's IGMPv3 reports whether it wants what a source sends to a group")
+        .about("Tells from a LAN's IGMP reports whether it wants what a source sends to a group")
         .override_usage("mcaudit wants <group> <source>")
         .arg(group)?
         .arg(source)
@@ -94,15 +94,18 @@ fn refusal(alloc: Global, error: &clap::Error) -> WordsFault {
     }
 }
 
-/// The text that explains which rule a value of `wants` breaks, with the usage.
-fn explained(alloc: Global, rule: &str) -> Result<clap::Error, AllocError> {
-    let mut wants = wants_command(alloc)?;
-    wants.error(ErrorKind::ValueValidation, rule)
+/// The text that explains which rule the words break, with the usage of the command.
+fn explained(
+    command: Result<Command<'_>, AllocError>,
+    rule: &str,
+) -> Result<clap::Error, AllocError> {
+    let mut command = command?;
+    command.error(ErrorKind::ValueValidation, rule)
 }
 
-/// A refusal of a value, with the rule that it breaks.
-fn wrong_value(alloc: Global, rule: &str) -> WordsFault {
-    match explained(alloc, rule) {
+/// A refusal of the words, with the rule that they break.
+fn wrong_words(alloc: Global, command: Result<Command<'_>, AllocError>, rule: &str) -> WordsFault {
+    match explained(command, rule) {
         Ok(error) => refusal(alloc, &error),
         Err(_) => WordsFault::Memory,
     }
@@ -114,11 +117,7 @@ fn group_of(word: &str) -> Option<Addr>
     ensures only { (group : ℕ) → IsForwardedGroup group → word.now ≡ dotted group → result ≡ Some group }
 {
     let group = Addr::parse_dotted(word.as_bytes())?;
-    if group.is_forwarded_group() {
-        Some(group)
-    } else {
-        None
-    }
+    group.is_forwarded_group().then_some(group)
 }
 
 /// The source that the word writes, if a host may send from it.
@@ -127,11 +126,7 @@ fn source_of(word: &str) -> Option<Addr>
     ensures only { (source : ℕ) → IsSource source → word.now ≡ dotted source → result ≡ Some source }
 {
     let source = Addr::parse_dotted(word.as_bytes())?;
-    if source.is_source() {
-        Some(source)
-    } else {
-        None
-    }
+    source.is_source().then_some(source)
 }
 
 /// The task of the words after `wants`.
@@ -142,10 +137,10 @@ fn wants_task(alloc: Global, group: &str, source: &str) -> Result<Task, WordsFau
         → result ≡ Ok (Task.Wants g s) }
 {
     let Some(group) = group_of(group) else {
-        return Err(wrong_value(alloc, GROUP_RULE));
+        return Err(wrong_words(alloc, wants_command(alloc), GROUP_RULE));
     };
     let Some(source) = source_of(source) else {
-        return Err(wrong_value(alloc, SOURCE_RULE));
+        return Err(wrong_words(alloc, wants_command(alloc), SOURCE_RULE));
     };
     Ok(Task::Wants { group, source })
 }
@@ -155,7 +150,10 @@ pub fn words_of(rt: &(impl Env + AllocGlobal)) -> Result<Vec<String>, WordsFault
     match env::args(rt) {
         Ok(words) => Ok(words.collect(rt.alloc())?),
         Err(error) if error.kind() == io::ErrorKind::OutOfMemory => Err(WordsFault::Memory),
-        Err(_) => Err(wrong_value(rt.alloc(), "a word is no text (UTF-8)")),
+        Err(_) => {
+            let alloc = rt.alloc();
+            Err(wrong_words(alloc, program(alloc), "a word is no text (UTF-8)"))
+        }
     }
 }
 
@@ -187,6 +185,6 @@ pub fn command_of<'a>(alloc: Global, words: &'a [&'a str]) -> Result<Task, Words
             word_of(words, "group"),
             word_of(words, "source"),
         ),
-        _ => Err(wrong_value(alloc, "no command is given")),
+        _ => Err(wrong_words(alloc, program(alloc), "no command is given")),
     }
 }

@@ -1,11 +1,9 @@
 //! Worked report lists through the run, devices that fail, and words.
 
-ghost use Rattle.std.specs.Prelude.{◌≡◌, Some};
-
 use crate::command::{Task, WordsFault, command_of};
 use crate::fault::RunFault;
 use crate::wants::run_wants;
-use mc_text::{Addr, DeviceFault, FromReader, Input, Output, ToWriter};
+use mc_text::{Addr, FaultyInput, FaultyOutput, FromReader, Input, Output, Stop, ToWriter};
 use std::alloc::Global;
 use std::test::Fail;
 
@@ -13,72 +11,14 @@ const GROUP: [u8; 4] = [239, 1, 2, 3];
 
 const SOURCE: [u8; 4] = [10, 0, 0, 5];
 
-// EXCLUDE of nothing, of 10.0.0.5, and INCLUDE of 10.0.0.5, each for 239.1.2.3.
+/// EXCLUDE of nothing, of 10.0.0.5, and INCLUDE of 10.0.0.5, each for 239.1.2.3.
 const EXCLUDE_NONE: &str = "2200eaf90000000102000000ef010203\n";
 
 const EXCLUDE_SOURCE: &str = "2200e0f30000000102000001ef0102030a000005\n";
 
 const INCLUDE_SOURCE: &str = "2200e1f30000000101000001ef0102030a000005\n";
 
-// Gives its bytes, and then fails.
-#[derive(Drop)]
-struct Broken<'a> {
-    bytes: &'a [u8],
-    failures: u64,
-}
-
-impl<'a> Input for Broken<'a> {
-    ghost told = { λ s. Some s.bytes.now };
-
-    ghost failed = { λ s. s.failures };
-
-    fn read(&mut self, buffer: &mut [u8]) -> Result<usize, DeviceFault> {
-        if self.bytes.is_empty() {
-            self.failures += 1;
-            return Err(DeviceFault);
-        }
-        let count = buffer.len().min(self.bytes.len());
-        let (front, rest) = self.bytes.split_at(count);
-        buffer[..count].copy_from_slice(front);
-        self.bytes = rest;
-        Ok(count)
-    }
-
-    fn failures(&self) -> u64 {
-        self.failures
-    }
-}
-
-// Takes `room` bytes in all, and then none.
-#[derive(Drop)]
-struct Full {
-    taken: Vec<u8>,
-    room: usize,
-    failures: u64,
-}
-
-impl Output for Full {
-    ghost took = { λ s. Some s.taken.items };
-
-    ghost failed = { λ s. s.failures };
-
-    fn write(&mut self, text: &[u8]) -> Result<usize, DeviceFault> {
-        let count = text.len().min(self.room);
-        let taken = self.taken.extend_from_slice(&text[..count]);
-        if taken.is_err() || (count == 0 && !text.is_empty()) {
-            self.failures += 1;
-            return Err(DeviceFault);
-        }
-        self.room -= count;
-        Ok(count)
-    }
-
-    fn failures(&self) -> u64 {
-        self.failures
-    }
-}
-
-// What the run answers for a list of reports, and what it writes.
+/// What the run answers for a list of reports, and what it writes.
 fn run(alloc: Global, reports: &[u8]) -> (Result<bool, RunFault>, Vec<u8>) {
     let mut input = FromReader::new(reports);
     let mut output = ToWriter::new(Vec::new(alloc));
@@ -107,6 +47,7 @@ fn report_lists(rt: HostRuntime) -> Result<(), Fail> {
         ("2200e5f90000000107000000ef010203\n", false),
         ("1164ee9b00000000\n", false),
         ("1700f7faef010203\n", false),
+        ("1600f8faef010203\n", true),
     ] {
         let (result, written) = run(rt.alloc(), reports.as_bytes());
         assert_eq!(rt; result, Ok(wanted), "{reports}");
@@ -135,10 +76,6 @@ fn refused_lists(rt: HostRuntime) -> Result<(), Fail> {
         (b"\n".as_slice(), "line 1 record 0: Short"),
         (b"zz\n".as_slice(), "line 1 record 0: BadHex"),
         (
-            b"1600f8faef010203\n".as_slice(),
-            "line 1 record 0: OlderReport",
-        ),
-        (
             b"2200e9f90000000103000000ef010203\n".as_slice(),
             "line 1 record 1: StateChange",
         ),
@@ -153,7 +90,7 @@ fn refused_lists(rt: HostRuntime) -> Result<(), Fail> {
     Ok(())
 }
 
-// The texts of faults that no list of reports brings.
+/// The texts of faults that no list of reports brings.
 #[test]
 fn texts_of_faults(rt: HostRuntime) -> Result<(), Fail> {
     for (fault, text) in [
@@ -175,10 +112,7 @@ fn devices_that_fail(rt: HostRuntime) {
     let group = Addr::from_octets(GROUP);
     let source = Addr::from_octets(SOURCE);
     for given in ["", EXCLUDE_NONE] {
-        let mut input = Broken {
-            bytes: given.as_bytes(),
-            failures: 0,
-        };
+        let mut input = FaultyInput::new(given.as_bytes(), 100, given.len());
         let mut output = ToWriter::new(Vec::new(rt.alloc()));
         let result = run_wants(rt.alloc(), group, source, &mut input, &mut output);
         assert_eq!(rt; result, Err(RunFault::Read));
@@ -187,16 +121,12 @@ fn devices_that_fail(rt: HostRuntime) {
     }
     for room in 0..8usize {
         let mut input = FromReader::new(EXCLUDE_NONE.as_bytes());
-        let mut output = Full {
-            taken: Vec::new(rt.alloc()),
-            room,
-            failures: 0,
-        };
+        let mut output = FaultyOutput::new(rt.alloc(), 100, room, Stop::Error);
         let result = run_wants(rt.alloc(), group, source, &mut input, &mut output);
         assert_eq!(rt; result.is_ok(), room >= 7);
         assert_eq!(rt; result == Err(RunFault::Write), room < 7);
         assert_eq!(rt; output.failures(), u64::from(room < 7));
-        assert_eq!(rt; output.taken.as_slice(), &b"wanted\n"[..room.min(7)]);
+        assert_eq!(rt; output.taken(), &b"wanted\n"[..room.min(7)]);
     }
 }
 

@@ -3,6 +3,7 @@
 ghost use Rattle.std.specs.Prelude.{◌≡◌, ◌≢◌, ◌+◌, ◌<◌, ◌↔◌, IsTrue, IfOk, IfErr, IfSome, Err};
 ghost use Rattle.std.specs.Io.KnownBytes.{Appends};
 ghost use Rattle.mc_igmp.specs.Wants.{Wants};
+ghost use Rattle.mc_text.specs.Lines.{max_text};
 ghost use Rattle.mc_text.specs.ReadFault.{ConsumesUpTo};
 ghost use Rattle.mcaudit.specs.WantsRun.{answer_line, Answers, WritesPart, failed_reads, failed_writes};
 
@@ -42,7 +43,7 @@ pub fn run_wants<R: Input, W: Output>(
     // The answer is that of the definition, or the list's first fault.
     ensures answer { IfSome (R.told input.old) (λ text. Answers text group source result) }
     // No more is read than the greatest list and one byte, whatever the answer.
-    ensures consumed { ConsumesUpTo (MAX_TEXT + 1) (R.told input.old) (R.told input.new) }
+    ensures consumed { ConsumesUpTo (max_text + 1) (R.told input.old) (R.told input.new) }
     // The answer's line is written whole, or a part of it where the output failed, or else nothing.
     ensures written { IfOk result (λ wanted.
         Appends (W.took output.old) (W.took output.new) (answer_line wanted)) }
@@ -57,8 +58,6 @@ pub fn run_wants<R: Input, W: Output>(
     let reports = ReportList::read(alloc, &text)?;
     let wanted = is_wanted(alloc, &reports, group, source)?;
     let line = if wanted { "wanted\n" } else { "not wanted\n" };
-    match write_all(output, line.as_bytes()) {
-        Ok(()) => Ok(wanted),
-        Err(_) => Err(RunFault::Write),
-    }
+    write_all(output, line.as_bytes()).map_err(|_| RunFault::Write)?;
+    Ok(wanted)
 }

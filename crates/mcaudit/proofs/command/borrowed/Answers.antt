@@ -6,4 +6,7 @@ use Rattle.std.proofs.lemmas.Iterator.Consumers.{map_from_collect}
 use Rattle.mcaudit.proofs.command.borrowed.Goals as goal
 
 pub returns : goal.returns
-returns c = map_from_collect {E = AllocError} (Ok c.in_ok-collect.field-0) c.in_ok-collect.ensures.ran (YieldsList-from_map_by _ (λ r. r.now) string_bytes (YieldsList-from_slice c.args.words.now (cc)) (cc) (λ x r q k. search rules))
+returns c = map_from_collect {E = AllocError} (Ok c.in_ok-collect.field-0)
+    c.in_ok-collect.ensures.ran
+    (YieldsList-from_map_by _ (λ r. r.now) string_bytes
+    (YieldsList-from_slice c.args.words.now (cc)) (cc) (λ x r q k. search rules))

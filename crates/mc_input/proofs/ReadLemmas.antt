@@ -8,7 +8,10 @@ use Rattle.mc_input.specs.declared.fault.InputFault.{InputFault}
 use Rattle.mc_input.specs.declared.fault.InputFault.TheVariants.{Bundle, Memory}
 use Rattle.mc_input.specs.declared.input.BundleInput.{BundleInput}
 use Rattle.mc_input.specs.Input.{InputValue, InputStands, PartsStand}
+use Rattle.mc_topology.specs.Topology.{TopologyValue}
+use Rattle.mc_forward.specs.Domains.{TablesValue}
 use Rattle.mc_input.specs.InputReading.{Gives, refused_as, certificate_in, input_in, input_of}
+use Rattle.mc_input.specs.InputReading.{topology_in, names_in, tables_from, reports_from, lans_place}
 use Rattle.mc_input.specs.InputView.{input_value, input_seen, certificate_seen}
 use Rattle.mc_input.proofs.InputLemmas.{read_ok, parts_take, parts_again}
 
@@ -74,3 +77,27 @@ refused_only text fault given value certificate h other =
     let framed : refused_as Bundle (bundle_of text) ≡ Ok h.parts = rw (bundle_again text h.parts h.bundle) refl in
     let never : (let r : Result (List PartText) InputFault = Ok h.parts in r) ≡ Err fault = sym framed ∙ given other in
     absurd cc
+
+-- where a step is refused, the input is refused for that
+pub names_refused : (certified : Bool) (parts : List PartText) (t : TopologyValue)
+    (fault : InputFault) → topology_in parts ≡ Ok t → names_in certified t parts ≡ Err fault
+    → input_in certified parts ≡ Err fault
+unfolding input_in
+names_refused certified parts t fault topology names = rw (topology, names) refl
+
+pub tables_refused : (certified : Bool) (parts : List PartText) (t : TopologyValue)
+    (x : Unit {0}) (fault : InputFault) → topology_in parts ≡ Ok t
+    → names_in certified t parts ≡ Ok x → tables_from parts 1 t.routers ≡ Err fault
+    → input_in certified parts ≡ Err fault
+unfolding input_in
+tables_refused certified parts t x fault topology names tables =
+    rw (topology, names, tables) refl
+
+pub reports_refused : (certified : Bool) (parts : List PartText) (t : TopologyValue)
+    (x : Unit {0}) (ts : List TablesValue) (fault : InputFault) → topology_in parts ≡ Ok t
+    → names_in certified t parts ≡ Ok x → tables_from parts 1 t.routers ≡ Ok ts
+    → reports_from parts (lans_place t) t.lans ≡ Err fault
+    → input_in certified parts ≡ Err fault
+unfolding input_in
+reports_refused certified parts t x ts fault topology names tables reports =
+    rw (topology, names, tables, reports) refl

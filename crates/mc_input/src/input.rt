@@ -60,6 +60,7 @@ fn input_in<'a>(
     ensures input { Gives input_value result (input_in_parts certified bundle.now) }
     ensures certificate { IfOk result (λ input. certificate_seen input.certificate ≡
         certificate_in certified bundle.now input.topology) }
+    ensures certified { IfOk result (λ input. is_some (certificate_seen input.certificate) ≡ certified) }
 {
     let topology = topology_in(alloc, bundle)?;
     names_in(bundle, &topology, certified)?;
@@ -107,6 +108,8 @@ pub fn read_input<'a>(
     // What is read is what the bundle stands for.
     ensures found { IfOk result (λ input.
         InputStands text.now (input_value input) (certificate_seen input.certificate)) }
+    // It has the text of a certificate exactly where one was asked for.
+    ensures certified { IfOk result (λ input. is_some (certificate_seen input.certificate) ≡ certified) }
     // A bundle that stands for an input is read as that, unless memory runs out.
     ensures only { (value : InputValue) (certificate : Option (List ℕ)) → is_some certificate ≡ certified →
         InputStands text.now value certificate → Gives input_seen result (Ok (value, certificate)) }

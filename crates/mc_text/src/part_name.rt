@@ -7,6 +7,7 @@ ghost use Rattle.mc_text.specs.BundleReading.{is_part_name as is_name};
 ghost use Rattle.mc_text.specs.PaddedName.{padded as with_zeros};
 
 use std::marker::Model;
+use std::{fmt, str};
 
 /// The greatest length of a name, in bytes.
 const MAX_NAME: usize = 64;
@@ -59,6 +60,17 @@ impl PartName {
         ensures is_name { IsPartName self.now }
     {
         &self.bytes[..self.length]
+    }
+}
+
+impl fmt::Display for PartName {
+    ghost output = { λ name. Some name };
+
+    fn fmt<W: fmt::Write>(&self, f: &mut fmt::Formatter<W>) -> fmt::Result {
+        match str::from_utf8(self.as_bytes()) {
+            Ok(text) => f.write_str(text),
+            Err(_) => Err(fmt::Error),
+        }
     }
 }
 

@@ -133,6 +133,15 @@ fn names_have_1_to_64_of_some_characters(rt: HostRuntime) {
 }
 
 #[test]
+fn names_print_their_bytes(rt: HostRuntime) -> Result<(), Fail> {
+    for text in ["a", "AZaz09-_./", "cache/r1"] {
+        let name = PartName::new(text.as_bytes()).ok_or("a name")?;
+        assert_eq!(rt; name.to_string(rt.alloc())?.as_str(), text);
+    }
+    Ok(())
+}
+
+#[test]
 fn faults_print_their_names(rt: HostRuntime) -> Result<(), Fail> {
     for (fault, name) in [
         (BundleFault::NoMagic, "NoMagic"),

@@ -3,7 +3,7 @@
 use crate::*;
 use mc_igmp::{ListFault, ListFaultKind};
 use mc_tables::{TableFault, TableFaultKind};
-use mc_text::{BundleFault, Part, PartName, ToWriter, write_bundle};
+use mc_text::{BundleFault, PartName};
 use mc_topology::{Section, TopologyFault, TopologyFaultKind};
 use std::alloc::Global;
 use std::test::Fail;
@@ -60,29 +60,28 @@ fn with_part(place: usize, part: TextPart) -> [TextPart; 9] {
     parts
 }
 
-fn bundle_of(alloc: Global, parts: &[TextPart]) -> Result<Vec<u8>, Fail> {
-    let mut named = Vec::new(alloc);
-    for (name, text) in parts {
-        if let Some(name) = PartName::new(name.as_bytes()) {
-            let bytes = text.as_bytes();
-            named.push(Part { name, bytes })?;
-        }
+// The text of a bundle of the parts.
+fn bundle_of(alloc: Global, parts: &[TextPart]) -> Result<String, Fail> {
+    let mut text = String::new(alloc);
+    text.push_str("mcaudit bundle 1\n")?;
+    for (name, content) in parts {
+        let part = format!(in alloc; "part {name} {}\n{content}\n", content.len())?;
+        text.push_str(&part)?;
     }
-    let mut output = ToWriter::new(Vec::new(alloc));
-    write_bundle(&named, &mut output)?;
-    Ok(output.into_inner())
+    text.push_str("end\n")?;
+    Ok(text)
 }
 
 #[test]
 fn chain_is_told(rt: HostRuntime) -> Result<(), Fail> {
     let alloc = rt.alloc();
     let text = bundle_of(alloc, &PARTS)?;
-    let input = read_input(alloc, &text, true)?;
+    let input = read_input(alloc, text.as_bytes(), true)?;
     assert_eq!(rt; (input.topology.lans(), input.topology.routers()), (3, 2));
     assert_eq!(rt; (input.tables.len(), input.reports.len()), (2, 3));
     assert_eq!(rt; input.certificate, Some(CERTIFICATE.as_bytes()));
     let text = bundle_of(alloc, &PARTS[..8])?;
-    let input = read_input(alloc, &text, false)?;
+    let input = read_input(alloc, text.as_bytes(), false)?;
     assert_eq!(rt; input.certificate, None);
     Ok(())
 }
@@ -90,7 +89,7 @@ fn chain_is_told(rt: HostRuntime) -> Result<(), Fail> {
 // The fault that a bundle of the parts is refused with, where a certificate is to be there.
 fn fault_of(alloc: Global, parts: &[TextPart]) -> Result<Option<InputFault>, Fail> {
     let text = bundle_of(alloc, parts)?;
-    Ok(read_input(alloc, &text, true).err())
+    Ok(read_input(alloc, text.as_bytes(), true).err())
 }
 
 #[test]
@@ -116,7 +115,7 @@ fn other_names_are_refused_by_place(rt: HostRuntime) -> Result<(), Fail> {
     assert_eq!(rt; fault_of(alloc, &[])?, Some(InputFault::Parts(1)));
     assert_eq!(rt; fault_of(alloc, &PARTS[..8])?, Some(InputFault::Parts(9)));
     let text = bundle_of(alloc, &PARTS)?;
-    let more = read_input(alloc, &text, false).err();
+    let more = read_input(alloc, text.as_bytes(), false).err();
     assert_eq!(rt; more, Some(InputFault::Parts(9)));
     Ok(())
 }
@@ -169,7 +168,7 @@ fn names_come_before_contents_and_framing_before_both(rt: HostRuntime) -> Result
     parts[0] = ("topology", "");
     assert!(rt; matches!(fault_of(alloc, &parts)?, Some(InputFault::Topology(_))));
     let text = bundle_of(alloc, &parts)?;
-    let cut = &text[..text.len() - 4];
+    let cut = text.as_bytes().strip_suffix(b"end\n").unwrap_or(b"");
     let fault = read_input(alloc, cut, true).err();
     assert_eq!(rt; fault, Some(InputFault::Bundle(BundleFault::NoEnd)));
     Ok(())

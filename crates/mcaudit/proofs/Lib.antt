@@ -1,1 +1,5 @@
+pub mod BundleFront
+pub mod CheckLemmas
+pub mod TextLemmas
+pub mod VerdictLines
 pub mod WantsLemmas

@@ -1,6 +1,10 @@
+pub mod BundleMeaning
+pub mod CheckRun
+pub mod Failures
 pub mod RunFault
 pub mod Status
 pub mod Task
+pub mod VerdictText
 pub mod WantsRun
 pub use Rattle.mc_text.specs.Addr
 pub use Rattle.mc_igmp.specs.Wants
@@ -9,3 +13,16 @@ pub use Rattle.mc_igmp.specs.ReadingList
 pub use Rattle.mc_text.specs.Device
 pub use Rattle.mc_text.specs.Lines
 pub use Rattle.mc_text.specs.ReadFault
+pub use Rattle.mc_theory.specs.Nets
+pub use Rattle.mc_theory.specs.Flights
+pub use Rattle.mc_theory.specs.Certificates
+pub use Rattle.mc_theory.specs.Headline
+pub use Rattle.mc_theory.specs.Reasons as FirstReasons
+pub use Rattle.mc_topology.specs.Topology
+pub use Rattle.mc_forward.specs.Domains
+pub use Rattle.mc_forward.specs.Assembling
+pub use Rattle.mc_cert.specs.Certificate
+pub use Rattle.mc_cert.specs.Stands
+pub use Rattle.mc_check.specs.ReasonText
+pub use Rattle.mc_input.specs.Input
+pub use Rattle.mc_input.specs.InputReading

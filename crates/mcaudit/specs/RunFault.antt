@@ -4,8 +4,13 @@ use Rattle.mc_text.specs.declared.input_bytes.ReadFault.TheVariants as reading
 use Rattle.mc_igmp.specs.declared.fault.ListFault.{ListFault}
 use Rattle.mc_igmp.specs.declared.fault.ListFaultKind.{ListFaultKind}
 use Rattle.mc_igmp.specs.declared.fault.ListFaultKind.TheVariants as list
+use Rattle.mc_cert.specs.declared.fault.CertFault.{CertFault}
+use Rattle.mc_cert.specs.declared.fault.CertFaultKind.{CertFaultKind}
+use Rattle.mc_cert.specs.declared.fault.CertFaultKind.TheVariants as certificate
+use Rattle.mc_input.specs.declared.fault.InputFault.{InputFault}
+use Rattle.mc_input.specs.declared.fault.InputFault.TheVariants as input
 use Rattle.mcaudit.specs.declared.fault.RunFault.{RunFault}
-use Rattle.mcaudit.specs.declared.fault.RunFault.TheVariants.{Reports, Read, Memory}
+use Rattle.mcaudit.specs.declared.fault.RunFault.TheVariants.{Bundle, Parts, Topology, Vif, Cache, PartReports, Reports, Certificate, Read, Memory}
 
 abbrev pub of_reading : ReadFault → RunFault
 of_reading reading.Read = Read
@@ -18,3 +23,21 @@ of_list_kind fault _ = Reports fault
 
 abbrev pub of_list : ListFault → RunFault
 of_list fault = of_list_kind fault fault.kind
+
+-- and so with a bundle's faults,
+abbrev pub of_input : InputFault → RunFault
+of_input (input.Bundle fault) = Bundle fault
+of_input (input.Parts place) = Parts place
+of_input (input.Topology fault) = Topology fault
+of_input (input.Vif part fault) = Vif part fault
+of_input (input.Cache part fault) = Cache part fault
+of_input (input.Reports part fault) = PartReports part fault
+of_input input.Memory = Memory
+
+-- and with those of a certificate
+abbrev pub of_certificate_kind : CertFault → CertFaultKind → RunFault
+of_certificate_kind fault certificate.Memory = Memory
+of_certificate_kind fault _ = Certificate fault
+
+abbrev pub of_certificate : CertFault → RunFault
+of_certificate fault = of_certificate_kind fault fault.kind

@@ -7,7 +7,14 @@ use Rattle.mcaudit.specs.declared.failure.Failure.TheVariants.{Words, Run}
 
 abbrev pub status_of : Failure → ℕ
 -- the input is refused
+status_of (Run (run.Bundle fault)) = 2
+status_of (Run (run.Parts place)) = 2
+status_of (Run (run.Topology fault)) = 2
+status_of (Run (run.Vif part fault)) = 2
+status_of (Run (run.Cache part fault)) = 2
+status_of (Run (run.PartReports part fault)) = 2
 status_of (Run (run.Reports fault)) = 2
+status_of (Run (run.Certificate fault)) = 2
 -- a device failed
 status_of (Run run.Read) = 3
 status_of (Run run.Write) = 3

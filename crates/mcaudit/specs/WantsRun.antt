@@ -1,5 +1,5 @@
 -- What `mcaudit wants` answers and writes.
-use Rattle.std.specs.Prelude.{◌≡◌, ℕ, ◌+◌, ◌↔◌, Bool, true, false, IsTrue, List, [], ◌∷◌, ◌++◌, codes, Option, IfSome, Result, Ok, Err}
+use Rattle.std.specs.Prelude.{◌≡◌, ℕ, ◌↔◌, Bool, true, false, IsTrue, List, [], ◌∷◌, ◌++◌, codes, Option, IfSome, Result, Ok, Err, ⊤}
 use Rattle.mc_igmp.specs.declared.record.Record.{Record}
 use Rattle.mc_igmp.specs.ReportList.{IsReportList}
 use Rattle.mc_igmp.specs.ReadingList.{read_list}
@@ -23,21 +23,14 @@ IsAnswer text group source wanted =
 abbrev pub Answers : List ℕ → ℕ → ℕ → Result Bool RunFault → Type 0
 Answers text group source (Ok wanted) = IsAnswer text group source wanted
 Answers text group source (Err (Reports fault)) = read_list text ≡ Err fault
-Answers text group source (Err Read) = Unit {0}
-Answers text group source (Err Write) = Unit {0}
-Answers text group source (Err Memory) = Unit {0}
+Answers text group source (Err Read) = ⊤
+Answers text group source (Err Write) = ⊤
+Answers text group source (Err Memory) = ⊤
+-- no bundle is read
+Answers text group source (Err _) = ⊥
 
 -- a proper part of the right answer's line was written, from its front
 abbrev pub WritesPart : Option (List ℕ) → ℕ → ℕ → Option (List ℕ) → Option (List ℕ) → Type 0
 WritesPart told group source old new =
     (wanted : Bool) × IfSome told (λ text. IsAnswer text group source wanted)
     × AppendsPart old new (answer_line wanted)
-
--- the input failed once in a run that answers Read, and the output once in one that answers Write
-abbrev pub failed_reads : Result Bool RunFault → ℕ → ℕ
-failed_reads (Err Read) before = before + 1
-failed_reads _ before = before
-
-abbrev pub failed_writes : Result Bool RunFault → ℕ → ℕ
-failed_writes (Err Write) before = before + 1
-failed_writes _ before = before

@@ -24,6 +24,8 @@ pub enum Task {
         /// An address whose first octet is 1 to 223 and not 127.
         source: Addr,
     },
+    /// Whether a bundle's certificate proves that its domain forwards every listed flow as it should.
+    Check,
 }
 
 /// Why the words give no task.
@@ -46,7 +48,9 @@ impl From<AllocError> for WordsFault {
 }
 
 const EXAMPLES: &str = "\
-Example: does a LAN want what 10.0.0.5 sends to 239.1.2.3?
+Examples: is each flow of a domain forwarded as its certificate says?
+  mcaudit check < bundle
+Does a LAN want what 10.0.0.5 sends to 239.1.2.3?
   mcaudit wants 239.1.2.3 10.0.0.5 < reports
 
 Statuses: 0 yes, 1 no, 2 refused input, 3 read or write failed, 4 no memory, 5 wrong words";
@@ -71,6 +75,13 @@ fn wants_command<'a>(alloc: Global) -> Result<Command<'a>, AllocError> {
         .arg(source)
 }
 
+/// The command `check`, which has no arguments.
+fn check_command<'a>(alloc: Global) -> Command<'a> {
+    Command::new(alloc, "check")
+        .about("Judges each flow of a bundle by its certificate, and all of them")
+        .override_usage("mcaudit check")
+}
+
 /// The commands and the help.
 fn program<'a>(alloc: Global) -> Result<Command<'a>, AllocError> {
     Command::new(alloc, "mcaudit")
@@ -80,6 +91,7 @@ fn program<'a>(alloc: Global) -> Result<Command<'a>, AllocError> {
         .subcommand_required(true)
         .arg_required_else_help(true)
         .disable_help_subcommand(true)
+        .subcommand(check_command(alloc))?
         .subcommand(wants_command(alloc)?)
 }
 
@@ -180,6 +192,7 @@ pub fn command_of<'a>(alloc: Global, words: &'a [&'a str]) -> Result<Task, Words
         Err(error) => return Err(refusal(alloc, &error)),
     };
     match matches.subcommand() {
+        Some(("check", _)) => Ok(Task::Check),
         Some(("wants", words)) => wants_task(
             alloc,
             word_of(words, "group"),

@@ -26,7 +26,16 @@ impl Failure {
     {
         match self {
             Failure::Words(WordsFault::Wrong(_)) => 5,
-            Failure::Run(RunFault::Reports(_)) => 2,
+            Failure::Run(
+                RunFault::Bundle(_)
+                | RunFault::Parts(_)
+                | RunFault::Topology(_)
+                | RunFault::Vif(_, _)
+                | RunFault::Cache(_, _)
+                | RunFault::PartReports(_, _)
+                | RunFault::Reports(_)
+                | RunFault::Certificate(_),
+            ) => 2,
             Failure::Run(RunFault::Read | RunFault::Write) => 3,
             Failure::Words(WordsFault::Memory) | Failure::Run(RunFault::Memory) => 4,
         }

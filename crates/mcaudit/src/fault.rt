@@ -2,18 +2,44 @@
 
 ghost use Rattle.std.specs.Prelude.{◌≡◌};
 ghost use Rattle.mcaudit.specs.declared.fault.RunFault.TheVariants.{Memory};
-ghost use Rattle.mcaudit.specs.RunFault.{of_reading, of_list};
+ghost use Rattle.mcaudit.specs.RunFault.{of_certificate, of_input, of_list, of_reading};
 
+use mc_cert::{CertFault, CertFaultKind};
 use mc_igmp::{ListFault, ListFaultKind};
-use mc_text::{Memory as NoMemory, ReadFault};
+use mc_input::InputFault;
+use mc_tables::TableFault;
+use mc_text::{BundleFault, Memory as NoMemory, PartName, ReadFault};
+use mc_topology::TopologyFault;
 use thiserror::Error;
 
 /// Why a run gives no answer.
 #[derive(Clone, Copy, Debug, PartialEq, Eq, Error)]
 pub enum RunFault {
-    /// (6) The report list is refused.
+    /// (1) The framing of the bundle is wrong.
+    #[error("refused: bundle: {0}")]
+    Bundle(BundleFault),
+    /// (2) The part at this place, counted from 1, has another name than it should, is missing, or is one too
+    /// many.
+    #[error("refused: parts: {0}")]
+    Parts(u32),
+    /// (3) The topology is refused.
+    #[error("refused: topology: {0}")]
+    Topology(TopologyFault),
+    /// (4) The table of a router's vifs is refused, in the part with this name.
+    #[error("refused: {0}: {1}")]
+    Vif(PartName, TableFault),
+    /// (5) The forwarding cache of a router is refused, in the part with this name.
+    #[error("refused: {0}: {1}")]
+    Cache(PartName, TableFault),
+    /// (6) The report list of a LAN is refused, in the part with this name.
+    #[error("refused: {0}: {1}")]
+    PartReports(PartName, ListFault),
+    /// (6) The report list that is the whole input is refused.
     #[error("refused: igmp: {0}")]
     Reports(ListFault),
+    /// (7) The certificate is refused.
+    #[error("refused: certificate: {0}")]
+    Certificate(CertFault),
     /// (9) The input failed.
     #[error("failed: read")]
     Read,
@@ -23,6 +49,35 @@ pub enum RunFault {
     /// (11) Memory ran out.
     #[error("no memory")]
     Memory,
+}
+
+/// A bundle is refused. Want of memory is the run's own.
+impl From<InputFault> for RunFault {
+    ghost from_gives = { λ input fault. fault ≡ of_input input };
+
+    fn from(fault: InputFault) -> RunFault {
+        match fault {
+            InputFault::Bundle(fault) => RunFault::Bundle(fault),
+            InputFault::Parts(place) => RunFault::Parts(place),
+            InputFault::Topology(fault) => RunFault::Topology(fault),
+            InputFault::Vif(part, fault) => RunFault::Vif(part, fault),
+            InputFault::Cache(part, fault) => RunFault::Cache(part, fault),
+            InputFault::Reports(part, fault) => RunFault::PartReports(part, fault),
+            InputFault::Memory => RunFault::Memory,
+        }
+    }
+}
+
+/// A certificate is refused. Want of memory is the run's own.
+impl From<CertFault> for RunFault {
+    ghost from_gives = { λ certificate fault. fault ≡ of_certificate certificate };
+
+    fn from(fault: CertFault) -> RunFault {
+        match fault.kind {
+            CertFaultKind::Memory => RunFault::Memory,
+            _ => RunFault::Certificate(fault),
+        }
+    }
 }
 
 /// A report list is refused. Want of memory is the run's own.

@@ -1,11 +1,15 @@
 //! mcaudit: an auditor of the multicast forwarding state of a domain of Linux routers.
 #![tactic(auto)]
 
+mod check;
 mod command;
+mod domain_input;
 mod failure;
 mod fault;
+mod verdict_text;
 mod wants;
 
+use check::run_check;
 use command::{Task, borrowed, command_of, words_of};
 use failure::Failure;
 use mc_text::{FromReader, ToWriter};
@@ -23,6 +27,7 @@ fn try_main(rt: &(impl Env + AllocGlobal + Input + Print)) -> Result<bool, Failu
         Task::Wants { group, source } => {
             Ok(run_wants(rt.alloc(), group, source, &mut input, &mut output)?)
         }
+        Task::Check => Ok(run_check(rt.alloc(), &mut input, &mut output)?),
     }
 }
 

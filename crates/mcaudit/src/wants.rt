@@ -5,7 +5,8 @@ ghost use Rattle.std.specs.Io.KnownBytes.{Appends};
 ghost use Rattle.mc_igmp.specs.Wants.{Wants};
 ghost use Rattle.mc_text.specs.Lines.{max_text};
 ghost use Rattle.mc_text.specs.ReadFault.{ConsumesUpTo};
-ghost use Rattle.mcaudit.specs.WantsRun.{answer_line, Answers, WritesPart, failed_reads, failed_writes};
+ghost use Rattle.mcaudit.specs.Failures.{failed_reads, failed_writes};
+ghost use Rattle.mcaudit.specs.WantsRun.{answer_line, Answers, WritesPart};
 
 use crate::fault::RunFault;
 use mc_filter::wants_of;

@@ -1,8 +1,8 @@
-use Rattle.std.proofs.Common.{◌≡◌, ◌∙◌, ap, sym}
+use Rattle.std.proofs.Common.{rules, ◌≡◌, ◌∙◌, ap, sym}
 use Rattle.std.specs.Prelude.{is_ok}
 use Rattle.mcaudit.specs.WantsRun.{answer_line}
 use Rattle.mcaudit.proofs.wants.run_wants.Goals.{then-wanted, else-wanted}
-use Rattle.mcaudit.proofs.WantsLemmas.{answer_of_all, refused_run, where_failed}
+use Rattle.mcaudit.proofs.WantsLemmas.{answer_of_all, refused_run, where_failed, write_failed}
 use Rattle.mcaudit.proofs.wants.run_wants.Goals as goal
 
 pub returns-in_err-reports-clause-answer : goal.returns-in_err-reports-clause-answer
@@ -12,6 +12,11 @@ returns-in_err-reports-clause-answer g c =
     c.in_err-reports.field-0.0 c.from_residual-in_err-reports.result
     c.from_residual-in_err-reports.ensures.1 (rw c.deref.ensures.value bytes)
     c.in_err-reports.ensures.fault
+
+pub returns-in_err-map_err-clause-answer : goal.returns-in_err-map_err-clause-answer
+returns-in_err-map_err-clause-answer g c =
+    write_failed (g.R.Input.told c.args.input.now) c.args.group c.args.source
+    c.from_residual-in_err-map_err.result (search rules)
 
 pub returns-in_err-map_err-clause-part : goal.returns-in_err-map_err-clause-part
 returns-in_err-map_err-clause-part g c =

@@ -1,0 +1,19 @@
+-- What a run does to the number of its devices' calls that failed.
+use Rattle.std.specs.Prelude.{ℕ, ◌+◌, Bool, Result, Err, ⊤}
+use Rattle.mcaudit.specs.declared.fault.RunFault.{RunFault}
+use Rattle.mcaudit.specs.declared.fault.RunFault.TheVariants.{Read, Write}
+
+-- the input failed once in a run that answers Read, and the output once in one that answers Write
+abbrev pub failed_reads : Result Bool RunFault → ℕ → ℕ
+failed_reads (Err Read) before = before + 1
+failed_reads _ before = before
+
+abbrev pub failed_writes : Result Bool RunFault → ℕ → ℕ
+failed_writes (Err Write) before = before + 1
+failed_writes _ before = before
+
+-- it is no fault of a device
+abbrev pub IsNoDeviceFault : RunFault → Type 0
+IsNoDeviceFault Read = ⊥
+IsNoDeviceFault Write = ⊥
+IsNoDeviceFault _ = ⊤

@@ -1,0 +1,60 @@
+-- What `mcaudit check` writes: a line for each flow, and the verdict on all.
+use Rattle.std.specs.Prelude.{◌≡◌, ℕ, Bool, true, false, List, [], ◌∷◌, ◌++◌, codes, length}
+use Rattle.std.specs.Prelude.{decimal, slice_get, Some}
+use Rattle.std.specs.List.{list_all}
+use Rattle.mc_text.specs.Addr.{dotted}
+use Rattle.mc_topology.specs.declared.flow.Flow.{Flow}
+use Rattle.mc_topology.specs.Topology.{TopologyValue}
+use Rattle.mc_theory.specs.Nets.{Net}
+use Rattle.mc_theory.specs.Certificates.{Entry, IsAccepted}
+use Rattle.mc_theory.specs.Reasons.{first_reason}
+use Rattle.mc_forward.specs.Domains.{DomainValue, net_of}
+use Rattle.mc_cert.specs.Certificate.{Tree}
+use Rattle.mc_check.specs.Reasons.{reason_value}
+use Rattle.mc_check.specs.ReasonText.{verdict_text}
+use Rattle.mc_check.specs.Verdicts.{is_yes}
+use Rattle.mc_check.specs.declared.verdict.Verdict.{Verdict}
+use Rattle.mc_check.specs.declared.verdict.Verdict.TheVariants.{Yes, No}
+
+-- ---- the verdicts
+
+-- Yes with the number of entries where the list is accepted, and else no with the first reason.
+abbrev pub IsVerdict : (lans : ℕ) → Net → List Entry → Verdict → Type 0
+IsVerdict lans n es (Yes copies) = IsAccepted n es × (copies ≡ length es)
+IsVerdict lans n es (No reason) = first_reason n lans es ≡ Some (reason_value reason)
+
+-- one for each flow of the domain's topology, in order
+pub record AreVerdicts (d : DomainValue) (lists : List Tree) (verdicts : List Verdict)
+    : Type 0 where
+  pub count : length verdicts ≡ length d.topology.flows
+  pub each : (flow : ℕ) (es : List Entry) (v : Verdict) → slice_get lists flow ≡ Some es
+      → slice_get verdicts flow ≡ Some v
+      → IsVerdict (length d.topology.lans) (net_of d flow) es v
+
+-- ---- the text
+
+-- the words that begin a flow's line
+abbrev pub flow_words : Flow → List ℕ
+flow_words f =
+    codes "flow "
+    ++ (dotted f.source ++ (codes " " ++ (dotted f.group ++ (codes " ttl " ++ decimal f.ttl))))
+
+abbrev pub flow_line : TopologyValue → Flow → Verdict → List ℕ
+flow_line t f v = flow_words f ++ (codes " " ++ (verdict_text t v ++ codes "\n"))
+
+-- the lines of flows and of their verdicts
+abbrev pub flow_lines : TopologyValue → List Flow → List Verdict → List ℕ
+flow_lines t (f ∷ fs) (v ∷ vs) = flow_line t f v ++ flow_lines t fs vs
+flow_lines t _ _ = []
+
+-- whether every verdict is yes
+abbrev pub are_yes : List Verdict → Bool
+are_yes vs = list_all is_yes vs
+
+-- the last line
+abbrev pub last_line : Bool → List ℕ
+last_line true = codes "verdict yes\n"
+last_line false = codes "verdict no\n"
+
+abbrev pub check_text : TopologyValue → List Verdict → List ℕ
+check_text t vs = flow_lines t t.flows vs ++ last_line (are_yes vs)

@@ -85,11 +85,14 @@ cut_place (Err e) = Err e
 abbrev with_place : Place → List ℕ → List ℕ × ℕ → List ℕ × List ℕ
     → Result (Option (PartText × Place)) BundleFault
 with_place p line said found =
-    Ok (Some (record { name = said.0; bytes = found.0 }, record {
-      parts = p.parts - 1;
-      room = p.room - part_room line said.1;
-      rest = found.1;
-    }))
+    Ok (Some (
+      record { name = said.0; bytes = found.0 },
+      record {
+        parts = p.parts - 1;
+        room = p.room - part_room line said.1;
+        rest = found.1;
+      },
+    ))
 
 with_place_cut : (p : Place) (line : List ℕ) (said : List ℕ × ℕ)
     (part : Result (List ℕ × List ℕ) BundleFault)
@@ -123,6 +126,7 @@ sized_cut p line after said false short is =
       kept_after p.room (length line) said.1 short within,
       part_cut said.1 (kept (p.room - part_room line said.1)) after,
     ) (with_place_cut p line said (part_bytes_at said.1 after))
+
 said_cut : (p : Place) (line after : List ℕ) (said : Option (List ℕ × ℕ)) → length line < 96
     → part_place (cut p) line (take (kept p.room - (length line + 1)) after) said
     ≡ cut_place (part_place p line after said)
@@ -161,7 +165,7 @@ end_cut p line after false short is =
 
 ended_cut : (p : Place) (line after : List ℕ) (ends : Bool) → length line < 96
     → (cond ends (end_place (cut p) (take (kept p.room - (length line + 1)) after))
-      (part_place (cut p) line (take (kept p.room - (length line + 1)) after) (part_said line)))
+    (part_place (cut p) line (take (kept p.room - (length line + 1)) after) (part_said line)))
     ≡ cut_place (cond ends (end_place p after) (part_place p line after (part_said line)))
 ended_cut p line after true short = end_cut p line after (nat_lt p.room 4) short refl
 ended_cut p line after false short = said_cut p line after (part_said line) short
@@ -212,10 +216,10 @@ line_cut p (Some n) is =
       take_front n (kept p.room) p.rest (omega (arith, short)),
       drop_front (n + 1) (kept p.room) p.rest (omega (arith, short)),
     ) (subst (λ (j : ℕ). after_line (cut p)
-      (Ok (take n p.rest, take (kept p.room - (j + 1)) (drop (n + 1) p.rest)))
-      ≡ cut_place (after_line p (Ok (take n p.rest, drop (n + 1) p.rest)))) size
+    (Ok (take n p.rest, take (kept p.room - (j + 1)) (drop (n + 1) p.rest)))
+    ≡ cut_place (after_line p (Ok (take n p.rest, drop (n + 1) p.rest)))) size
     (ended_cut p (take n p.rest) (drop (n + 1) p.rest)
-      (bytes_eq (take n p.rest) (codes "end")) (omega (arith, size, short))))
+    (bytes_eq (take n p.rest) (codes "end")) (omega (arith, size, short))))
 
 -- a place with the bytes that may matter is read as the place with all
 place_cut : (p : Place) → place_of (cut p) ≡ cut_place (place_of p)
@@ -243,7 +247,7 @@ none_cut (Err e) = refl
 
 next_cut : (n : ℕ) (found : Result (Option (PartText × Place)) BundleFault)
     → ((room : ℕ) (rest : List ℕ)
-      → parts_from n room (take (kept room) rest) ≡ parts_from n room rest)
+    → parts_from n room (take (kept room) rest) ≡ parts_from n room rest)
     → then_from n (cut_place found) ≡ then_from n found
 next_cut n (Err e) same = refl
 next_cut n (Ok None) same = refl

@@ -68,8 +68,12 @@ pub certificate_refused : (text : List ℕ) (o : Option (List ℕ)) (read : List
 certificate_refused text o read d t f means there same refused =
     let domain : MeansDomain text (Some read) d =
     subst (λ (c : Option (List ℕ)). MeansDomain text c d) there means in
-    kind_refused text f f.kind refl (λ other. (read, d, domain,
-      subst (λ (x : TopologyValue). reading_of x read ≡ Err f) same (refused other)))
+    kind_refused text f f.kind refl (λ other. (
+      read,
+      d,
+      domain,
+      subst (λ (x : TopologyValue). reading_of x read ≡ Err f) same (refused other),
+    ))
 
 pub not_by_device : (f : CertFault) (k : CertFaultKind) → IsNoDeviceFault (of_certificate_kind f k)
 not_by_device f kinds.NotJson = tt
@@ -113,7 +117,7 @@ pub are_verdicts : (d : DomainValue) (lists : List Tree) (vs : List Verdict)
 are_verdicts d lists vs count belongs exact copies first = record {
   count = count ∙ belongs.count;
   each = λ flow es v listed told. is_verdict (length d.topology.lans) d flow es v
-    (exact flow es v listed told) (copies flow es v listed told) (first flow es v listed told);
+      (exact flow es v listed told) (copies flow es v listed told) (first flow es v listed told);
 }
 
 -- what stands at a place within a list
@@ -153,7 +157,7 @@ keeps_headline d lists vs count belongs copies keeps all = λ flow listed.
     let e = at lists flow (omega (arith, listed, few)) in
     let v = at vs flow (omega (arith, listed, count, few)) in
     flow_keeps d lists flow e.0 e.1 (yes_keeps d flow e.0 v.0 (yes_at vs flow v.0 all v.1)
-      (copies flow e.0 v.0 e.1 v.1) (keeps flow e.0 v.0 e.1 v.1))
+    (copies flow e.0 v.0 e.1 v.1) (keeps flow e.0 v.0 e.1 v.1))
 
 -- the text of the verdicts on a domain
 pub verdicts_told : (text : List ℕ) (d : DomainValue) (lists : List Tree)
@@ -244,18 +248,23 @@ pub written_told : (told : Option (List ℕ)) (taken : List ℕ) (all : Bool) (w
     → bytes ≡ written → Appends old new bytes
     → IfSome told (λ text. WritesVerdicts text all old new)
 written_told None taken all written bytes old new read v same puts = tt
-written_told (Some text) taken all written bytes old new read v same puts =
-    (written, verdict_whole text all written (subst (λ (t : List ℕ). IsVerdictText t all written) read v),
-      subst (λ (b : List ℕ). Appends old new b) same puts)
+written_told (Some text) taken all written bytes old new read v same puts = (
+  written,
+  verdict_whole text all written (subst (λ (t : List ℕ). IsVerdictText t all written) read v),
+  subst (λ (b : List ℕ). Appends old new b) same puts,
+)
 
 pub part_told : (told : Option (List ℕ)) (taken : List ℕ) (all : Bool) (written bytes : List ℕ)
     (old new : Option (List ℕ)) → IsRead told taken → IsVerdictText taken all written
     → bytes ≡ written → AppendsPart old new bytes
     → IfSome told (λ text. WritesPartOfVerdicts text old new)
 part_told None taken all written bytes old new read v same puts = tt
-part_told (Some text) taken all written bytes old new read v same puts =
-    (all, written, verdict_whole text all written (subst (λ (t : List ℕ). IsVerdictText t all written) read v),
-      subst (λ (b : List ℕ). AppendsPart old new b) same puts)
+part_told (Some text) taken all written bytes old new read v same puts = (
+  all,
+  written,
+  verdict_whole text all written (subst (λ (t : List ℕ). IsVerdictText t all written) read v),
+  subst (λ (b : List ℕ). AppendsPart old new b) same puts,
+)
 
 headline_told : (told : Option (List ℕ)) (taken : List ℕ) → IsRead told taken → HeadlineOf taken
     → IfSome told HeadlineOf
@@ -343,7 +352,7 @@ wrote_yes taken all written bytes k (Some xs) (Some ys) v same puts (front, rest
     let more = codes "verdict yes" ++ rest in
     let part : take k bytes ≡ front ++ more = cancel xs _ _ (sym puts ∙ is) in
     let whole : check_text v.domain.topology v.verdicts
-        ≡ front ++ (codes "verdict yes" ++ (rest ++ drop k bytes)) =
+    ≡ front ++ (codes "verdict yes" ++ (rest ++ drop k bytes)) =
     sym v.spelled ∙ sym same ∙ sym (take-append-drop k bytes)
     ∙ ap (λ zs. zs ++ drop k bytes) part ∙ append_assoc front more (drop k bytes) in
     v.answer ∙ lines_say v.domain.topology v.domain.topology.flows v.verdicts (are_yes v.verdicts)

@@ -1,4 +1,6 @@
-//! Worked report lists through the run, devices that fail, and words.
+//! Worked report lists through `run_wants`, devices that fail, and words.
+
+mod check;
 
 use crate::command::{Task, WordsFault, command_of};
 use crate::fault::RunFault;
@@ -143,10 +145,13 @@ fn words(rt: HostRuntime) {
         ["mcaudit", "wants", "240.0.0.0", "10.0.0.5"],
         ["mcaudit", "wants", "239.1.2.3", "224.0.1.0"],
         ["mcaudit", "check", "239.1.2.3", "10.0.0.5"],
+        ["mcaudit", "audit", "239.1.2.3", "10.0.0.5"],
     ] {
         let refused = command_of(rt.alloc(), &wrong);
         assert!(rt; matches!(refused, Err(WordsFault::Wrong(_))));
     }
+    let check = command_of(rt.alloc(), &["mcaudit", "check"]);
+    assert_eq!(rt; check.ok(), Some(Task::Check));
     let none = command_of(rt.alloc(), &["mcaudit"]);
     assert!(rt; matches!(none, Err(WordsFault::Wrong(_))));
     let fewer = command_of(rt.alloc(), &["mcaudit", "wants", "239.1.2.3"]);

@@ -63,7 +63,11 @@ pub(crate) fn check_text(
         let verdict = verdicts[flow as usize];
         push_line(&mut text, topology, topology.flow(flow), verdict)?;
     }
-    let last = if are_yes(verdicts) { "verdict yes\n" } else { "verdict no\n" };
+    let last = if are_yes(verdicts) {
+        "verdict yes\n"
+    } else {
+        "verdict no\n"
+    };
     text.push_str(last).map_err(|_| NoMemory)?;
     Ok(text)
 }

@@ -10,11 +10,11 @@ returns-in_err-certificate-clause-refused c =
     let p = err_from_is_err_and c.from_residual-in_err-certificate.result
     c.from_residual-in_err-certificate.ensures.1 in
     rw (p.1, p.2) (certificate_refused c.args.text.now _ c.unwrap_or-text.result.now
-      c.in_ok-input.input.domain c.topology.result.now c.in_err-certificate.field-0.0
-      c.in_ok-input.ensures.means
-      (unwrapped c.in_ok-input.input.certificate _ c.unwrap_or-text.result
-        c.in_ok-input.ensures.certified c.unwrap_or-text.ensures)
-      c.topology.ensures.topology c.in_err-certificate.ensures.fault)
+    c.in_ok-input.input.domain c.topology.result.now c.in_err-certificate.field-0.0
+    c.in_ok-input.ensures.means
+    (unwrapped c.in_ok-input.input.certificate _ c.unwrap_or-text.result
+    c.in_ok-input.ensures.certified c.unwrap_or-text.ensures)
+    c.topology.ensures.topology c.in_err-certificate.ensures.fault)
 
 pub returns-in_err-certificate-clause-no_device : goal.returns-in_err-certificate-clause-no_device
 returns-in_err-certificate-clause-no_device c =
@@ -27,7 +27,7 @@ returns-clause-means c =
     certified c.args.text.now _ c.unwrap_or-text.result.now c.in_ok-input.input.domain
     c.topology.result.now c.in_ok-certificate.certificate c.in_ok-input.ensures.means
     (unwrapped c.in_ok-input.input.certificate _ c.unwrap_or-text.result
-      c.in_ok-input.ensures.certified c.unwrap_or-text.ensures)
+    c.in_ok-input.ensures.certified c.unwrap_or-text.ensures)
     c.topology.ensures.topology c.in_ok-certificate.ensures.found
 
 pub returns-clause-belongs : goal.returns-clause-belongs

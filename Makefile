@@ -1,5 +1,5 @@
 # make            builds the proved program, crates/mcaudit/out/mcaudit
-# make example    builds it if needed, and runs it on the files of examples/
+# make example    builds it if needed, and judges two bundles of examples/, of which the second has a fault
 # make test       the gate: every proof, the edits that must fail, the tests, and the command-line cases
 # make bench      reads large texts, and prints what that took in time and memory (it needs python3)
 # make install    puts the program into $(PREFIX)/bin
@@ -15,11 +15,12 @@ all: $(PROGRAM)
 
 $(PROGRAM): $(SOURCES)
 	rm -f $(PROGRAM)
-	cd crates/mcaudit && rt run -- wants 239.1.2.3 10.0.0.5 < stdin
+	cd crates/mcaudit && rt run -- check < stdin
 	test -x $(PROGRAM)
 
 example: $(PROGRAM)
-	$(PROGRAM) wants 239.1.2.3 10.0.0.5 < examples/reports
+	$(PROGRAM) check < examples/network.bundle
+	$(PROGRAM) check < examples/second-router.bundle || test $$? = 1
 
 test:
 	rt ci

@@ -4,5 +4,6 @@ pub mod Fields
 pub mod Kept
 pub mod Objects
 pub mod Parts
+pub mod PlaceLemmas
 pub mod ReadLemmas
 pub mod Whole

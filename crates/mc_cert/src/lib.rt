@@ -3,6 +3,7 @@
 #![tactic(auto)]
 
 mod certificate;
+mod distinct;
 mod entry;
 mod fault;
 mod laws;

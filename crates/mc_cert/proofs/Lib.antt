@@ -6,4 +6,5 @@ pub mod Objects
 pub mod Parts
 pub mod PlaceLemmas
 pub mod ReadLemmas
+pub mod TextLemmas
 pub mod Whole

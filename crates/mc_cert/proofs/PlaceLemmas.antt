@@ -1,23 +1,24 @@
 -- The place of a tree among trees.
-use Rattle.std.proofs.Common.{◌≡◌, ◌≢◌, ℕ, zero, suc, ◌+◌, ◌<◌, ◌≤◌, Bool, true, false, cond, not, nat_lt, ◌&&◌, ◌==◌, List, [], ◌∷◌, ◌++◌, length, get_or, set, fold, map, All, inl, inr, ◌⊎◌,  Option, Some, None, option_map, refl, sym, ap, ap₂, subst, ◌∙◌, arith, length-append, eqb-true, eq-eqb, lt-ltb, replicate, unwrap_or, append_assoc}
+use Rattle.std.proofs.Common.{◌≡◌, ◌≢◌, ℕ, zero, suc, ◌+◌, ◌<◌, Bool, true, false, cond, not, nat_lt, ◌==◌, List, [], ◌∷◌, ◌++◌, length, get_or, set, fold, map, All, inl, inr, ◌⊎◌, Option, Some, None, option_map, refl, sym, ap, ap₂, subst, ◌∙◌, arith, length-append, eqb-true, eq-eqb, replicate, unwrap_or, append_assoc}
 use Rattle.std.specs.Prelude.{position}
 use Rattle.std.specs.List.{position_or_len, range_with_len}
 use Rattle.std.specs.Map.{lookup}
 use Rattle.std.specs.Option.{option_eq, is_some}
-use Rattle.std.specs.Bool.{Decides}
-use Rattle.std.specs.Cmp.Lexicographic.{pointwise, pointwise_decides, slice_cmp, lists_ties}
+use Rattle.std.specs.Cmp.Lexicographic.{pointwise_decides, slice_cmp, lists_ties}
 use Rattle.std.specs.declared.cmp.Ordering.{Ordering}
-use Rattle.std.specs.Ordering.{is_eq, eq_by_cmp}
+use Rattle.std.specs.Ordering.{is_eq}
 use Rattle.std.specs.Borrow.{Bor}
 use Rattle.std.specs.BTreeMap.{BTreeMap, get, get_by, Updates}
 use Rattle.std.proofs.lemmas.Bool.{and_parts, cases_eq}
-use Rattle.std.proofs.lemmas.List.{map-append, get_or-set_same, get_or-set_other}
+use Rattle.std.proofs.lemmas.List.{get_or-set_same, get_or-set_other}
 use Rattle.std.proofs.lemmas.Bool.Decides.{nat_tests}
+use Rattle.std.proofs.lemmas.List.Elements.{All-push}
+use Rattle.std.proofs.lemmas.List.FromFn.{length-range_with_len, get_or-range_with_len}
 use Rattle.mc_theory.specs.Nets.{Interface}
 use Rattle.mc_theory.specs.Certificates.{Entry}
 use Rattle.mc_cert.specs.contracts.reached.ReachedOrd.TheImpl.{ghosts as by_order}
 use Rattle.mc_cert.specs.contracts.reached.ReachedOrd.TheImpl.Laws.{matches_eq-law}
-use Rattle.mc_cert.specs.Certificate.{Tree, tree_at}
+use Rattle.mc_cert.specs.Certificate.{Tree, tree_at, flows_of}
 use Rattle.mc_cert.specs.Distinct.{same_interface, same_entry, same_tree, place_in, with_tree, distinct_trees, place_of}
 use Rattle.mc_cert.specs.Places.{ArePlaces, AreKnown}
 
@@ -67,16 +68,17 @@ module _ {X : Type 0} (p : X → Bool) where
 -- ---- which trees are the same
 
 interface_decides : (i j : Interface) → (same_interface i j ≡ true → i ≡ j) × (i ≡ j → same_interface i j ≡ true)
-interface_decides (r, v) (s, w) =
-    (λ e.
+interface_decides (r, v) (s, w) = (
+  λ e.
       let parts = and_parts (r == s) (v == w) e in
       let routers : r ≡ s = eqb-true r s parts.0 in
       let vifs : v ≡ w = eqb-true v w parts.1 in
       λ k. (routers k, vifs k),
-    λ e.
+  λ e.
       let routers : r ≡ s = ap (λ (i : Interface). i.0) e in
       let vifs : v ≡ w = ap (λ (i : Interface). i.1) e in
-      rw (eq-eqb r s routers, eq-eqb v w vifs) refl)
+      rw (eq-eqb r s routers, eq-eqb v w vifs) refl,
+)
 
 forwarder_decides : (a b : Option Interface) → (option_eq same_interface a b ≡ true → a ≡ b) × (a ≡ b → option_eq same_interface a b ≡ true)
 forwarder_decides None None = (λ _. refl, λ _. refl)
@@ -85,8 +87,8 @@ forwarder_decides (Some i) None = (λ e. absurd cc, λ e. absurd cc)
 forwarder_decides (Some i) (Some j) = (λ e. ap Some ((interface_decides i j).0 e), λ e. (interface_decides i j).1 cc)
 
 entry_decides : (a b : Entry) → (same_entry a b ≡ true → a ≡ b) × (a ≡ b → same_entry a b ≡ true)
-entry_decides a b =
-    (λ e.
+entry_decides a b = (
+  λ e.
       let first = and_parts (a.lan == b.lan) _ e in
       let second = and_parts (a.rank == b.rank) _ first.1 in
       let third = and_parts (a.need == b.need) _ second.1 in
@@ -95,9 +97,10 @@ entry_decides a b =
       let need : a.need ≡ b.need = eqb-true a.need b.need third.0 in
       let forwarder : a.forwarder ≡ b.forwarder = (forwarder_decides a.forwarder b.forwarder).0 third.1 in
       λ i. record { lan = lan i; rank = rank i; need = need i; forwarder = forwarder i },
-    λ e.
+  λ e.
       rw (eq-eqb a.lan b.lan (ap (λ (x : Entry). x.lan) e), eq-eqb a.rank b.rank (ap (λ (x : Entry). x.rank) e), eq-eqb a.need b.need (ap (λ (x : Entry). x.need) e))
-      ((forwarder_decides a.forwarder b.forwarder).1 (ap (λ (x : Entry). x.forwarder) e)))
+      ((forwarder_decides a.forwarder b.forwarder).1 (ap (λ (x : Entry). x.forwarder) e)),
+)
 
 pub tree_decides : (a b : Tree) → (same_tree a b ≡ true → a ≡ b) × (a ≡ b → same_tree a b ≡ true)
 tree_decides = pointwise_decides entry_decides
@@ -163,9 +166,9 @@ places_pushed found new key place trees are none last updates es =
     let at : Bor Tree = record { ref_ptr = (0, 0); now = es } in
     updates.0 at ∙ ap (λ b. cond b (Some place) (get tree_order found at)) (sym (trees_tie key.now es)) ∙ here (same_tree key.now es) refl
   where
-  here : (b : Bool) → same_tree key.now es ≡ b → cond b (Some place) (get_by (λ k. slice_cmp by_order.cmp es k.now) found) ≡ place_in (trees ++ key.now ∷ []) es
-  here true same = ap Some last ∙ sym (place_of_new trees key.now none) ∙ ap (place_in (trees ++ key.now ∷ [])) ((tree_decides key.now es).0 same)
-  here false differs = are es ∙ sym (position_past (same_tree es) trees key.now (unlike_trees key.now es differs))
+    here : (b : Bool) → same_tree key.now es ≡ b → cond b (Some place) (get_by (λ k. slice_cmp by_order.cmp es k.now) found) ≡ place_in (trees ++ key.now ∷ []) es
+    here true same = ap Some last ∙ sym (place_of_new trees key.now none) ∙ ap (place_in (trees ++ key.now ∷ [])) ((tree_decides key.now es).0 same)
+    here false differs = are es ∙ sym (position_past (same_tree es) trees key.now (unlike_trees key.now es differs))
 
 -- ---- what is known of kept trees
 
@@ -198,9 +201,9 @@ pub so_far_step : (kept : List Tree) (numbers rest : List ℕ) (found found_now 
 so_far_step kept numbers rest found found_now trees trees_now known known_now places number place was now_found now_known now_trees here =
     let flows = map (tree_at kept) numbers in
     let whole : fold with_tree (map (tree_at kept) trees_now) (map (tree_at kept) rest) ≡ distinct_trees flows =
-        ap (λ (ts : List Tree). fold with_tree ts (map (tree_at kept) rest)) now_trees ∙ was.whole in
+    ap (λ (ts : List Tree). fold with_tree ts (map (tree_at kept) rest)) now_trees ∙ was.whole in
     let stays : place_in (distinct_trees flows) (tree_at kept number) ≡ Some place =
-        ap (λ (ts : List Tree). place_in ts (tree_at kept number)) (sym whole) ∙ place_stays (map (tree_at kept) trees_now) (tree_at kept number) place (map (tree_at kept) rest) here in
+    ap (λ (ts : List Tree). place_in ts (tree_at kept number)) (sym whole) ∙ place_stays (map (tree_at kept) trees_now) (tree_at kept number) place (map (tree_at kept) rest) here in
     let mine : place_of (distinct_trees flows) (tree_at kept number) ≡ place = ap (λ o. unwrap_or o 0) stays in
     record {
       found_places = now_found;
@@ -218,13 +221,13 @@ so_far_at_first kept numbers found count empty =
       placed = refl;
     }
   where
-  none_known : (count n place : ℕ) → get_or (replicate count None) n None ≡ Some place → ⊥
-  none_known zero n place e = absurd cc
-  none_known (suc count) zero place e = absurd cc
-  none_known (suc count) (suc n) place e = none_known count n place e
+    none_known : (count n place : ℕ) → get_or (replicate count None) n None ≡ Some place → ⊥
+    none_known zero n place e = absurd cc
+    none_known (suc count) zero place e = absurd cc
+    none_known (suc count) (suc n) place e = none_known count n place e
 
 -- each tree kept by its number
-pub kept_in_order : (kept : List Tree) → map (tree_at kept) (range_with_len 0 (length kept)) ≡ kept
+kept_in_order : (kept : List Tree) → map (tree_at kept) (range_with_len 0 (length kept)) ≡ kept
 kept_in_order kept = from [] kept where
   at_the_end : (before : List Tree) (es : Tree) (rest : List Tree) → tree_at (before ++ es ∷ rest) (length before) ≡ es
   at_the_end [] es rest = refl
@@ -236,8 +239,8 @@ kept_in_order kept = from [] kept where
       let whole : (before ++ es ∷ []) ++ rest ≡ before ++ es ∷ rest = append_assoc before (es ∷ []) rest in
       let count : length (before ++ es ∷ []) ≡ length before + 1 = length-append before (es ∷ []) in
       let more : map (tree_at (before ++ es ∷ rest)) (range_with_len (length before + 1) (length rest)) ≡ rest =
-          subst (λ (k : ℕ). map (tree_at (before ++ es ∷ rest)) (range_with_len k (length rest)) ≡ rest) count
-          (subst (λ (ts : List Tree). map (tree_at ts) (range_with_len (length (before ++ es ∷ [])) (length rest)) ≡ rest) whole (from (before ++ es ∷ []) rest)) in
+      subst (λ (k : ℕ). map (tree_at (before ++ es ∷ rest)) (range_with_len k (length rest)) ≡ rest) count
+      (subst (λ (ts : List Tree). map (tree_at ts) (range_with_len (length (before ++ es ∷ [])) (length rest)) ≡ rest) whole (from (before ++ es ∷ []) rest)) in
       ap₂ (λ x xs. x ∷ xs) (at_the_end before es rest) more
 
 pub range_more : (a n : ℕ) → range_with_len a (suc n) ≡ range_with_len a n ++ (a + n) ∷ []
@@ -245,3 +248,27 @@ range_more a zero = let same : a ≡ a + 0 = omega arith in ap (λ k. k ∷ []) 
 range_more a (suc n) =
     let same : (a + 1) + n ≡ a + suc n = omega arith in
     ap (λ ks. a ∷ ks) (range_more (a + 1) n ∙ ap (λ k. range_with_len (a + 1) n ++ k ∷ []) same)
+
+pub flows_in_order : (kept : List Tree) (numbers : List ℕ) (named : Option (List ℕ)) → numbers ≡ range_with_len 0 (length kept) → named ≡ None → map (tree_at kept) numbers ≡ flows_of kept named
+flows_in_order kept numbers named below none = ap (map (tree_at kept)) below ∙ kept_in_order kept ∙ ap (flows_of kept) (sym none)
+
+pub range_below : (count : ℕ) → All (λ n. n < count) (range_with_len 0 count)
+range_below count k d lt =
+    let within : k < count = omega (arith, length-range_with_len 0 count) in
+    omega (arith, get_or-range_with_len 0 count k d within)
+
+-- what holds of all flows holds of the different trees
+module _ (P : Tree → Type 0) where
+  all_with : (b : Bool) (trees : List Tree) (es : Tree) → All P trees → P es → All P (cond b trees (trees ++ es ∷ []))
+  all_with true trees es all here = all
+  all_with false trees es all here = All-push P trees es all here
+
+  all_distinct : (trees flows : List Tree) → All P trees → All P flows → All P (fold with_tree trees flows)
+  all_distinct trees [] all each = all
+  all_distinct trees (f ∷ flows) all each =
+      all_distinct (with_tree trees f) flows (all_with (is_some (place_in trees f)) trees f all (each zero [] (omega arith))) (λ k d lt. each (suc k) d (omega (arith, lt)))
+
+  pub distinct_belong : (flows viewed trees : List Tree) → viewed ≡ flows → All P flows → trees ≡ distinct_trees viewed → All P trees
+  distinct_belong flows viewed trees same all made =
+      let distinct : All P (distinct_trees flows) = all_distinct [] flows (λ k d lt. absurd (omega (arith, lt))) all in
+      subst (λ (ts : List Tree). All P ts) (ap distinct_trees (sym same) ∙ sym made) distinct

@@ -1,8 +1,8 @@
 //! The trees of flows without repeats.
 
-ghost use Rattle.std.specs.Prelude.{◌≡◌, ℕ, ◌<◌, ◌≤◌, All, List, length, vec_len, map, IfOk, OnOk, Some};
+ghost use Rattle.std.specs.Prelude.{◌≡◌, ℕ, ◌<◌, ◌≤◌, All, List, length, vec_len, map, option_map, IfOk, OnOk, Some};
 ghost use Rattle.std.specs.List.{range_with_len};
-ghost use Rattle.mc_cert.specs.Certificate.{tree_at};
+ghost use Rattle.mc_cert.specs.Certificate.{tree_at, flows_of, IsKept};
 ghost use Rattle.mc_cert.specs.Distinct.{place_in, with_tree, distinct_trees, place_of};
 ghost use Rattle.mc_cert.specs.Places.{ArePlaces, AreKnown};
 
@@ -89,7 +89,7 @@ fn known_place_of<'a>(
 
 /// The different trees of the flows that have the kept trees with these numbers. Each kept tree is looked
 /// up once at most.
-pub(crate) fn distinct_trees(
+fn distinct_among(
     alloc: Global,
     kept: &[Vec<Reached>],
     numbers: &[u32],
@@ -116,7 +116,7 @@ pub(crate) fn distinct_trees(
 }
 
 /// The numbers below a count, in order.
-pub(crate) fn numbers_below(alloc: Global, count: u32) -> Result<Vec<u32>, AllocError>
+fn numbers_below(alloc: Global, count: u32) -> Result<Vec<u32>, AllocError>
     ensures { IfOk result (λ numbers. numbers.items ≡ range_with_len 0 count) }
 {
     let mut numbers = Vec::with_capacity(alloc, count as usize)?;
@@ -124,4 +124,27 @@ pub(crate) fn numbers_below(alloc: Global, count: u32) -> Result<Vec<u32>, Alloc
         numbers.push(number)?;
     }
     Ok(numbers)
+}
+
+/// The different trees of all flows, which have the kept trees in order or those with these numbers.
+pub(crate) fn distinct_trees(
+    alloc: Global,
+    kept: &[Vec<Reached>],
+    tree_of_flow: &Option<Vec<u32>>,
+) -> Result<Distinct, AllocError>
+    requires { IsKept (map (λ t. t.items) kept.now) (option_map (λ n. n.items) tree_of_flow.now) }
+    ensures trees { let all = map (λ t. t.items) kept.now in
+        let flows = flows_of all (option_map (λ n. n.items) tree_of_flow.now) in
+        IfOk result (λ d. map (tree_at all) d.trees.items ≡ distinct_trees flows) }
+    ensures places { let flows = flows_of (map (λ t. t.items) kept.now) (option_map (λ n. n.items) tree_of_flow.now) in
+        IfOk result (λ d. d.places.items ≡ map (place_of (distinct_trees flows)) flows) }
+    ensures named { IfOk result (λ d. All (λ n. n < length kept.now) d.trees.items) }
+{
+    match tree_of_flow {
+        Some(numbers) => distinct_among(alloc, kept, numbers),
+        None => {
+            let numbers = numbers_below(alloc, kept.len() as u32)?;
+            distinct_among(alloc, kept, &numbers)
+        }
+    }
 }

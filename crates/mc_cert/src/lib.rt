@@ -13,6 +13,7 @@ mod read;
 mod version;
 mod version_one;
 mod version_two;
+mod written;
 
 pub use certificate::Certificate;
 pub use fault::{CertFault, CertFaultKind, CertPlace};

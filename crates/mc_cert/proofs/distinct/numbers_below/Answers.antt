@@ -1,4 +1,4 @@
-use Rattle.std.proofs.Common.{◌≡◌, ◌∷◌, [], ◌++◌, ◌∙◌, ap, sym, add-one, zero-add}
+use Rattle.std.proofs.Common.{◌∷◌, [], ◌++◌, ◌∙◌, ap, sym, add-one, zero-add}
 use Rattle.std.specs.List.{range_with_len}
 use Rattle.mc_cert.proofs.PlaceLemmas.{range_more}
 use Rattle.mc_cert.proofs.distinct.numbers_below.Goals as goal

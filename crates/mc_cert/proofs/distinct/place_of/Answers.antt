@@ -5,7 +5,7 @@ use Rattle.mc_cert.specs.Distinct.{place_in}
 use Rattle.mc_cert.specs.contracts.reached.ReachedOrd.TheImpl.{ghosts as by_order}
 use Rattle.mc_cert.specs.Places.{ArePlaces}
 use Rattle.mc_cert.proofs.PlaceLemmas.{places_pushed}
-use Rattle.mc_cert.proofs.PlaceLemmas.{with_new, with_known, place_of_new, kept_tree, place_found, no_place_found, known_set}
+use Rattle.mc_cert.proofs.PlaceLemmas.{with_new, with_known, place_of_new, kept_tree, place_found, no_place_found}
 use Rattle.mc_cert.proofs.distinct.place_of.Goals as goal
 
 place_here : (c : goal.In-Some) → place_in (map (tree_at (map (λ t. t.items) c.args.kept.now)) c.args.trees.now.items) (tree_at (map (λ t. t.items) c.args.kept.now) c.args.number) ≡ Some c.in-Some.place

@@ -1,6 +1,6 @@
 use Rattle.std.proofs.Common.{◌≡◌, ◌<◌, All, map, drop, length, vec_len}
 use Rattle.mc_cert.proofs.PlaceLemmas.{AreSoFar}
-use Rattle.mc_cert.proofs.distinct.distinct_trees.Given as goal
+use Rattle.mc_cert.proofs.distinct.distinct_among.Given as goal
 
 abbrev pub invariant-loop-number : goal.invariant-loop-number
 invariant-loop-number l =

@@ -1,6 +1,8 @@
 pub mod Belongs
+pub mod Documents
 pub mod Each
 pub mod Fields
+pub mod JsonValues
 pub mod Kept
 pub mod Objects
 pub mod Parts

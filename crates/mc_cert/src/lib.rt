@@ -17,7 +17,10 @@ mod written;
 
 pub use certificate::Certificate;
 pub use fault::{CertFault, CertFaultKind, CertPlace};
-pub use laws::{certificates_are_read_as_they_stand, texts_stand_for_certificates};
+pub use laws::{
+    certificates_are_read_as_they_stand, texts_of_certificates_stand_for_them,
+    texts_stand_for_certificates,
+};
 pub use reached::{FlowCert, Reached};
 
 #[cfg(test)]

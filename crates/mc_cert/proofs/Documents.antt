@@ -1,6 +1,6 @@
 -- The JSON value that a certificate's text is, and what it stands for.
-use Rattle.std.proofs.Common.{◌≡◌, ℕ, zero, suc, ◌+◌, ◌^◌, ◌<◌, ◌≤◌, All, Bool, true, false, cond, ◌&&◌, List, [], ◌∷◌, ◌++◌, length, get_or, fold, map, codes, decimal, Option, Some, None, option_map, unwrap_or, IfSome, is_some, IsUtf8, refl, sym, ap, ap₂, subst, ◌∙◌, arith, append_assoc, append-nil, lit<}
-use Rattle.std.specs.Prelude.{slice_get, IsTrue}
+use Rattle.std.proofs.Common.{◌≡◌, ℕ, zero, suc, ◌+◌, ◌^◌, ◌<◌, ◌≤◌, All, Bool, true, false, cond, List, [], ◌∷◌, ◌++◌, length, get_or, fold, map, codes, decimal, Option, Some, None, option_map, unwrap_or, IfSome, is_some, IsUtf8, refl, sym, ap, ap₂, subst, ◌∙◌, arith, append_assoc, lit<}
+use Rattle.std.specs.Prelude.{slice_get}
 use Rattle.std.specs.List.{AllByRecursion, zip}
 use Rattle.std.proofs.lemmas.Fmt.{decimal_digit}
 use Rattle.std.proofs.lemmas.List.{length-map, length-append}
@@ -8,10 +8,10 @@ use Rattle.std.proofs.lemmas.List.Quantifiers.{position-Some}
 use Rattle.std.proofs.lemmas.Option.{slice_get-get_or}
 use Rattle.json.specs.Print.{escape, escape_byte, quoted}
 use Rattle.json.proofs.Printed.Utf8.{IsUtf8-are_ascii}
-use Rattle.serde_json.specs.Data.{Data, unsigned, number, string, array, object, Items, no_items, item, Members, no_members, member}
+use Rattle.serde_json.specs.Data.{Data, unsigned, number, string, array, object, Items, Members, no_members, member}
 use Rattle.serde_json.specs.Find.{get_member}
-use Rattle.serde_json.specs.Read.{read, of_json, of_items, of_members}
-use Rattle.serde_json.specs.Written.{outline, items_outline, members_outline, compact_text, items_text, members_text, comma_if}
+use Rattle.serde_json.specs.Read.{read, of_items, of_members}
+use Rattle.serde_json.specs.Written.{items_outline, members_outline, compact_text, items_text, members_text, comma_if}
 use Rattle.serde_json.proofs.Numbers.{number_of-decimal}
 use Rattle.mc_text.specs.Addr.{dotted}
 use Rattle.mc_theory.specs.Nets.{Interface}
@@ -21,14 +21,13 @@ use Rattle.mc_topology.specs.Rows.{RouterRow}
 use Rattle.mc_topology.specs.Topology.{TopologyValue, IsTopology}
 use Rattle.mc_topology.proofs.NameLemmas.{number_of_lan, number_of_router}
 use Rattle.mc_cert.specs.declared.version.Version.TheVariants.{Two}
-use Rattle.mc_cert.specs.Certificate.{Tree, tree_at, IsListed, IsList, IsOfBytes, IsEntryOf, BelongsTo}
+use Rattle.mc_cert.specs.Certificate.{Tree, IsListed, IsList, IsOfBytes, IsEntryOf, BelongsTo}
 use Rattle.mc_cert.specs.CertificateText.{lan_name, router_name, listed_after, listed, forwarder_text, entry_text, tree_text, flow_text, flow_texts, text_of, certificate_text}
 use Rattle.mc_cert.specs.Distinct.{same_tree, place_in, with_tree, distinct_trees, place_of}
 use Rattle.mc_cert.specs.Entries.{entry_keys}
 use Rattle.mc_cert.specs.Object.{has_only, rows_in}
-use Rattle.mc_cert.specs.Stands.{IsObject, EachStands, IsInterface, IsForwarder, IsEntry, AreEntries, IsTree, IsSharedFlow, IsVersionTwo, CertificateStands}
-use Rattle.mc_cert.specs.VersionTwo.{shared_keys}
-use Rattle.mc_cert.proofs.JsonValues.{IsPlain, escape_plain, name_plain, dotted_plain, IsGood, good_string, good_number, AreGood, good_array, items_from, good_items, HasGood, good_none, good_member, good_object, good_reads}
+use Rattle.mc_cert.specs.Stands.{EachStands, IsForwarder, IsEntry, IsTree, IsSharedFlow, CertificateStands}
+use Rattle.mc_cert.proofs.JsonValues.{IsPlain, escape_plain, name_plain, dotted_plain, IsGood, good_string, good_number, good_array, items_from, good_items, HasGood, good_none, good_member, good_object, good_reads}
 use Rattle.mc_cert.proofs.PlaceLemmas.{tree_decides, with_known, with_new, place_of_new, place_stays, distinct_belong}
 
 -- ---- the value
@@ -404,12 +403,12 @@ written_document t places trees rules written =
     (list_spelled (tree_text t) (tree_data t) false trees (each_follows (IsWrittenTree t) (λ es. tree_text t es ≡ compact_text (tree_data t es)) (λ es is. written_tree t es rules is) trees written))
 
 -- what is written stands for the certificate
-written_stands : (t : TopologyValue) (flows : List Tree) → IsTopology t → length flows ≡ length t.flows → All (IsWrittenTree t) flows → length (certificate_text t flows) ≤ 16777216
+written_stands : (t : TopologyValue) (flows : List Tree) → IsTopology t → length flows ≡ length t.flows → All (IsWrittenTree t) (distinct_trees flows) → length (certificate_text t flows) ≤ 16777216
     → CertificateStands t (certificate_text t flows) flows
 written_stands t flows rules count all few =
     let trees = distinct_trees flows in
     let places = map (place_of trees) flows in
-    let written : AllByRecursion (IsWrittenTree t) trees = each_of (IsWrittenTree t) trees (distinct_belong (IsWrittenTree t) flows flows trees refl all refl) in
+    let written : AllByRecursion (IsWrittenTree t) trees = each_of (IsWrittenTree t) trees all in
     let few_trees : length trees ≤ 4096 = omega (arith, distinct_few [] flows, count, rules.few_flows) in
     let at : AllByRecursion (IsPlaced trees) flows = each_follows (λ es. (k : ℕ) × (place_in trees es ≡ Some k)) (IsPlaced trees) (placed trees) flows (found_all [] flows) in
     let small : AllByRecursion (λ n. n < 2 ^ 64) places =
@@ -448,7 +447,18 @@ written_tree_is t es list bytes among =
       each = each_of (IsWritten t) es (λ k d lt. record { listed = list.each k d lt; among = among k d lt; need = (bytes k d lt).need; rank = (bytes k d lt).rank });
     }
 
+-- the same by the different trees
+pub text_stands : (t : TopologyValue) (flows trees : List Tree) (text : List ℕ) → IsTopology t → BelongsTo t flows → trees ≡ distinct_trees flows → All IsList trees → All (All IsOfBytes) trees
+    → text ≡ certificate_text t flows → length text ≤ 16777216 → CertificateStands t text flows
+text_stands t flows trees text rules belongs made lists bytes is few =
+    let among : All (All (IsEntryOf t)) trees = distinct_belong (All (IsEntryOf t)) flows flows trees refl belongs.entries made in
+    let written : All (IsWrittenTree t) trees = λ k d lt. written_tree_is t (get_or trees k d) (lists k d lt) (bytes k d lt) (among k d lt) in
+    let short : length (certificate_text t flows) ≤ 16777216 = subst (λ (s : List ℕ). length s ≤ 16777216) is few in
+    subst (λ (s : List ℕ). CertificateStands t s flows) (sym is) (written_stands t flows rules belongs.count (subst (λ (ts : List Tree). All (IsWrittenTree t) ts) made written) short)
+
 pub texts_stand : (t : TopologyValue) (flows : List Tree) → IsTopology t → BelongsTo t flows → All IsList flows → All (All IsOfBytes) flows → length (certificate_text t flows) ≤ 16777216
     → CertificateStands t (certificate_text t flows) flows
 texts_stand t flows rules belongs lists bytes few =
-    written_stands t flows rules belongs.count (λ k d lt. written_tree_is t (get_or flows k d) (lists k d lt) (bytes k d lt) (belongs.entries k d lt)) few
+    let trees = distinct_trees flows in
+    text_stands t flows trees (certificate_text t flows) rules belongs refl (distinct_belong IsList flows flows trees refl lists refl)
+    (distinct_belong (All IsOfBytes) flows flows trees refl bytes refl) refl few

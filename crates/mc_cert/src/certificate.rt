@@ -142,7 +142,10 @@ impl Certificate {
     pub fn to_json(&self, alloc: Global, topology: &Topology) -> Result<String, Memory>
         requires { BelongsTo topology.now self.now }
         ensures text { IfOk result (λ text. string_bytes text ≡ certificate_text topology.now self.now) }
+        ensures stands { IfOk result (λ text. length (string_bytes text) ≤ 16777216 →
+            CertificateStands topology.now (string_bytes text) self.now) }
     {
+        let _rules = topology.flows();
         let Distinct { trees, places } = distinct_trees(alloc, &self.trees, &self.tree_of_flow)?;
         let mut text = String::from_str(alloc, r#"{"flows":["#)?;
         push_flows(&mut text, topology, &places)?;

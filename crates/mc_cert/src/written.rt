@@ -1,7 +1,7 @@
 //! The JSON text of a certificate, in version 2, piece by piece.
 
 ghost use Rattle.std.specs.Prelude.{◌≡◌, ◌++◌, ◌<◌, ◌≤◌, All, length, map, IfSome, OnOk, string_bytes};
-ghost use Rattle.mc_cert.specs.Certificate.{IsEntryOf, tree_at};
+ghost use Rattle.mc_cert.specs.Certificate.{IsEntryOf, IsOfBytes, tree_at};
 ghost use Rattle.mc_cert.specs.CertificateText.{listed, forwarder_text, entry_text, tree_text, flow_text, flow_texts};
 
 use crate::reached::Reached;
@@ -30,8 +30,9 @@ fn push_forwarder(
 /// Appends an entry.
 fn push_entry(text: &mut String, topology: &Topology, entry: &Reached) -> Result<(), AllocError>
     requires { IsEntryOf topology.now entry.now }
-    ensures { OnOk result (string_bytes text.new ≡
+    ensures text { OnOk result (string_bytes text.new ≡
         string_bytes text.old ++ entry_text topology.now entry.now) }
+    ensures bytes { IsOfBytes entry.now }
 {
     let name = topology.lan_name(entry.lan);
     let (need, rank) = (entry.need, entry.rank);
@@ -43,8 +44,9 @@ fn push_entry(text: &mut String, topology: &Topology, entry: &Reached) -> Result
 /// Appends a list of entries.
 fn push_tree(text: &mut String, topology: &Topology, entries: &[Reached]) -> Result<(), AllocError>
     requires { All (IsEntryOf topology.now) entries.now }
-    ensures { OnOk result (string_bytes text.new ≡
+    ensures text { OnOk result (string_bytes text.new ≡
         string_bytes text.old ++ tree_text topology.now entries.now) }
+    ensures bytes { OnOk result (All IsOfBytes entries.now) }
 {
     text.push_str("[")?;
     let mut separator = "";
@@ -66,9 +68,11 @@ pub(crate) fn push_trees(
     requires named { All (λ n. n < length kept.now) trees.now }
     requires belong { let all = map (λ t. t.items) kept.now in
         All (All (IsEntryOf topology.now)) (map (tree_at all) trees.now) }
-    ensures { let all = map (λ t. t.items) kept.now in
+    ensures text { let all = map (λ t. t.items) kept.now in
         OnOk result (string_bytes text.new ≡
         string_bytes text.old ++ listed (map (tree_text topology.now) (map (tree_at all) trees.now))) }
+    ensures bytes { let all = map (λ t. t.items) kept.now in
+        OnOk result (All (All IsOfBytes) (map (tree_at all) trees.now)) }
 {
     let mut separator = "";
     for tree in trees {

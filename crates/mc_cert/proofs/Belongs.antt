@@ -1,5 +1,5 @@
 -- What a text stands for belongs to the topology.
-use Rattle.std.proofs.Common.{◌≡◌, ℕ, zero, suc, ◌+◌, ◌<◌, ◌≤◌, All, IfSome, Bool, true, false, List, [], ◌∷◌, length, Option, Some, None, option_map, refl, sym, ◌∙◌, arith}
+use Rattle.std.proofs.Common.{◌≡◌, ℕ, zero, suc, ◌<◌, All, IfSome, List, [], ◌∷◌, length, Option, Some, None, option_map, sym, ◌∙◌, arith}
 use Rattle.std.specs.Prelude.{slice_get}
 use Rattle.serde_json.specs.Data.{Data, Members}
 use Rattle.mc_theory.specs.Nets.{Interface}
@@ -10,7 +10,7 @@ use Rattle.mc_topology.proofs.NameLemmas.{lan_within, name_of_router}
 use Rattle.mc_cert.specs.declared.version.Version.{Version}
 use Rattle.mc_cert.specs.declared.version.Version.TheVariants.{One, Two}
 use Rattle.mc_cert.specs.Certificate.{Tree, IsEntryOf, BelongsTo}
-use Rattle.mc_cert.specs.Stands.{EachStands, IsForwarder, IsEntry, AreEntries, IsFlow, IsTree, IsSharedFlow, IsVersion, CertificateStands}
+use Rattle.mc_cert.specs.Stands.{IsForwarder, IsEntry, AreEntries, IsFlow, IsTree, IsSharedFlow, IsVersion, CertificateStands}
 use Rattle.mc_cert.proofs.Kept.{all_at}
 use Rattle.mc_cert.proofs.Parts.{each_length, each_all}
 

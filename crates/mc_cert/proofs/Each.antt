@@ -1,5 +1,5 @@
 -- Reading rows one after the other, as a loop does.
-use Rattle.std.proofs.Common.{◌≡◌, ℕ, ◌+◌, ◌<◌, ◌≤◌, List, [], ◌∷◌, ◌++◌, length, get_or, drop, map, Result, Ok, Err, refl, sym, ap, subst, ◌∙◌}
+use Rattle.std.proofs.Common.{◌≡◌, ℕ, ◌+◌, ◌<◌, ◌≤◌, List, [], ◌∷◌, ◌++◌, length, get_or, drop, map, Result, Ok, Err, refl}
 use Rattle.std.proofs.lemmas.List.{drop_more, drop_all, map-append, length-map}
 use Rattle.mc_cert.specs.declared.fault.CertFault.{CertFault}
 use Rattle.mc_cert.specs.Answer.{each}

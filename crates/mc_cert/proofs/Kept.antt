@@ -28,3 +28,12 @@ named_list trees (m ∷ ns) (suc n) es all e = named_list trees ns n es all e
 pub kept_list : (trees : List Tree) (numbers : Option (List ℕ)) (n : ℕ) (es : Tree) → IsKept trees numbers → slice_get (flows_of trees numbers) n ≡ Some es → IsList es
 kept_list trees None n es kept e = all_at IsList trees n es kept.lists e
 kept_list trees (Some ns) n es kept e = named_list trees ns n es kept.lists e
+
+-- a tree by its number
+tree_listed : (trees : List Tree) (n : ℕ) → All IsList trees → IsList (tree_at trees n)
+tree_listed trees n all = tree_list trees (slice_get trees n) n refl all
+
+pub all_listed : (trees : List Tree) (numbers : List ℕ) → All IsList trees → All IsList (map (tree_at trees) numbers)
+all_listed trees [] all k d lt = absurd (omega (arith, lt))
+all_listed trees (n ∷ numbers) all zero d lt = tree_listed trees n all
+all_listed trees (n ∷ numbers) all (suc k) d lt = all_listed trees numbers all k d (omega (arith, lt))

@@ -1,8 +1,12 @@
 pub mod Belongs
+pub mod Documents
 pub mod Each
 pub mod Fields
+pub mod JsonValues
 pub mod Kept
 pub mod Objects
 pub mod Parts
+pub mod PlaceLemmas
 pub mod ReadLemmas
+pub mod TextLemmas
 pub mod Whole

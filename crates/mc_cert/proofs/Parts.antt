@@ -1,19 +1,17 @@
 -- A part that is read stands for its value, and a part that stands for a value is read as that.
-use Rattle.std.proofs.Common.{◌≡◌, ℕ, zero, suc, ◌+◌, ◌<◌, ◌≤◌, All, IfSome, Bool, true, false, cond, List, [], ◌∷◌, ◌++◌, length, codes, Option, Some, None, Result, Ok, Err, ◌&&◌, nat_lt, refl, sym, ap, subst, ◌∙◌, arith, append_assoc}
+use Rattle.std.proofs.Common.{◌≡◌, ℕ, ◌+◌, ◌<◌, ◌≤◌, All, IfSome, true, List, [], ◌∷◌, ◌++◌, length, codes, Option, Some, None, Result, Ok, Err, nat_lt, refl, sym, ap, subst, ◌∙◌, arith, append_assoc}
 use Rattle.std.specs.Prelude.{slice_get}
 use Rattle.std.specs.Option.{ok_or}
-use Rattle.std.specs.Str.{bytes_eq}
 use Rattle.std.proofs.lemmas.Bool.{and_parts, ltb-true, lt-ltb}
 use Rattle.std.proofs.lemmas.List.{append-nil, length-append}
 use Rattle.std.proofs.lemmas.List.Elements.{All-nil, All-cons}
 use Rattle.std.proofs.lemmas.Slice.Eq.{bytes_eq-Decides}
-use Rattle.serde_json.specs.Data.{Num, unsigned, Data, number, string, Members}
+use Rattle.serde_json.specs.Data.{unsigned, Data, number, string, Members}
 use Rattle.serde_json.specs.Find.{get_member, as_u64}
 use Rattle.mc_text.specs.Addr.{dotted}
 use Rattle.mc_theory.specs.Nets.{Interface}
 use Rattle.mc_theory.specs.Certificates.{Entry}
 use Rattle.mc_topology.specs.declared.flow.Flow.{Flow}
-use Rattle.mc_topology.specs.Answer.{◌>>=◌}
 use Rattle.mc_topology.specs.Names.{index_of}
 use Rattle.mc_topology.specs.Rows.{RouterRow}
 use Rattle.mc_topology.specs.Routers.{router_no_of}
@@ -30,7 +28,7 @@ use Rattle.mc_cert.specs.Object.{text_of, number_of, object_of, text_at, number_
 use Rattle.mc_cert.specs.Entries.{entry_keys, lan_in, router_of, vif_of, forwarder_of, entry_of, entries_of}
 use Rattle.mc_cert.specs.VersionOne.{is_flow, flow_at, flow_keys, reached_of, flow_of}
 use Rattle.mc_cert.specs.VersionTwo.{listed_of, tree_of, below, shared_keys, tree_no_of, shared_flow_of}
-use Rattle.mc_cert.specs.Stands.{HasText, HasNumber, HasRows, EachStands, IsInterface, IsForwarder, IsEntry, AreEntries, IsFlow, IsTree, IsSharedFlow}
+use Rattle.mc_cert.specs.Stands.{HasText, HasNumber, HasRows, EachStands, IsInterface, IsForwarder, IsEntry, AreEntries, IsFlow, IsTree}
 use Rattle.mc_cert.proofs.Fields.{as_u64-is, text_of-takes, number_of-takes, text_at-takes, text_at-again, number_at-takes, number_at-again, within-takes, within-again, whole_at-takes, whole_at-again, object_of-takes, object_of-again, list_of-takes, list_of-again, list_at-takes, list_at-again, at_most-takes, at_most-again}
 
 -- ---- rows

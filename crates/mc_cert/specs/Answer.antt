@@ -1,5 +1,5 @@
 -- Steps that may be refused, and how a call answers them.
-use Rattle.std.specs.Prelude.{◌≡◌, ◌≢◌, ℕ, ◌+◌, List, [], ◌∷◌, ◌++◌, length, Result, Ok, Err}
+use Rattle.std.specs.Prelude.{◌≡◌, ◌≢◌, ℕ, List, [], ◌∷◌, ◌++◌, length, Result, Ok, Err}
 use Rattle.mc_cert.specs.declared.fault.CertPlace.{CertPlace}
 use Rattle.mc_cert.specs.declared.fault.CertPlace.TheVariants.{Top, Flow, FlowEntry, Tree, TreeEntry}
 use Rattle.mc_cert.specs.declared.fault.CertFaultKind.{CertFaultKind}

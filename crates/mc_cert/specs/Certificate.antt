@@ -26,6 +26,11 @@ pub record IsList (es : Tree) : Type 0 where
   pub few : length es ≤ 1024
   pub each : All IsListed es
 
+-- an entry whose numbers are bytes, as those of every certificate in memory are
+pub record IsOfBytes (e : Entry) : Type 0 where
+  pub rank : e.rank ≤ 255
+  pub need : e.need ≤ 255
+
 -- what every certificate keeps, by its trees and the numbers of the flows' trees
 pub record IsKept (trees : List Tree) (numbers : Option (List ℕ)) : Type 0 where
   pub lists : All IsList trees

@@ -1,7 +1,10 @@
 pub mod Answer
 pub mod Certificate
+pub mod CertificateText
+pub mod Distinct
 pub mod Entries
 pub mod Object
+pub mod Places
 pub mod PlaceText
 pub mod Reading
 pub mod Stands

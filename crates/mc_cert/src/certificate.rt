@@ -1,11 +1,14 @@
 //! A certificate and what it answers.
 
-ghost use Rattle.std.specs.Prelude.{◌≡◌, ◌<◌, ◌≤◌, All, length, map, Some, None, slice_get, option_map};
+ghost use Rattle.std.specs.Prelude.{◌≡◌, ◌<◌, ◌≤◌, All, length, map, Some, None, slice_get, option_map, string_bytes};
 ghost use Rattle.mc_cert.specs.Certificate.{IsList, flows_of, tree_at};
 
+use crate::distinct::{Distinct, distinct_trees};
 use crate::fault::CertFault;
 use crate::reached::{FlowCert, Reached};
 use crate::read::reading_of;
+use crate::written::{push_flows, push_trees};
+use mc_text::Memory;
 use mc_topology::Topology;
 use std::alloc::Global;
 use std::marker::Model;
@@ -32,7 +35,8 @@ impl Model for Certificate {
 impl Certificate {
     ghost use Rattle.std.specs.Prelude.{List, IfOk, Ok};
     ghost use Rattle.mc_cert.specs.Answer.{Gives};
-    ghost use Rattle.mc_cert.specs.Certificate.{Tree};
+    ghost use Rattle.mc_cert.specs.Certificate.{Tree, BelongsTo};
+    ghost use Rattle.mc_cert.specs.CertificateText.{certificate_text};
     ghost use Rattle.mc_cert.specs.Reading.{reading_of};
     ghost use Rattle.mc_cert.specs.Stands.{CertificateStands};
 
@@ -131,5 +135,23 @@ impl Certificate {
             group: listed.group,
             reached: self.listed_tree(flow),
         }
+    }
+
+    /// The JSON text of the certificate, in version 2, for the topology that it belongs to: compact, on one
+    /// line without a line feed. Each different tree is written once, in the order of first use.
+    pub fn to_json(&self, alloc: Global, topology: &Topology) -> Result<String, Memory>
+        requires { BelongsTo topology.now self.now }
+        ensures text { IfOk result (λ text. string_bytes text ≡ certificate_text topology.now self.now) }
+        ensures stands { IfOk result (λ text. length (string_bytes text) ≤ 16777216 →
+            CertificateStands topology.now (string_bytes text) self.now) }
+    {
+        let _rules = topology.flows();
+        let Distinct { trees, places } = distinct_trees(alloc, &self.trees, &self.tree_of_flow)?;
+        let mut text = String::from_str(alloc, r#"{"flows":["#)?;
+        push_flows(&mut text, topology, &places)?;
+        text.push_str(r#"],"trees":["#)?;
+        push_trees(&mut text, topology, &self.trees, &trees)?;
+        text.push_str(r#"],"version":2}"#)?;
+        Ok(text)
     }
 }

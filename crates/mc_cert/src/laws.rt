@@ -1,8 +1,9 @@
 //! What follows from the definitions alone, for whoever builds on them.
 
-ghost use Rattle.std.specs.Prelude.{◌≡◌, ◌↔◌, ℕ, List, Ok};
-ghost use Rattle.mc_topology.specs.Topology.{TopologyValue};
-ghost use Rattle.mc_cert.specs.Certificate.{Tree, BelongsTo};
+ghost use Rattle.std.specs.Prelude.{◌≡◌, ◌↔◌, ℕ, ◌≤◌, All, List, length, Ok};
+ghost use Rattle.mc_topology.specs.Topology.{TopologyValue, IsTopology};
+ghost use Rattle.mc_cert.specs.Certificate.{Tree, IsList, IsOfBytes, BelongsTo};
+ghost use Rattle.mc_cert.specs.CertificateText.{certificate_text};
 ghost use Rattle.mc_cert.specs.Reading.{reading_of};
 ghost use Rattle.mc_cert.specs.Stands.{CertificateStands};
 
@@ -19,4 +20,13 @@ pub fn certificates_are_read_as_they_stand()
 pub fn texts_stand_for_certificates()
     ensures { (t : TopologyValue) (text : List ℕ) (flows : List Tree) →
         CertificateStands t text flows → BelongsTo t flows }
+{}
+
+/// The text of a certificate that belongs to a topology stands for it, where it isn't longer than a text
+/// may be. The rules of a topology in memory stand in the clauses `rules` of its methods.
+pub fn texts_of_certificates_stand_for_them()
+    ensures { (t : TopologyValue) (flows : List Tree) → IsTopology t → BelongsTo t flows →
+        All IsList flows → All (All IsOfBytes) flows →
+        length (certificate_text t flows) ≤ 16777216 →
+        CertificateStands t (certificate_text t flows) flows }
 {}

@@ -3,6 +3,7 @@
 #![tactic(auto)]
 
 mod certificate;
+mod distinct;
 mod entry;
 mod fault;
 mod laws;
@@ -12,10 +13,14 @@ mod read;
 mod version;
 mod version_one;
 mod version_two;
+mod written;
 
 pub use certificate::Certificate;
 pub use fault::{CertFault, CertFaultKind, CertPlace};
-pub use laws::{certificates_are_read_as_they_stand, texts_stand_for_certificates};
+pub use laws::{
+    certificates_are_read_as_they_stand, texts_of_certificates_stand_for_them,
+    texts_stand_for_certificates,
+};
 pub use reached::{FlowCert, Reached};
 
 #[cfg(test)]

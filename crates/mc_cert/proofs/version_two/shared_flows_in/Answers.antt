@@ -1,5 +1,4 @@
-use Rattle.std.proofs.Common.{◌≡◌, ◌<◌, ℕ, All, map, length, subst, ◌∙◌, arith}
-use Rattle.std.proofs.lemmas.List.{length-map}
+use Rattle.std.proofs.Common.{◌≡◌, ◌<◌, ℕ, All, map, length, subst, arith}
 use Rattle.serde_json.specs.View.{view}
 use Rattle.mc_cert.proofs.Whole.{trees_listed, numbers_named}
 use Rattle.mc_cert.proofs.version_two.shared_flows_in.Goals as goal

@@ -1,0 +1,60 @@
+-- The JSON text of a certificate, in version 2: compact, on one line without a line feed, the keys of each
+-- object in their order. Names and addresses have no byte that JSON escapes.
+use Rattle.std.specs.Prelude.{ℕ, List, [], ◌∷◌, ◌++◌, map, codes, decimal, slice_get, Option, Some, None, option_map, unwrap_or}
+use Rattle.std.specs.List.{zip}
+use Rattle.mc_text.specs.Addr.{dotted}
+use Rattle.mc_theory.specs.Nets.{Interface}
+use Rattle.mc_theory.specs.Certificates.{Entry}
+use Rattle.mc_topology.specs.declared.flow.Flow.{Flow}
+use Rattle.mc_topology.specs.Topology.{TopologyValue}
+use Rattle.mc_cert.specs.Certificate.{Tree}
+use Rattle.mc_cert.specs.Distinct.{distinct_trees, place_of}
+
+-- the name of a LAN and of a router
+abbrev pub lan_name : TopologyValue → ℕ → List ℕ
+lan_name t lan = unwrap_or (slice_get t.lans lan) []
+
+abbrev pub router_name : TopologyValue → ℕ → List ℕ
+router_name t router = unwrap_or (option_map (λ r. r.name) (slice_get t.routers router)) []
+
+-- texts one after the other, the first one behind this separator and each other one behind a comma
+abbrev pub listed_after : List ℕ → List (List ℕ) → List ℕ
+listed_after separator [] = []
+listed_after separator (s ∷ ss) = separator ++ s ++ listed_after (codes ",") ss
+
+-- texts with commas between them
+abbrev pub listed : List (List ℕ) → List ℕ
+listed = listed_after []
+
+-- the keys of a forwarder, where there is one
+abbrev pub forwarder_text : TopologyValue → Option Interface → List ℕ
+forwarder_text t None = []
+forwarder_text t (Some i) =
+    codes ",\"router\":\"" ++ router_name t i.0 ++ codes "\",\"vif\":" ++ decimal i.1
+
+abbrev pub entry_text : TopologyValue → Entry → List ℕ
+entry_text t e =
+    codes "{\"lan\":\"" ++ lan_name t e.lan ++ codes "\",\"need\":" ++ decimal e.need ++ codes ",\"rank\":" ++ decimal e.rank
+    ++ forwarder_text t e.forwarder ++ codes "}"
+
+abbrev pub tree_text : TopologyValue → Tree → List ℕ
+tree_text t es = codes "[" ++ listed (map (entry_text t) es) ++ codes "]"
+
+-- a flow of the topology, and the place of its tree
+abbrev pub flow_text : Flow → ℕ → List ℕ
+flow_text f place =
+    codes "{\"group\":\"" ++ dotted f.group ++ codes "\",\"source\":\"" ++ dotted f.source ++ codes "\",\"tree\":" ++ decimal place
+    ++ codes "}"
+
+abbrev pub flow_texts : List Flow → List ℕ → List (List ℕ)
+flow_texts flows places = map (λ p. flow_text p.0 p.1) (zip flows places)
+
+-- the flows of the topology with these places, and the trees
+abbrev pub text_of : TopologyValue → List ℕ → List Tree → List ℕ
+text_of t places trees =
+    codes "{\"flows\":[" ++ listed (flow_texts t.flows places) ++ codes "],\"trees\":[" ++ listed (map (tree_text t) trees)
+    ++ codes "],\"version\":2}"
+
+-- the text of a certificate: each different tree once, in the order of first use
+abbrev pub certificate_text : TopologyValue → List Tree → List ℕ
+certificate_text t flows = text_of t (map (place_of (distinct_trees flows)) flows) (distinct_trees flows)

@@ -1,0 +1,35 @@
+-- The different trees of a certificate's flows, and the place of each flow's own among them.
+use Rattle.std.specs.Prelude.{ℕ, ◌==◌, ◌&&◌, Bool, List, [], ◌∷◌, ◌++◌, fold, position, Option, is_some, unwrap_or, if◌then◌else◌}
+use Rattle.std.specs.Option.{option_eq}
+use Rattle.std.specs.Cmp.Lexicographic.{pointwise}
+use Rattle.mc_theory.specs.Nets.{Interface}
+use Rattle.mc_theory.specs.Certificates.{Entry}
+use Rattle.mc_cert.specs.Certificate.{Tree}
+
+-- two interfaces, two entries, and two trees, entry by entry in order, are the same
+abbrev pub same_interface : Interface → Interface → Bool
+same_interface i j = i.0 == j.0 && i.1 == j.1
+
+abbrev pub same_entry : Entry → Entry → Bool
+same_entry a b =
+    a.lan == b.lan && (a.rank == b.rank && (a.need == b.need
+    && option_eq same_interface a.forwarder b.forwarder))
+
+abbrev pub same_tree : Tree → Tree → Bool
+same_tree = pointwise same_entry
+
+-- the place of a tree among trees, counted from 0
+abbrev pub place_in : List Tree → Tree → Option ℕ
+place_in trees es = position (same_tree es) trees
+
+-- the trees, and one more behind them if it is none of them
+abbrev pub with_tree : List Tree → Tree → List Tree
+with_tree trees es = if is_some (place_in trees es) then trees else trees ++ es ∷ []
+
+-- the different trees of flows, in the order of first use
+abbrev pub distinct_trees : List Tree → List Tree
+distinct_trees = fold with_tree []
+
+-- the place of a tree that stands among trees
+abbrev pub place_of : List Tree → Tree → ℕ
+place_of trees es = unwrap_or (place_in trees es) 0

@@ -15,3 +15,6 @@ mod verdict;
 pub use check::{check_all, check_flow};
 pub use shown::{ShownReason, ShownVerdict};
 pub use verdict::{Reason, Verdict};
+
+#[cfg(test)]
+mod tests;

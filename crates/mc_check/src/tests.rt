@@ -1,0 +1,12 @@
+//! Verdicts on lists of entries for small domains, and how they are written.
+
+mod all_flows;
+mod branches;
+mod entries;
+mod network;
+mod rows;
+mod served;
+mod shown;
+mod third_router;
+mod thresholds;
+mod vifs;

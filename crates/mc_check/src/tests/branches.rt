@@ -1,0 +1,65 @@
+//! Two branches from the source's LAN: the verdict, and each order of handling the copies.
+
+use super::network::{CHAIN, FORWARDS, Network, SECOND, SOURCE, THIRD, domain_of, verdict_on};
+use super::served::BRANCHES;
+use mc_forward::{Domain, Flight};
+use mc_topology::LanNo;
+use std::alloc::Global;
+use std::process::Abort;
+use std::test::Fail;
+
+/// The chain and r3 from l0 to l3; l2 and l3 want the flow.
+const NETWORK: Network<'static> = Network {
+    topology: BRANCHES,
+    routers: &[FORWARDS, FORWARDS, FORWARDS],
+    wanting: &[2, 3],
+    ..CHAIN
+};
+
+#[test]
+fn both_branches_are_certified(rt: HostRuntime) -> Result<(), Fail> {
+    let alloc = rt.alloc();
+    let domain = domain_of(alloc, &NETWORK)?;
+    let entries = [SOURCE, SECOND, THIRD, (3, 1, 2, Some((2, 1)))];
+    let verdict = verdict_on(&rt, alloc, &domain, &entries)?;
+    assert_eq!(rt; verdict.as_str(), "yes copies 4");
+    Ok(())
+}
+
+/// What l0 to l3 carried of a packet once its copies were handled by these picks, and none waits.
+fn carried_by(
+    rt: &impl Abort,
+    alloc: Global,
+    domain: &Domain,
+    ttl: u8,
+    picks: [usize; 3],
+) -> Result<[u32; 4], Fail> {
+    assert!(rt; domain.topology().flows() > 0);
+    let mut flight = Flight::start(alloc, domain, 0, ttl)?;
+    for pick in picks {
+        assert!(rt; pick < flight.waiting());
+        let _event = flight.handle(pick)?;
+    }
+    assert_eq!(rt; flight.waiting(), 0);
+    assert!(rt; flight.strays().is_empty());
+    Ok([
+        flight.carried(LanNo(0)),
+        flight.carried(LanNo(1)),
+        flight.carried(LanNo(2)),
+        flight.carried(LanNo(3)),
+    ])
+}
+
+#[test]
+fn each_order_carries_what_is_certified(rt: HostRuntime) -> Result<(), Fail> {
+    let alloc = rt.alloc();
+    let domain = domain_of(alloc, &NETWORK)?;
+    for picks in [[0, 0, 0], [0, 1, 0], [1, 0, 0]] {
+        let carried = carried_by(&rt, alloc, &domain, 3, picks)?;
+        assert_eq!(rt; carried, [1, 1, 1, 1], "by {picks:?}");
+        // A TTL of 2 is below the need of l2.
+        let low = carried_by(&rt, alloc, &domain, 2, picks)?;
+        assert_eq!(rt; low, [1, 1, 0, 1], "by {picks:?}");
+    }
+    Ok(())
+}

@@ -1,0 +1,57 @@
+//! Reasons and verdicts as they are written.
+
+use super::network::{CHAIN, domain_of};
+use crate::{Reason, Verdict};
+use mc_topology::{LanNo, RouterNo};
+use std::test::Fail;
+
+const R2: RouterNo = RouterNo(1);
+
+const R3: RouterNo = RouterNo(2);
+
+const L0: LanNo = LanNo(0);
+
+const L2: LanNo = LanNo(2);
+
+const L3: LanNo = LanNo(3);
+
+#[test]
+fn reasons(rt: HostRuntime) -> Result<(), Fail> {
+    let domain = domain_of(rt.alloc(), &CHAIN)?;
+    for (reason, text) in [
+        (Reason::TwoEntries(L2), "TwoEntries l2"),
+        (Reason::BadSource, "BadSource"),
+        (Reason::Wildcard(R2, 0), "Wildcard r2 0"),
+        (Reason::Stray(R2, 31), "Stray r2 31"),
+        (Reason::Extra(R2, 1, L0), "Extra r2 1 l0"),
+        (Reason::WrongRank(L2), "WrongRank l2"),
+        (Reason::WrongNeed(L2), "WrongNeed l2"),
+        (Reason::Unfed(L2), "Unfed l2"),
+        (Reason::Missed(L2), "Missed l2"),
+        (Reason::Low(L0), "Low l0"),
+        // Names that the topology hasn't.
+        (Reason::Missed(L3), "Missed "),
+        (Reason::Stray(R3, 255), "Stray  255"),
+        (Reason::Extra(R3, 1, L3), "Extra  1 "),
+        (Reason::Low(LanNo(u32::MAX)), "Low "),
+    ] {
+        let shown = reason.shown(domain.topology()).to_string(rt.alloc())?;
+        assert_eq!(rt; shown.as_str(), text);
+    }
+    Ok(())
+}
+
+#[test]
+fn verdicts(rt: HostRuntime) -> Result<(), Fail> {
+    let domain = domain_of(rt.alloc(), &CHAIN)?;
+    for (verdict, text) in [
+        (Verdict::Yes { copies: 1 }, "yes copies 1"),
+        (Verdict::Yes { copies: 1024 }, "yes copies 1024"),
+        (Verdict::No(Reason::BadSource), "no BadSource"),
+        (Verdict::No(Reason::Extra(R2, 1, L0)), "no Extra r2 1 l0"),
+    ] {
+        let shown = verdict.shown(domain.topology()).to_string(rt.alloc())?;
+        assert_eq!(rt; shown.as_str(), text);
+    }
+    Ok(())
+}

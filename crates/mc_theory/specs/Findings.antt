@@ -3,7 +3,7 @@
 use Rattle.std.specs.Prelude.{IsTrue, ◌↔◌}
 use Rattle.std.specs.Prelude.{◌≡◌, ℕ, zero, suc, ◌-◌, ◌<◌, ◌%◌, Bool, false, ◌||◌, ◌==◌}
 use Rattle.std.specs.Prelude.{if◌then◌else◌, List, [], ◌∷◌, ◌++◌, length, Option, Some, None}
-use Rattle.std.specs.Prelude.{is_some}
+use Rattle.std.specs.Prelude.{is_some, ⊤}
 use Rattle.mc_theory.specs.Lists.{In, below}
 use Rattle.mc_theory.specs.Certificates.{lans}
 use Rattle.mc_theory.specs.Nets.{Net, Row, Interface}
@@ -153,6 +153,14 @@ IsTravel n count numbers last (i ∷ is) f x =
     (finding n count f ≡ None)
     × (i ≡ choice (length f.waiting) numbers last)
     × IsTravel n count (rest numbers) last is (step n i f) x
+
+-- The same of a travel under way, whose last flight may show something or nothing yet.
+abbrev pub IsUnderWay : Net → ℕ → List ℕ → Bool → List ℕ → Flight → Type 0
+IsUnderWay n count numbers last [] f = ⊤
+IsUnderWay n count numbers last (i ∷ is) f =
+    (finding n count f ≡ None)
+    × (i ≡ choice (length f.waiting) numbers last)
+    × IsUnderWay n count (rest numbers) last is (step n i f)
 
 -- a travel's picks as those of a run
 abbrev pub handles : List ℕ → List Pick

@@ -145,6 +145,10 @@ abbrev pub rest : List ℕ → List ℕ
 rest [] = []
 rest (x ∷ xs) = xs
 
+-- what a picker chooses by after a choice
+abbrev pub after_choice : Choices → Choices
+after_choice c = record { numbers = rest c.numbers; last = c.last }
+
 -- From flight f on these picks are the picker's choices, no flight on the way shows anything, and
 -- the last one shows x.
 abbrev pub IsTravel : Net → ℕ → List ℕ → Bool → List ℕ → Flight → Finding → Type 0

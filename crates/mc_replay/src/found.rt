@@ -9,7 +9,7 @@ ghost use Rattle.mc_replay.specs.Firsts.{AreFirsts};
 ghost use Rattle.mc_replay.specs.FlowNet.{flow_net};
 
 use crate::finding::Finding;
-use crate::firsts::first_on;
+use crate::firsts::{first_on, sender_on};
 use crate::followed::Followed;
 use mc_forward::{Carried, Flight};
 use mc_topology::LanNo;
@@ -39,10 +39,7 @@ fn comes_by_its_lan(
         if lan == copy.lan {
             return true;
         }
-        sender = match first_on(firsts, lan) {
-            Some(first) => first.sender,
-            None => None,
-        };
+        sender = sender_on(firsts, lan);
     }
     false
 }

@@ -53,6 +53,9 @@ pub fn replay_to_end<'d, P: Picker>(
     ensures run { IfOk result (λ ended. IsRunTo
         (replay_of domain.now flow ttl (P.choices picker.old)) ended.travel
         ended.flight.flight) }
+    // It has at most as many events as there are placed interfaces.
+    ensures short { IfOk result (λ ended. HasShortTravel
+        (replay_of domain.now flow ttl (P.choices picker.old)) ended.travel) }
 {
     let followed = Followed::new(domain, flow);
     let mut firsts = no_firsts(alloc, followed.lans())?;

@@ -15,5 +15,5 @@ pub use picker::{First, Last, Numbers, Picker};
 pub use shown::{ShownEvent, ShownFinding, shown_event};
 pub use travel::{Ended, Travel, replay, replay_to_end};
 
-
-
+#[cfg(test)]
+mod tests;

@@ -1,6 +1,6 @@
 //! Small networks, and the texts of travels through them.
 
-use crate::{First, Picker, Travel, replay, shown_event};
+use crate::{Picker, Travel, replay, shown_event};
 use mc_forward::{Domain, Tables};
 use mc_igmp::ReportList;
 use mc_tables::{CacheTable, VifTable};
@@ -52,35 +52,46 @@ pub(super) const NONE: &str = "";
 /// A report that wants all sources of 239.1.2.3.
 const WANTED: &str = "2200eaf90000000102000000ef010203\n";
 
+/// A network: its third router's interfaces, and each router's vifs and row. r1 is on l0 and l1, r2 on l1 and
+/// l2, and l2 wants the first flow.
+pub(super) type Network<'a> = (&'a str, [(&'a str, &'a str); 3]);
+
+fn topology_of(alloc: Global, third: &str) -> Result<Topology, Fail> {
+    let mut text = String::from_str(alloc, ROUTERS)?;
+    text.push_str(third)?;
+    text.push_str(FLOWS)?;
+    Ok(Topology::read(alloc, text.as_bytes())?)
+}
+
 /// The tables of a router with these vifs and this row.
 fn tables_of(alloc: Global, vifs: &str, row: &str) -> Result<Tables, Fail> {
     let mut cache = String::from_str(alloc, "Group Origin Iif Pkts Bytes Wrong Oifs\n")?;
     cache.push_str(row)?;
-    Ok(Tables {
-        vifs: VifTable::read(alloc, vifs.as_bytes())?,
-        cache: CacheTable::read(alloc, cache.as_bytes(), Order::Little)?,
-    })
+    let cache = CacheTable::read(alloc, cache.as_bytes(), Order::Little)?;
+    let vifs = VifTable::read(alloc, vifs.as_bytes())?;
+    Ok(Tables { vifs, cache })
 }
 
-/// LANs l0 to l2, of which l2 wants the first flow; r1 on l0 and l1, r2 on l1 and l2, r3 by these
-/// interfaces; and each router's vifs and row.
-pub(super) fn domain_of(
-    alloc: Global,
-    third: &str,
-    routers: [(&str, &str); 3],
-) -> Result<Domain, Fail> {
-    let mut text = String::from_str(alloc, ROUTERS)?;
-    text.push_str(third)?;
-    text.push_str(FLOWS)?;
-    let topology = Topology::read(alloc, text.as_bytes())?;
+fn all_tables(alloc: Global, routers: &[(&str, &str)]) -> Result<Vec<Tables>, Fail> {
     let mut tables = Vec::new(alloc);
     for (vifs, row) in routers {
         tables.push(tables_of(alloc, vifs, row)?)?;
     }
+    Ok(tables)
+}
+
+fn all_reports(alloc: Global) -> Result<Vec<ReportList>, Fail> {
     let mut reports = Vec::new(alloc);
     for text in ["", "", WANTED] {
         reports.push(ReportList::read(alloc, text.as_bytes())?)?;
     }
+    Ok(reports)
+}
+
+fn domain_of(alloc: Global, network: &Network<'_>) -> Result<Domain, Fail> {
+    let topology = topology_of(alloc, network.0)?;
+    let tables = all_tables(alloc, &network.1)?;
+    let reports = all_reports(alloc)?;
     match Domain::assemble(alloc, topology, tables, reports) {
         Ok(domain) => Ok(domain),
         Err(refused) => Err(refused.fault)?,
@@ -88,17 +99,17 @@ pub(super) fn domain_of(
 }
 
 /// The events of a travel, a line each, and what it finds.
-fn text_of(alloc: Global, domain: &Domain, travel: &Travel) -> Result<String, Fail> {
+fn text_of(alloc: Global, topology: &Topology, travel: &Travel) -> Result<String, Fail> {
     let mut text = String::new(alloc);
     for event in &travel.events {
-        writeln!(text, "{}", shown_event(*event, domain.topology()))?;
+        writeln!(text, "{}", shown_event(*event, topology))?;
     }
-    write!(text, "{}", travel.finding.shown(domain.topology()))?;
+    write!(text, "{}", travel.finding.shown(topology))?;
     Ok(text)
 }
 
 /// The travel of a packet of a flow with this TTL, as a text.
-pub(super) fn travel_of<P: Picker>(
+fn travel_of<P: Picker>(
     rt: &impl Abort,
     alloc: Global,
     domain: &Domain,
@@ -109,24 +120,20 @@ pub(super) fn travel_of<P: Picker>(
     assert!(rt; flow < domain.topology().flows());
     assert!(rt; ttl > 0);
     let travel = replay(alloc, domain, flow, ttl, picker)?;
-    text_of(alloc, domain, &travel)
+    text_of(alloc, domain.topology(), &travel)
 }
 
-/// A network by its third router's interfaces and all routers' vifs and rows.
-pub(super) type Network<'a> = (&'a str, [(&'a str, &'a str); 3]);
-
-/// The packet of the first flow with this TTL has this travel where the first waiting copy is handled each
-/// time.
-pub(super) fn travels(
+/// The packet, by the number of its flow and its TTL, has this travel by the picker's choices.
+pub(super) fn travels<P: Picker>(
     rt: &impl Abort,
     alloc: Global,
-    network: Network<'_>,
-    ttl: u8,
+    network: &Network<'_>,
+    packet: (u32, u8),
+    picker: &mut P,
     travel: &str,
 ) -> Result<(), Fail> {
-    let (third, routers) = network;
-    let domain = domain_of(alloc, third, routers)?;
-    let text = travel_of(rt, alloc, &domain, (0, ttl), &mut First)?;
+    let domain = domain_of(alloc, network)?;
+    let text = travel_of(rt, alloc, &domain, packet, picker)?;
     assert_eq!(rt; text.as_str(), travel);
     Ok(())
 }

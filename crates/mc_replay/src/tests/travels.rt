@@ -22,8 +22,9 @@ fn each_wanting_lan_is_reached(rt: HostRuntime) -> Result<(), Fail> {
     travels(
         &rt,
         rt.alloc(),
-        CHAIN,
-        3,
+        &CHAIN,
+        (0, 3),
+        &mut First,
         "r1 0 ttl 3 sent 1 strayed 0
 r2 0 ttl 2 sent 1 strayed 0
 Clean",
@@ -35,8 +36,9 @@ fn low_ttl_misses_a_lan(rt: HostRuntime) -> Result<(), Fail> {
     travels(
         &rt,
         rt.alloc(),
-        CHAIN,
-        2,
+        &CHAIN,
+        (0, 2),
+        &mut First,
         "r1 0 ttl 2 sent 1 strayed 0
 r2 0 ttl 1 sent 0 strayed 0
 Missed l2",
@@ -51,8 +53,9 @@ fn extra_entry_makes_a_duplicate(rt: HostRuntime) -> Result<(), Fail> {
     travels(
         &rt,
         rt.alloc(),
-        (third, [(VIFS, ON), (VIFS, ON), (VIFS, ON)]),
-        3,
+        &(third, [(VIFS, ON), (VIFS, ON), (VIFS, ON)]),
+        (0, 3),
+        &mut First,
         "r1 0 ttl 3 sent 1 strayed 0
 r3 0 ttl 3 sent 1 strayed 0
 r2 0 ttl 2 sent 1 strayed 0
@@ -69,8 +72,9 @@ fn way_back_makes_a_loop(rt: HostRuntime) -> Result<(), Fail> {
     travels(
         &rt,
         rt.alloc(),
-        (third, routers),
-        4,
+        &(third, routers),
+        (0, 4),
+        &mut First,
         "r1 0 ttl 4 sent 1 strayed 0
 r3 1 ttl 4 other vif
 r2 0 ttl 3 sent 1 strayed 0
@@ -80,8 +84,9 @@ Loop l0",
     travels(
         &rt,
         rt.alloc(),
-        (third, routers),
-        3,
+        &(third, routers),
+        (0, 3),
+        &mut First,
         "r1 0 ttl 3 sent 1 strayed 0
 r3 1 ttl 3 other vif
 r2 0 ttl 2 sent 1 strayed 0
@@ -95,8 +100,9 @@ fn copy_sent_back_is_a_loop(rt: HostRuntime) -> Result<(), Fail> {
     travels(
         &rt,
         rt.alloc(),
-        first_router(VIFS, "030201EF 0500000A 0 0 0 0 0:1 1:1\n"),
-        3,
+        &first_router(VIFS, "030201EF 0500000A 0 0 0 0 0:1 1:1\n"),
+        (0, 3),
+        &mut First,
         "r1 0 ttl 3 sent 2 strayed 0
 Loop l0",
     )
@@ -111,8 +117,9 @@ fn two_vifs_on_a_lan_make_a_loop(rt: HostRuntime) -> Result<(), Fail> {
     travels(
         &rt,
         rt.alloc(),
-        (third, [(VIFS, ON), (VIFS, ON), (VIFS, row)]),
-        3,
+        &(third, [(VIFS, ON), (VIFS, ON), (VIFS, row)]),
+        (0, 3),
+        &mut First,
         "r1 0 ttl 3 sent 1 strayed 0
 r2 0 ttl 2 sent 1 strayed 0
 r3 1 ttl 2 sent 1 strayed 0
@@ -125,8 +132,9 @@ fn register_vif_strays(rt: HostRuntime) -> Result<(), Fail> {
     travels(
         &rt,
         rt.alloc(),
-        first_router(REGISTER, "030201EF 0500000A 0 0 0 0 1:1 2:1\n"),
-        3,
+        &first_router(REGISTER, "030201EF 0500000A 0 0 0 0 1:1 2:1\n"),
+        (0, 3),
+        &mut First,
         "r1 0 ttl 3 sent 1 strayed 1
 Stray r1 2",
     )
@@ -137,8 +145,9 @@ fn second_copy_is_found_before_a_stray(rt: HostRuntime) -> Result<(), Fail> {
     travels(
         &rt,
         rt.alloc(),
-        first_router(REGISTER, "030201EF 0500000A 0 0 0 0 0:1 1:1 2:1\n"),
-        3,
+        &first_router(REGISTER, "030201EF 0500000A 0 0 0 0 0:1 1:1 2:1\n"),
+        (0, 3),
+        &mut First,
         "r1 0 ttl 3 sent 2 strayed 1
 Loop l0",
     )
@@ -155,16 +164,27 @@ fn rows_that_are_not_exact(rt: HostRuntime) -> Result<(), Fail> {
         let alloc = rt.alloc();
         let front = "r1 0 ttl 3 sent 1 strayed 0\nr2 0 ttl 2 ";
         let text = format!(in alloc; "{front}{end}")?;
-        travels(&rt, alloc, second_router(row), 3, text.as_str())?;
+        travels(
+            &rt,
+            alloc,
+            &second_router(row),
+            (0, 3),
+            &mut First,
+            text.as_str(),
+        )?;
     }
     Ok(())
 }
 
 #[test]
 fn another_flow_has_rows_of_its_own(rt: HostRuntime) -> Result<(), Fail> {
-    let alloc = rt.alloc();
-    let domain = domain_of(alloc, CHAIN.0, CHAIN.1)?;
-    let text = travel_of(&rt, alloc, &domain, (1, 3), &mut First)?;
-    assert_eq!(rt; text.as_str(), "r1 0 ttl 3 no row\nClean");
-    Ok(())
+    travels(
+        &rt,
+        rt.alloc(),
+        &CHAIN,
+        (1, 3),
+        &mut First,
+        "r1 0 ttl 3 no row
+Clean",
+    )
 }

@@ -1,6 +1,5 @@
 -- What the run of a picker's choices shows.
-use Rattle.std.proofs.Common.{◌≡◌, ◌≢◌, ℕ, ◌≤◌, length, sym, subst}
-use Rattle.mc_theory.specs.Nets.{Net}
+use Rattle.std.proofs.Common.{ℕ, ◌≤◌, length, sym, subst}
 use Rattle.mc_theory.specs.Flights.{Flight}
 use Rattle.mc_theory.specs.Findings.{Choices, WalksEnd}
 use Rattle.mc_theory.specs.Shown.{Shows}

@@ -21,7 +21,7 @@ loop-step-preserved c =
     let own : c.copy.inside.lan ≡ l = ap (λ (x : Copy). x.lan) c.copy.view_is in
     let other : (p == l) ≡ false = ap (λ q. p == q) (sym own) ∙ (sym c.eq.ensures ∙ c.if-eq.false) in
     let next : c.sender_on-sender.result ≡ sender_on cs p =
-        c.sender_on-sender.ensures ∙ (ap (option_and_then (λ (x : Copy). x.sender)) (c.requires.firsts p) ∙ sender-first cs p) in
+    c.sender_on-sender.ensures ∙ (ap (option_and_then (λ (x : Copy). x.sender)) (c.requires.firsts p) ∙ sender-first cs p) in
     record {
       rest = ap (λ (x : Option Interface). meets n cs l k x) next
           ∙ (sym (meets-turn n cs l k c.loop-step.sender p from other)

@@ -1,6 +1,5 @@
 -- Event by event.
-use Rattle.std.proofs.Common.{◌≡◌, ℕ, ◌+◌, ◌-◌, ◌<◌, [], ◌∷◌, ◌++◌, length, take, drop, slice_get, None, Some, ap, sym, subst, ◌∙◌, arith, length-append}
-use Rattle.mc_theory.specs.Flights.{Copy, Flight}
+use Rattle.std.proofs.Common.{◌≡◌, ℕ, [], ◌∷◌, length, slice_get, None, Some, ap, sym, subst, ◌∙◌, arith, length-append}
 use Rattle.mc_theory.specs.Findings.{choice, finding}
 use Rattle.mc_forward.specs.Domains.{DomainValue, net_of}
 use Rattle.mc_forward.specs.Journeys.{Journey}
@@ -35,7 +34,7 @@ pub returns-in-Some-clause-run : goal.returns-in-Some-clause-run
 returns-in-Some-clause-run g c =
     let d = c.args.domain.now in
     let shows = found-at c.new-followed.result.domain.now d c.new-followed.result.flow c.args.flow c.travel.flight.flight (Some (finding_value c.in-Some.finding))
-        c.new-followed.ensures.domain c.new-followed.ensures.flow c.in-Some.ensures in
+    c.new-followed.ensures.domain c.new-followed.ensures.flow c.in-Some.ensures in
     way-end (net_of d c.args.flow) (length d.topology.lans) _ _ _ _ _ _ c.travel.invariant.way shows
 
 pub returns-in-Some-clause-short : goal.returns-in-Some-clause-short
@@ -47,9 +46,9 @@ travel-smaller g c =
     let n = net_of d c.args.flow in
     let f = c.travel.flight.flight in
     let none : finding n (length d.topology.lans) f ≡ None =
-        found-at c.new-followed.result.domain.now d c.new-followed.result.flow c.args.flow f None c.new-followed.ensures.domain c.new-followed.ensures.flow c.in_default.ensures in
+    found-at c.new-followed.result.domain.now d c.new-followed.result.flow c.args.flow f None c.new-followed.ensures.domain c.new-followed.ensures.flow c.in_default.ensures in
     let chosen = c.pick-pick.ensures.value
-        ∙ ap (λ (w : ℕ). choice w (g.P.Picker.choices c.travel.picker).numbers (g.P.Picker.choices c.travel.picker).last) c.waiting.ensures in
+    ∙ ap (λ (w : ℕ). choice w (g.P.Picker.choices c.travel.picker).numbers (g.P.Picker.choices c.travel.picker).last) c.waiting.ensures in
     let room = way-room n (length d.topology.lans) _ _ _ _ _ c.pick-pick.result c.travel.invariant.way none chosen in
     let more = ap length c.in_ok-push.ensures.items in
     omega (arith, room, more, length-append c.travel.events.items (c.in_ok-handle.field-0 ∷ []))
@@ -60,9 +59,9 @@ travel-preserved g c =
     let n = net_of d c.args.flow in
     let f = c.travel.flight.flight in
     let none : finding n (length d.topology.lans) f ≡ None =
-        found-at c.new-followed.result.domain.now d c.new-followed.result.flow c.args.flow f None c.new-followed.ensures.domain c.new-followed.ensures.flow c.in_default.ensures in
+    found-at c.new-followed.result.domain.now d c.new-followed.result.flow c.args.flow f None c.new-followed.ensures.domain c.new-followed.ensures.flow c.in_default.ensures in
     let chosen = c.pick-pick.ensures.value
-        ∙ ap (λ (w : ℕ). choice w (g.P.Picker.choices c.travel.picker).numbers (g.P.Picker.choices c.travel.picker).last) c.waiting.ensures in
+    ∙ ap (λ (w : ℕ). choice w (g.P.Picker.choices c.travel.picker).numbers (g.P.Picker.choices c.travel.picker).last) c.waiting.ensures in
     let inv = c.travel.invariant in
     let next = flown-at d c.args.flow c.pick-pick.result c.travel.flight c.handle.new.self inv.domain inv.flow c.in_ok-handle.ensures.ok in
     let event = seen-at d c.args.flow c.travel.flight (slice_get f.waiting c.pick-pick.result) c.in_ok-handle.field-0 inv.domain inv.flow c.in_ok-handle.ensures.event in

@@ -1,5 +1,5 @@
 -- The flight of one packet through a domain.
-use Rattle.std.specs.Prelude.{◌≡◌, ℕ, ◌<◌, List, length, take, Option, refl}
+use Rattle.std.specs.Prelude.{◌≡◌, ℕ, ◌<◌, List, length, take, Option, IfSome, refl}
 use Rattle.std.specs.Coded.{Coded, code_by, coded×, coded_list, coded_option, coded_ℕ}
 use Rattle.mc_theory.specs.Lists.{In}
 use Rattle.mc_theory.specs.Nets.{Net, Interface}
@@ -41,10 +41,20 @@ flown j f = record { domain = j.domain; flow = j.flow; flight = f }
 abbrev pub AtRouters : ℕ → Flight → Type 0
 AtRouters routers f = (w : Waiting) → In w f.waiting → w.router < routers
 
+-- a copy is on one of so many LANs, and one of so many routers sent it, if not the source
+pub record IsListed (lans routers : ℕ) (c : Copy) : Type 0 where
+  pub lan : c.lan < lans
+  pub sender : IfSome c.sender (λ i. i.0 < routers)
+
+-- copies were carried by LANs of the domain, sent by its routers
+abbrev pub AreListed : ℕ → ℕ → Flight → Type 0
+AreListed lans routers f = (c : Copy) → In c f.carried → IsListed lans routers c
+
 -- what every flight keeps
 pub record IsFlight (n : FlowIn) (f : Flight) : Type 0 where
   pub flow : IsFlowIn n
   pub routers : AtRouters (length n.domain.topology.routers) f
+  pub listed : AreListed (length n.domain.topology.lans) (length n.domain.topology.routers) f
 
 -- ---- how they are kept
 

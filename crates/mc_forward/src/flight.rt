@@ -1,7 +1,7 @@
 //! The flight of one packet: its copies from the source's on, one handling or loss after another.
 
 ghost use Rattle.std.specs.Prelude.{◌≡◌, ◌<◌, Some, length, min, IfOk, OnOk, OnErr, slice_get};
-ghost use Rattle.std.specs.Prelude.{option_map};
+ghost use Rattle.std.specs.Prelude.{option_map, All, IfSome};
 ghost use Rattle.mc_theory.specs.Flights.{copies_on, start, step, without};
 ghost use Rattle.mc_theory.specs.Events.{event_of};
 ghost use Rattle.mc_forward.specs.Domains.{net_of};
@@ -104,7 +104,11 @@ impl<'d> Flight<'d> {
 
     /// The copies that LANs carried, in order. The first is the source's.
     pub fn copies(&self) -> &[Carried]
-        ensures { result.now ≡ self.now.flight.carried }
+        ensures copies { result.now ≡ self.now.flight.carried }
+        // Each on a LAN of the topology, and sent by one of its routers if not by the source.
+        ensures lans { All (λ c. c.lan < length self.now.domain.topology.lans) result.now }
+        ensures senders { All (λ c. IfSome c.sender (λ i.
+            i.0 < length self.now.domain.topology.routers)) result.now }
     {
         self.copies.carried()
     }

@@ -10,7 +10,7 @@ use Rattle.mc_theory.specs.Certificates.{Entry, IsTree, IsServed, IsAccepted, Is
 use Rattle.mc_theory.specs.Certificates.{IsClean}
 use Rattle.mc_theory.specs.Findings.{Finding, copy_on, double, meets, missed, missed_finding}
 use Rattle.mc_theory.specs.Findings.{end_finding, stray_finding, double_finding, finding, choice}
-use Rattle.mc_theory.specs.Findings.{rest, IsTravel, handles}
+use Rattle.mc_theory.specs.Findings.{rest, IsTravel, IsUnderWay, handles}
 use Rattle.mc_theory.specs.Findings.Finding.{Clean, Duplicate, Loop, Stray, Missed}
 use Rattle.mc_theory.proofs.InLists.{in-append_left, in-push, in-push_cases, in-map, in-map_cases}
 use Rattle.mc_theory.proofs.InLists.{in-below}
@@ -298,6 +298,25 @@ travel-length n count k numbers last (i ∷ is) f x c le h =
     let ih = travel-length n count (suc k) (rest numbers) last is (step n i f) x
     (counted-step n k i f lt c) (omega (arith, c, b, some.1)) h.2 in
     omega (arith, ih)
+
+-- a travel under way: a next event is one of those, too
+under-way-length : (n : Net) (count k : ℕ) (numbers : List ℕ) (last : Bool) (is : List ℕ)
+    (f : Flight) → Counted n k f → k ≤ length (placed_vifs n) →
+    IsUnderWay n count numbers last is f → k + length is ≤ length (placed_vifs n)
+under-way-length n count k numbers last [] f c le h = omega arith
+under-way-length n count k numbers last (i ∷ is) f c le h =
+    let some = finding-none n count f h.0 in
+    let lt : i < length f.waiting = subst (λ k. k < length f.waiting) (sym h.1)
+    (choice-small (length f.waiting) numbers last some.1) in
+    let b = clean-heard n f some.0.once in
+    let ih = under-way-length n count (suc k) (rest numbers) last is (step n i f)
+    (counted-step n k i f lt c) (omega (arith, c, b, some.1)) h.2 in
+    omega (arith, ih)
+
+pub goes-on : (n : Net) (count t : ℕ) (numbers : List ℕ) (last : Bool) (is : List ℕ) →
+    IsUnderWay n count numbers last is (start n t) → length is ≤ length (placed_vifs n)
+goes-on n count t numbers last is way = let h = under-way-length n count 0 numbers last is
+    (start n t) (counted-start n t) (omega arith) way in omega (arith, h)
 
 pub ends : (n : Net) (count : ℕ) (t : ℕ) (numbers : List ℕ) (last : Bool) (is : List ℕ)
     (x : Finding) → IsNet n → IsTravel n count numbers last is (start n t) x →

@@ -3,7 +3,7 @@
 use Rattle.std.specs.Prelude.{IsTrue, ◌↔◌}
 use Rattle.std.specs.Prelude.{◌≡◌, ℕ, zero, suc, ◌-◌, ◌<◌, ◌%◌, Bool, false, ◌||◌, ◌==◌}
 use Rattle.std.specs.Prelude.{if◌then◌else◌, List, [], ◌∷◌, ◌++◌, length, Option, Some, None}
-use Rattle.std.specs.Prelude.{is_some}
+use Rattle.std.specs.Prelude.{is_some, ⊤}
 use Rattle.mc_theory.specs.Lists.{In, below}
 use Rattle.mc_theory.specs.Certificates.{lans}
 use Rattle.mc_theory.specs.Nets.{Net, Row, Interface}
@@ -145,6 +145,10 @@ abbrev pub rest : List ℕ → List ℕ
 rest [] = []
 rest (x ∷ xs) = xs
 
+-- what a picker chooses by after a choice
+abbrev pub after_choice : Choices → Choices
+after_choice c = record { numbers = rest c.numbers; last = c.last }
+
 -- From flight f on these picks are the picker's choices, no flight on the way shows anything, and
 -- the last one shows x.
 abbrev pub IsTravel : Net → ℕ → List ℕ → Bool → List ℕ → Flight → Finding → Type 0
@@ -153,6 +157,14 @@ IsTravel n count numbers last (i ∷ is) f x =
     (finding n count f ≡ None)
     × (i ≡ choice (length f.waiting) numbers last)
     × IsTravel n count (rest numbers) last is (step n i f) x
+
+-- The same of a travel under way, whose last flight may show something or nothing yet.
+abbrev pub IsUnderWay : Net → ℕ → List ℕ → Bool → List ℕ → Flight → Type 0
+IsUnderWay n count numbers last [] f = ⊤
+IsUnderWay n count numbers last (i ∷ is) f =
+    (finding n count f ≡ None)
+    × (i ≡ choice (length f.waiting) numbers last)
+    × IsUnderWay n count (rest numbers) last is (step n i f)
 
 -- a travel's picks as those of a run
 abbrev pub handles : List ℕ → List Pick

@@ -17,6 +17,7 @@ pub use certificate_laws::{
 };
 pub use travel_laws::{
     a_clean_travel_makes_a_tree, a_finding_says_what_the_flight_shows, a_finding_shows,
-    a_travel_ends, an_event_tells_what_its_step_did, clean_travels_certify,
-    each_copy_comes_of_an_earlier_one, needs_tell_the_second_travel, the_walk_back_ends,
+    a_travel_ends, a_travel_under_way_is_bounded, an_event_tells_what_its_step_did,
+    clean_travels_certify, each_copy_comes_of_an_earlier_one, needs_tell_the_second_travel,
+    the_walk_back_ends,
 };

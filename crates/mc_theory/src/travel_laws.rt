@@ -5,7 +5,7 @@ ghost use Rattle.std.specs.Prelude.{◌≡◌, ◌≢◌, ◌↔◌, ◌≤◌, 
 ghost use Rattle.mc_theory.specs.Nets.{Net, IsNet, WantsBelow, placed_vifs};
 ghost use Rattle.mc_theory.specs.Flights.{Flight, Pick, Waiting, start, step, run};
 ghost use Rattle.mc_theory.specs.Certificates.{Entry, IsTree, IsServed, IsAccepted, IsRight};
-ghost use Rattle.mc_theory.specs.Findings.{Finding, IsTravel, WalksEnd, handles};
+ghost use Rattle.mc_theory.specs.Findings.{Finding, IsTravel, IsUnderWay, WalksEnd, handles};
 ghost use Rattle.mc_theory.specs.Findings.Finding.{Clean};
 ghost use Rattle.mc_theory.specs.Made.{entries_of};
 ghost use Rattle.mc_theory.specs.Events.{event_of, copies_in, strays_in};
@@ -25,6 +25,13 @@ pub fn a_travel_ends()
     ensures { (n : Net) (count t : ℕ) (numbers : List ℕ) (last : Bool) (is : List ℕ) (x : Finding) →
         IsNet n → IsTravel n count numbers last is (start n t) x →
         length is ≤ length (placed_vifs n) }
+{}
+
+/// A travel under way has had at most as many events: as long as no flight shows anything, the next
+/// event is one of them too.
+pub fn a_travel_under_way_is_bounded()
+    ensures { (n : Net) (count t : ℕ) (numbers : List ℕ) (last : Bool) (is : List ℕ) →
+        IsUnderWay n count numbers last is (start n t) → length is ≤ length (placed_vifs n) }
 {}
 
 /// Two clean travels, one at TTL 255 and one at the flow's, give an accepted list: the entries

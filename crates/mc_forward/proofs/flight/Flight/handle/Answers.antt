@@ -1,8 +1,9 @@
 use Rattle.std.proofs.Common.{length}
 use Rattle.mc_theory.specs.Flights.{step}
-use Rattle.mc_forward.specs.Journeys.{AtRouters, net_in}
+use Rattle.mc_forward.specs.Journeys.{AtRouters, AreListed, net_in}
 use Rattle.mc_forward.proofs.DomainLemmas.{net-of_domain}
 use Rattle.mc_forward.proofs.RouterLemmas.{at-step, of-either}
+use Rattle.mc_forward.proofs.ListedLemmas.{listed-step, placed-below}
 use Rattle.mc_forward.proofs.flight.Flight.handle.Goals as goal
 
 pub invariant_of-self : goal.invariant_of-self
@@ -14,4 +15,7 @@ invariant_of-self c =
       flow = c.self.invariant.flow;
       routers = of-either c.handle.result (AtRouters (length n.domain.topology.routers)) c.handle.new.self (step (net_in n) c.args.index f) f
           c.handle.ensures.ok c.handle.ensures.err (at-step (net_in n) net c.args.index f c.self.invariant.routers) c.self.invariant.routers;
+      listed = of-either c.handle.result (AreListed (length n.domain.topology.lans) (length n.domain.topology.routers)) c.handle.new.self (step (net_in n) c.args.index f) f
+          c.handle.ensures.ok c.handle.ensures.err
+          (listed-step (net_in n) _ _ (placed-below n.domain n.flow c.self.invariant.flow.domain) c.args.index f c.self.invariant.routers c.self.invariant.listed) c.self.invariant.listed;
     }

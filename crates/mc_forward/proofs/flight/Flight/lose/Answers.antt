@@ -1,5 +1,5 @@
 use Rattle.std.proofs.Common.{length, sym, subst}
-use Rattle.mc_forward.specs.Journeys.{AtRouters}
+use Rattle.mc_forward.specs.Journeys.{AtRouters, AreListed}
 use Rattle.mc_forward.proofs.RouterLemmas.{at-without}
 use Rattle.mc_forward.proofs.flight.Flight.lose.Goals as goal
 
@@ -9,4 +9,5 @@ invariant_of-self c =
     record {
       flow = c.self.invariant.flow;
       routers = subst (AtRouters routers) (sym c.lose.ensures) (at-without routers c.args.index c.self.inside.copies c.self.invariant.routers);
+      listed = subst (AreListed (length c.self.inside.net.domain.topology.lans) routers) (sym c.lose.ensures) c.self.invariant.listed;
     }

@@ -1,0 +1,5 @@
+pub mod FirstLemmas
+pub mod MissedLemmas
+pub mod WalkLemmas
+pub mod TravelLemmas
+pub mod ShownLemmas

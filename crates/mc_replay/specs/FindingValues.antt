@@ -1,0 +1,17 @@
+-- The code's findings as those of the definitions.
+use Rattle.std.specs.Prelude.{Option, Some, None}
+use Rattle.mc_theory.specs.Findings.{Finding as FindingValue}
+use Rattle.mc_replay.specs.declared.finding.Finding.{Finding}
+use Rattle.mc_replay.specs.declared.finding.Finding.TheVariants.{Clean, Duplicate, Loop, Stray, Missed}
+
+abbrev pub finding_value : Finding → FindingValue
+finding_value Clean = FindingValue.Clean
+finding_value (Duplicate lan) = FindingValue.Duplicate lan
+finding_value (Loop lan) = FindingValue.Loop lan
+finding_value (Stray router vif) = FindingValue.Stray router vif
+finding_value (Missed lan) = FindingValue.Missed lan
+
+-- the finding that was made, if one was
+abbrev pub finding_seen : Option Finding → Option FindingValue
+finding_seen None = None
+finding_seen (Some finding) = Some (finding_value finding)

@@ -1,0 +1,10 @@
+pub mod FindingValues
+pub mod Travels
+pub mod TravelText
+pub mod Firsts
+pub mod FlowNet
+pub use Rattle.mc_theory.specs.Nets
+pub use Rattle.mc_theory.specs.Flights
+pub use Rattle.mc_theory.specs.Events
+pub use Rattle.mc_theory.specs.Findings
+pub use Rattle.mc_theory.specs.Shown

@@ -1,0 +1,31 @@
+-- How an event and a finding are written, by the names of a topology.
+use Rattle.std.specs.Prelude.{ℕ, List, [], ◌++◌, codes, decimal, slice_get, option_map, unwrap_or}
+use Rattle.mc_topology.specs.Topology.{TopologyValue}
+use Rattle.mc_theory.specs.Events.{Event, Outcome}
+use Rattle.mc_theory.specs.Events.Outcome.{Open, NoRow, OtherVif, Sent}
+use Rattle.mc_replay.specs.declared.finding.Finding.{Finding}
+use Rattle.mc_replay.specs.declared.finding.Finding.TheVariants.{Clean, Duplicate, Loop, Stray, Missed}
+
+-- the name of a LAN, and of a router; empty for a number that the topology hasn't
+abbrev pub lan_name : TopologyValue → ℕ → List ℕ
+lan_name t lan = unwrap_or (slice_get t.lans lan) []
+
+abbrev pub router_name : TopologyValue → ℕ → List ℕ
+router_name t router = unwrap_or (option_map (λ r. r.name) (slice_get t.routers router)) []
+
+abbrev pub outcome_text : Outcome → List ℕ
+outcome_text Open = codes "open"
+outcome_text NoRow = codes "no row"
+outcome_text OtherVif = codes "other vif"
+outcome_text (Sent copies strays) = codes "sent " ++ decimal copies ++ codes " strayed " ++ decimal strays
+
+-- `r1 0 ttl 3 sent 1 strayed 0`
+abbrev pub event_text : TopologyValue → Event → List ℕ
+event_text t e = router_name t e.router ++ codes " " ++ decimal e.vif ++ codes " ttl " ++ decimal e.ttl ++ codes " " ++ outcome_text e.outcome
+
+abbrev pub finding_text : TopologyValue → Finding → List ℕ
+finding_text t Clean = codes "Clean"
+finding_text t (Duplicate lan) = codes "Duplicate " ++ lan_name t lan
+finding_text t (Loop lan) = codes "Loop " ++ lan_name t lan
+finding_text t (Stray router vif) = codes "Stray " ++ router_name t router ++ codes " " ++ decimal vif
+finding_text t (Missed lan) = codes "Missed " ++ lan_name t lan

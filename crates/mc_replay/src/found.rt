@@ -1,0 +1,92 @@
+//! What a flight shows, if it shows something.
+
+ghost use Rattle.std.specs.Prelude.{◌≡◌, ◌<◌, All, IfSome, List, [], length};
+ghost use Rattle.mc_theory.specs.Lists.{below};
+ghost use Rattle.mc_theory.specs.Flights.{Copy};
+ghost use Rattle.mc_theory.specs.Findings.{double, finding, meets, missed};
+ghost use Rattle.mc_replay.specs.FindingValues.{finding_seen};
+ghost use Rattle.mc_replay.specs.Firsts.{AreFirsts};
+ghost use Rattle.mc_replay.specs.FlowNet.{flow_net};
+
+use crate::finding::Finding;
+use crate::firsts::{first_on, sender_on};
+use crate::followed::Followed;
+use mc_forward::{Carried, Flight};
+use mc_topology::LanNo;
+
+/// Whether the walk back from a copy, over the first copies of the LANs that each was taken from, comes by
+/// the copy's own LAN. The walk ends at the source's copy, before it has gone over as many LANs as there
+/// are copies.
+fn comes_by_its_lan(
+    followed: &Followed<'_>,
+    copies: &[Carried],
+    firsts: &[Option<Carried>],
+    copy: &Carried,
+) -> bool
+    requires firsts { AreFirsts firsts.now copies.now }
+    requires senders { All (λ c. IfSome c.sender (λ i.
+        i.0 < length followed.now.domain.now.topology.routers)) copies.now }
+    requires sender { IfSome copy.now.sender (λ i.
+        i.0 < length followed.now.domain.now.topology.routers) }
+    ensures { result ≡ meets (flow_net followed.now) copies.now copy.now.lan (length copies.now)
+        copy.now.sender }
+{
+    let mut sender = copy.sender;
+    for _step in copies {
+        let Some(lan) = followed.from_lan(sender) else {
+            return false;
+        };
+        if lan == copy.lan {
+            return true;
+        }
+        sender = sender_on(firsts, lan);
+    }
+    false
+}
+
+/// The lowest LAN that wants the flow and carried no copy.
+fn missed(followed: &Followed<'_>, firsts: &[Option<Carried>]) -> Option<LanNo>
+    ensures { (copies : List Copy) → AreFirsts firsts.now copies → result ≡
+        missed (flow_net followed.now) copies
+        (below (length followed.now.domain.now.topology.lans)) }
+{
+    for number in 0..followed.lans() {
+        let lan = LanNo(number);
+        if followed.wants(lan) && first_on(firsts, lan).is_none() {
+            return Some(lan);
+        }
+    }
+    None
+}
+
+/// The finding of a flight whose copies' firsts are these, and whose first second copy is this; none if
+/// the flight goes on.
+pub(crate) fn finding_of(
+    followed: &Followed<'_>,
+    flight: &Flight<'_>,
+    firsts: &[Option<Carried>],
+    second: Option<Carried>,
+) -> Option<Finding>
+    requires domain { flight.now.domain ≡ followed.now.domain.now }
+    requires firsts { AreFirsts firsts.now flight.now.flight.carried }
+    requires second { second ≡ double [] flight.now.flight.carried }
+    ensures { finding_seen result ≡ finding (flow_net followed.now)
+        (length followed.now.domain.now.topology.lans) flight.now.flight }
+{
+    if let Some(copy) = second {
+        if comes_by_its_lan(followed, flight.copies(), firsts, &copy) {
+            return Some(Finding::Loop(copy.lan));
+        }
+        return Some(Finding::Duplicate(copy.lan));
+    }
+    if let Some(stray) = flight.strays().first() {
+        return Some(Finding::Stray(stray.router, stray.vif));
+    }
+    if flight.waiting() > 0 {
+        return None;
+    }
+    match missed(followed, firsts) {
+        Some(lan) => Some(Finding::Missed(lan)),
+        None => Some(Finding::Clean),
+    }
+}

@@ -1,0 +1,19 @@
+//! The replayer: the travel of one packet through a domain, its copies handled in the order that a picker
+//! chooses, up to the first flight that shows something.
+#![tactic(auto)]
+
+mod finding;
+mod firsts;
+mod followed;
+mod found;
+mod picker;
+mod shown;
+mod travel;
+
+pub use finding::Finding;
+pub use picker::{First, Last, Numbers, Picker};
+pub use shown::{ShownEvent, ShownFinding, shown_event};
+pub use travel::{Ended, Travel, replay, replay_to_end};
+
+#[cfg(test)]
+mod tests;

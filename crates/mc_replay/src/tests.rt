@@ -1,0 +1,3 @@
+mod network;
+mod orders;
+mod travels;

@@ -1,0 +1,113 @@
+//! Travels of packets.
+
+ghost use Rattle.std.specs.Prelude.{◌≡◌, ◌<◌, IfOk, length};
+ghost use Rattle.mc_replay.specs.Travels.{HasShortTravel, IsRunOfChoices, IsRunTo, ShowsItsFinding, ShowsWrongFlow, WalksEndAtSource, replay_of};
+
+use crate::finding::Finding;
+use crate::firsts::{no_firsts, take_in};
+use crate::followed::Followed;
+use crate::found::finding_of;
+use crate::picker::Picker;
+use mc_forward::{Domain, Event, Flight};
+use mc_text::Memory;
+use std::alloc::Global;
+
+/// The travel of a packet: what its copies did, one handling after the other, up to the first flight that
+/// shows something, and what that shows.
+#[derive(Debug, Drop)]
+pub struct Travel {
+    /// The handlings, in order.
+    pub events: Vec<Event>,
+    /// What the flight after the last of them shows.
+    pub finding: Finding,
+}
+
+/// A travel with the flight that it ends with.
+#[derive(Drop)]
+pub struct Ended<'d> {
+    /// The travel.
+    pub travel: Travel,
+    /// The flight after its last event.
+    pub flight: Flight<'d>,
+}
+
+/// The travel of a packet of a flow with this time to live, 1 to 255, and the flight that it ends with.
+/// The picker may have been asked already where the answer is `Memory`.
+///
+/// # Errors
+///
+/// `Memory` where a growth was refused.
+pub fn replay_to_end<'d, P: Picker>(
+    alloc: Global,
+    domain: &'d Domain,
+    flow: u32,
+    ttl: u8,
+    picker: &mut P,
+) -> Result<Ended<'d>, Memory>
+    requires flow { flow < length domain.now.topology.flows }
+    requires ttl { 0 < ttl }
+    // The flight is one of the domain's flow,
+    ensures domain { IfOk result (λ ended. ended.flight.domain ≡ domain.now) }
+    ensures flow { IfOk result (λ ended. ended.flight.flow ≡ flow) }
+    // and the travel is the run of the picker's choices, up to this flight.
+    ensures run { IfOk result (λ ended. IsRunTo
+        (replay_of domain.now flow ttl (P.choices picker.old)) ended.travel
+        ended.flight.flight) }
+    // It has at most as many events as there are placed interfaces.
+    ensures short { IfOk result (λ ended. HasShortTravel
+        (replay_of domain.now flow ttl (P.choices picker.old)) ended.travel) }
+{
+    let followed = Followed::new(domain, flow);
+    let mut firsts = no_firsts(alloc, followed.lans())?;
+    let mut seen = 0;
+    let mut events = Vec::new(alloc);
+    let mut flight = Flight::start(alloc, domain, flow, ttl)?;
+    'travel: loop {
+        let copies = flight.copies();
+        let second = take_in(&mut firsts, copies, seen);
+        seen = copies.len();
+        if let Some(finding) = finding_of(&followed, &flight, &firsts, second) {
+            let travel = Travel { events, finding };
+            return Ok(Ended { travel, flight });
+        }
+        let pick = picker.pick(flight.waiting());
+        events.push(flight.handle(pick)?)?;
+    }
+}
+
+/// The travel of a packet of a flow with this time to live, 1 to 255, whose copies are handled in the order
+/// that the picker chooses. The picker may have been asked already where the answer is `Memory`.
+///
+/// # Errors
+///
+/// `Memory` where a growth was refused.
+pub fn replay<P: Picker>(
+    alloc: Global,
+    domain: &Domain,
+    flow: u32,
+    ttl: u8,
+    picker: &mut P,
+) -> Result<Travel, Memory>
+    requires flow { flow < length domain.now.topology.flows }
+    requires ttl { 0 < ttl }
+    // The travel is the run of the picker's choices: its events are exactly that run's, its finding is that
+    // of the flight which they end with, and no flight before shows anything.
+    ensures run { IfOk result (IsRunOfChoices
+        (replay_of domain.now flow ttl (P.choices picker.old))) }
+    // It has at most as many events as there are placed interfaces.
+    ensures short { IfOk result (HasShortTravel
+        (replay_of domain.now flow ttl (P.choices picker.old))) }
+    // That flight shows what the words of the finding say:
+    ensures shown { IfOk result (ShowsItsFinding
+        (replay_of domain.now flow ttl (P.choices picker.old))) }
+    // the walk back from each copy ends at the source's copy, so `Loop` and `Duplicate` are told apart.
+    ensures walks { IfOk result (WalksEndAtSource
+        (replay_of domain.now flow ttl (P.choices picker.old))) }
+    // Another finding than `Clean` shows that the flow isn't right, if the TTL is at least the flow's.
+    ensures wrong { IfOk result (ShowsWrongFlow
+        (replay_of domain.now flow ttl (P.choices picker.old))) }
+{
+    let _rules = domain.topology();
+    let ended = replay_to_end(alloc, domain, flow, ttl, picker)?;
+    Ok(ended.travel)
+}

@@ -1,5 +1,5 @@
 # make            builds the proved program, crates/mcaudit/out/mcaudit
-# make example    builds it if needed, and judges two bundles of examples/, of which the second has a fault
+# make example    builds it if needed, and judges two bundles of examples/: the second has a fault, which a travel shows
 # make test       the gate: every proof, the edits that must fail, the tests, and the command-line cases
 # make bench      reads large texts, and prints what that took in time and memory (it needs python3)
 # make install    puts the program into $(PREFIX)/bin
@@ -21,6 +21,7 @@ $(PROGRAM): $(SOURCES)
 example: $(PROGRAM)
 	$(PROGRAM) check < examples/network.bundle
 	$(PROGRAM) check < examples/second-router.bundle || test $$? = 1
+	$(PROGRAM) replay 1 3 < examples/second-router-captured.bundle || test $$? = 1
 
 test:
 	rt ci

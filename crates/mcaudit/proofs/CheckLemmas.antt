@@ -34,7 +34,7 @@ use Rattle.mcaudit.specs.CheckRun.{IsVerdictText, Answers, WritesVerdicts, Write
 use Rattle.mcaudit.specs.Failures.{IsNoDeviceFault, failed_reads, failed_writes}
 use Rattle.mcaudit.specs.RunFault.{of_certificate, of_certificate_kind}
 use Rattle.mcaudit.specs.VerdictText.{IsVerdict, AreVerdicts, are_yes, check_text}
-use Rattle.mcaudit.proofs.BundleFront.{bundle_of-front}
+use Rattle.mcaudit.proofs.RunLemmas.{IsRead, read_whole, refused_whole}
 use Rattle.mcaudit.proofs.VerdictLines.{lines_say}
 
 -- ---- the certificate
@@ -179,19 +179,6 @@ verdicts_told text d lists vs seen again t all written means are same other topo
 
 -- ---- the whole input
 
--- a bundle has fewer bytes than are read of an input, so that all were read
-read_whole : (text : List ℕ) (v : InputValue) (c : Option (List ℕ))
-    → InputStands (take 268435552 text) v c → take 268435552 text ≡ text
-read_whole text v c stands =
-    let size = ap (λ (bytes : List ℕ). length bytes) stands.bundle.spelled in
-    let few = stands.bundle.limits.size in
-    take_all 268435552 text (omega (arith, size, few, length-take 268435552 text))
-
-input_of-front : (with : Bool) (text : List ℕ)
-    → input_of with (take 268435552 text) ≡ input_of with text
-unfolding input_of
-input_of-front with text = rw (bundle_of-front text) refl
-
 verdict_whole : (text : List ℕ) (all : Bool) (written : List ℕ)
     → IsVerdictText (take 268435552 text) all written → IsVerdictText text all written
 verdict_whole text all written v =
@@ -205,28 +192,7 @@ headline_whole text h =
     subst (λ (t : List ℕ). HeadlineOf t)
     (read_whole text m.input (Some h.means.certificate) m.parts) h
 
-refused_whole : (text : List ℕ) (f : RunFault) → IsRefusedFor true (take 268435552 text) f
-    → IsRefusedFor true text f
-refused_whole text (Bundle f) is = sym (input_of-front true text) ∙ is
-refused_whole text (Parts place) is = sym (input_of-front true text) ∙ is
-refused_whole text (Topology f) is = sym (input_of-front true text) ∙ is
-refused_whole text (Vif part f) is = sym (input_of-front true text) ∙ is
-refused_whole text (Cache part f) is = sym (input_of-front true text) ∙ is
-refused_whole text (PartReports part f) is = sym (input_of-front true text) ∙ is
-refused_whole text (Reports f) is = is
-refused_whole text (Certificate f) is =
-    let m = is.1.2 in
-    let whole = read_whole text m.input (Some is.1.0) m.parts in
-    subst (λ (t : List ℕ). IsRefusedFor true t (Certificate f)) whole is
-refused_whole text Read is = tt
-refused_whole text Write is = tt
-refused_whole text Memory is = tt
-
 -- ---- the run
-
--- this was read of what the input tells
-abbrev pub IsRead : Option (List ℕ) → List ℕ → Type 0
-IsRead told taken = IfSome told (λ text. taken ≡ take 268435552 text)
 
 pub refused_told : (told : Option (List ℕ)) (taken : List ℕ) (f : RunFault)
     (r : Result Bool RunFault) → r ≡ Err f → IsRead told taken → IsRefusedFor true taken f
@@ -234,7 +200,7 @@ pub refused_told : (told : Option (List ℕ)) (taken : List ℕ) (f : RunFault)
 refused_told None taken f r is read refused = tt
 refused_told (Some text) taken f r is read refused =
     let here = subst (λ (t : List ℕ). IsRefusedFor true t f) read refused in
-    rw is (refused_whole text f here)
+    rw is (refused_whole true text f here)
 
 pub answer_told : (told : Option (List ℕ)) (taken : List ℕ) (all : Bool) (written : List ℕ)
     → IsRead told taken → IsVerdictText taken all written
@@ -271,51 +237,6 @@ headline_told : (told : Option (List ℕ)) (taken : List ℕ) → IsRead told ta
 headline_told None taken read h = tt
 headline_told (Some text) taken read h =
     headline_whole text (subst (λ (t : List ℕ). HeadlineOf t) read h)
-
--- ---- devices
-
-no_device_reads : (f : RunFault) (before : ℕ) → IsNoDeviceFault f → failed_reads (Err f) before ≡ before
-no_device_reads (Bundle f) before is = refl
-no_device_reads (Parts place) before is = refl
-no_device_reads (Topology f) before is = refl
-no_device_reads (Vif part f) before is = refl
-no_device_reads (Cache part f) before is = refl
-no_device_reads (PartReports part f) before is = refl
-no_device_reads (Reports f) before is = refl
-no_device_reads (Certificate f) before is = refl
-no_device_reads Read before is = absurd is
-no_device_reads Write before is = absurd is
-no_device_reads Memory before is = refl
-
-no_device_writes : (f : RunFault) (before : ℕ) → IsNoDeviceFault f → failed_writes (Err f) before ≡ before
-no_device_writes (Bundle f) before is = refl
-no_device_writes (Parts place) before is = refl
-no_device_writes (Topology f) before is = refl
-no_device_writes (Vif part f) before is = refl
-no_device_writes (Cache part f) before is = refl
-no_device_writes (PartReports part f) before is = refl
-no_device_writes (Reports f) before is = refl
-no_device_writes (Certificate f) before is = refl
-no_device_writes Read before is = absurd is
-no_device_writes Write before is = absurd is
-no_device_writes Memory before is = refl
-
--- a fault that is no device's leaves the counts of failures
-pub reads_same : (f : RunFault) (r : Result Bool RunFault) (before : ℕ) → r ≡ Err f
-    → IsNoDeviceFault f → before ≡ failed_reads r before
-reads_same f r before is none = rw is (sym (no_device_reads f before none))
-
-pub writes_same : (f : RunFault) (r : Result Bool RunFault) (before : ℕ) → r ≡ Err f
-    → IsNoDeviceFault f → before ≡ failed_writes r before
-writes_same f r before is none = rw is (sym (no_device_writes f before none))
-
--- and isn't the output's
-pub not_written : (f : RunFault) (r : Result Bool RunFault) (P : Type 0) → r ≡ Err f
-    → IsNoDeviceFault f → r ≡ Err Write → P
-not_written f r P is none write =
-    let same : f ≡ Write = cc in
-    let bad : IsNoDeviceFault Write = subst (λ (x : RunFault). IsNoDeviceFault x) same none in
-    absurd bad
 
 -- ---- yes
 

@@ -10,7 +10,7 @@ use Rattle.mc_input.specs.Input.{InputValue, InputStands}
 use Rattle.mc_input.specs.InputReading.{input_of}
 use Rattle.mc_input.specs.declared.fault.InputFault.TheVariants as input
 use Rattle.mcaudit.specs.declared.fault.RunFault.{RunFault}
-use Rattle.mcaudit.specs.declared.fault.RunFault.TheVariants.{Bundle, Parts, Topology, Vif, Cache, PartReports, Reports, Certificate, Read, Write, Memory}
+use Rattle.mcaudit.specs.declared.fault.RunFault.TheVariants.{Bundle, Parts, Topology, Vif, Cache, PartReports, Reports, Certificate, NoSuchFlow, Read, Write, Memory}
 
 -- How many bytes of a text decide what a bundle means: those of the greatest bundle, and of the longest line
 -- after it.
@@ -53,8 +53,9 @@ IsRefusedFor certified text (Cache part fault) = input_of certified text ≡ Err
 IsRefusedFor certified text (PartReports part fault) =
     input_of certified text ≡ Err (input.Reports part fault)
 IsRefusedFor certified text (Certificate fault) = IsTrue certified × HasBadCertificate text fault
--- no report list stands alone here
+-- no report list stands alone here, and no flow is asked for
 IsRefusedFor certified text (Reports fault) = ⊥
+IsRefusedFor certified text (NoSuchFlow number) = ⊥
 IsRefusedFor certified text Read = ⊤
 IsRefusedFor certified text Write = ⊤
 IsRefusedFor certified text Memory = ⊤

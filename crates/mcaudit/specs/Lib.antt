@@ -1,6 +1,7 @@
 pub mod BundleMeaning
 pub mod CheckRun
 pub mod Failures
+pub mod ReplayRun
 pub mod RunFault
 pub mod Status
 pub mod Task
@@ -26,3 +27,7 @@ pub use Rattle.mc_cert.specs.Stands
 pub use Rattle.mc_check.specs.ReasonText
 pub use Rattle.mc_input.specs.Input
 pub use Rattle.mc_input.specs.InputReading
+pub use Rattle.mc_theory.specs.Events
+pub use Rattle.mc_theory.specs.Findings
+pub use Rattle.mc_replay.specs.Travels
+pub use Rattle.mc_replay.specs.TravelText

@@ -1,15 +1,17 @@
 -- What a task's values may be, and how words write them.
-use Rattle.std.specs.Prelude.{◌≡◌, ℕ, List, ⊤}
+use Rattle.std.specs.Prelude.{◌≡◌, ◌≤◌, ℕ, List, ⊤}
 use Rattle.mc_text.specs.Addr.{IsForwardedGroup, IsSource, dotted}
 use Rattle.mcaudit.specs.declared.command.Task.{Task}
-use Rattle.mcaudit.specs.declared.command.Task.TheVariants.{Wants, Check}
+use Rattle.mcaudit.specs.declared.command.Task.TheVariants.{Wants, Check, Replay}
 
 abbrev pub IsAllowed : Task → Type 0
 IsAllowed (Wants group source) = IsForwardedGroup group × IsSource source
 IsAllowed Check = ⊤
+IsAllowed (Replay flow ttl last) = (1 ≤ flow) × (flow ≤ 4096) × (1 ≤ ttl)
 
 -- the words after `wants` are the group and the source of the task
 abbrev pub AreWords : List ℕ → List ℕ → Task → Type 0
 AreWords group_word source_word (Wants group source) =
     (group_word ≡ dotted group) × (source_word ≡ dotted source)
 AreWords group_word source_word Check = ⊥
+AreWords group_word source_word (Replay flow ttl last) = ⊥

@@ -9,7 +9,7 @@ ghost use Rattle.mcaudit.specs.BundleMeaning.{IsRefusedFor, MeansCertified, max_
 ghost use Rattle.mcaudit.specs.CheckRun.{Answers, HeadlineOf, IsVerdictText, SaysYes, WritesPartOfVerdicts, WritesVerdicts};
 ghost use Rattle.mcaudit.specs.Failures.{IsNoDeviceFault, failed_reads, failed_writes};
 
-use crate::domain_input::domain_in;
+use crate::domain_input::{MAX_INPUT, domain_in};
 use crate::fault::RunFault;
 use crate::verdict_text::{are_yes, check_text};
 use mc_cert::Certificate;
@@ -17,10 +17,6 @@ use mc_check::check_all;
 use mc_forward::Domain;
 use mc_text::{Input, Output, read_to_limit, write_all};
 use std::alloc::Global;
-
-/// How many bytes of its input a run on a bundle reads at most: those of the greatest bundle, and of the longest
-/// line after it.
-const MAX_INPUT: usize = 268_435_552;
 
 /// A domain, and a certificate of its topology.
 #[derive(Drop)]

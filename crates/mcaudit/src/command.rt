@@ -1,6 +1,6 @@
 //! The program's words: which task they ask for, and what is wrong with them.
 
-ghost use Rattle.std.specs.Prelude.{◌≡◌, ℕ, map, IfOk, IfSome, Ok, Some};
+ghost use Rattle.std.specs.Prelude.{◌≡◌, ◌≤◌, ℕ, map, IfOk, IfSome, Ok, Some};
 ghost use Rattle.std.specs.String.{string_bytes};
 ghost use Rattle.mc_text.specs.Addr.{IsForwardedGroup, IsSource, dotted};
 ghost use Rattle.mcaudit.specs.declared.command.WordsFault.TheVariants.{Memory};
@@ -8,7 +8,7 @@ ghost use Rattle.mcaudit.specs.Task.{AreWords, IsAllowed};
 
 use clap::error::ErrorKind;
 use clap::{Arg, ArgMatches, Command};
-use mc_text::Addr;
+use mc_text::{Addr, decimal};
 use std::alloc::{AllocError, Global};
 use std::env::{self, Env};
 use std::io;
@@ -26,6 +26,15 @@ pub enum Task {
     },
     /// Whether a bundle's certificate proves that its domain forwards every listed flow as it should.
     Check,
+    /// The travel of one packet through a bundle's domain.
+    Replay {
+        /// The number of the packet's flow, 1 to 4,096.
+        flow: u32,
+        /// The packet's time to live, 1 to 255.
+        ttl: u8,
+        /// Whether the last of the waiting copies is always handled next, and not the first.
+        last: bool,
+    },
 }
 
 /// Why the words give no task.
@@ -50,12 +59,20 @@ impl From<AllocError> for WordsFault {
 const EXAMPLES: &str = "\
 Examples: is each flow of a domain forwarded as its certificate says?
   mcaudit check < bundle
+Where does a packet of the first flow go that is sent with a time to live of 3?
+  mcaudit replay 1 3 < bundle
 Does a LAN want what 10.0.0.5 sends to 239.1.2.3?
   mcaudit wants 239.1.2.3 10.0.0.5 < reports
 
 Statuses: 0 yes, 1 no, 2 refused input, 3 read or write failed, 4 no memory, 5 wrong words";
 
 const GROUP_RULE: &str = "<group> is an address from 224.0.1.0 to 239.255.255.255, as 239.1.2.3";
+
+const FLOW_RULE: &str = "<flow> is a number from 1 to 4096";
+
+const TTL_RULE: &str = "<ttl> is a number from 1 to 255";
+
+const ORDER_RULE: &str = "--order is first or last";
 
 const SOURCE_RULE: &str =
     "<source> is an address whose first number is 1 to 223 and not 127, as 10.0.0.5";
@@ -82,6 +99,26 @@ fn check_command<'a>(alloc: Global) -> Command<'a> {
         .override_usage("mcaudit check")
 }
 
+/// The command `replay` and its arguments.
+fn replay_command<'a>(alloc: Global) -> Result<Command<'a>, AllocError> {
+    let flow = Arg::new(alloc, "flow")
+        .required(true)
+        .help("The flow's number in the topology, counted from 1");
+    let ttl = Arg::new(alloc, "ttl")
+        .required(true)
+        .help("The packet's time to live, 1 to 255");
+    let order = Arg::new(alloc, "order")
+        .long("order")
+        .default_value("first")
+        .help("Which of the waiting copies is handled next: first or last");
+    Command::new(alloc, "replay")
+        .about("Shows one packet's travel, event by event, and what is found")
+        .override_usage("mcaudit replay <flow> <ttl> [--order first|last]")
+        .arg(flow)?
+        .arg(ttl)?
+        .arg(order)
+}
+
 /// The commands and the help.
 fn program<'a>(alloc: Global) -> Result<Command<'a>, AllocError> {
     Command::new(alloc, "mcaudit")
@@ -92,6 +129,7 @@ fn program<'a>(alloc: Global) -> Result<Command<'a>, AllocError> {
         .arg_required_else_help(true)
         .disable_help_subcommand(true)
         .subcommand(check_command(alloc))?
+        .subcommand(replay_command(alloc)?)?
         .subcommand(wants_command(alloc)?)
 }
 
@@ -141,6 +179,41 @@ fn source_of(word: &str) -> Option<Addr>
     source.is_source().then_some(source)
 }
 
+/// The number from 1 to the greatest that the word writes in decimal.
+fn number_of(word: &str, greatest: u64) -> Option<u64>
+    ensures { IfSome result (λ number. (1 ≤ number) × (number ≤ greatest)) }
+{
+    let number = decimal(word.as_bytes(), greatest)?;
+    (number >= 1).then_some(number)
+}
+
+/// Whether the word asks for the last of the waiting copies, `last`, or for the first, `first`.
+fn is_last(word: &str) -> Option<bool> {
+    match word {
+        "first" => Some(false),
+        "last" => Some(true),
+        _ => None,
+    }
+}
+
+/// The task of the words after `replay`.
+fn replay_task(alloc: Global, flow: &str, ttl: &str, order: &str) -> Result<Task, WordsFault>
+    ensures allowed { IfOk result IsAllowed }
+{
+    let Some(flow) = number_of(flow, 4_096) else {
+        return Err(wrong_words(alloc, replay_command(alloc), FLOW_RULE));
+    };
+    let Some(ttl) = number_of(ttl, 255) else {
+        return Err(wrong_words(alloc, replay_command(alloc), TTL_RULE));
+    };
+    let Some(last) = is_last(order) else {
+        return Err(wrong_words(alloc, replay_command(alloc), ORDER_RULE));
+    };
+    let flow = flow as u32;
+    let ttl = ttl as u8;
+    Ok(Task::Replay { flow, ttl, last })
+}
+
 /// The task of the words after `wants`.
 fn wants_task(alloc: Global, group: &str, source: &str) -> Result<Task, WordsFault>
     ensures allowed { IfOk result IsAllowed }
@@ -183,7 +256,8 @@ fn word_of<'a>(matches: &ArgMatches<'a>, argument: &str) -> &'a str {
 
 /// The task that the program's words ask for. The first word is the program's own name.
 pub fn command_of<'a>(alloc: Global, words: &'a [&'a str]) -> Result<Task, WordsFault>
-    // A task is given only with a group that routers forward and an address that a host may send from.
+    // A task is given only with a group that routers forward and an address that a host may send from, and with a
+    // flow's number from 1 to 4,096 and a time to live from 1.
     ensures allowed { IfOk result IsAllowed }
 {
     let matches = match program(alloc)?.try_get_matches_from(words) {
@@ -193,6 +267,12 @@ pub fn command_of<'a>(alloc: Global, words: &'a [&'a str]) -> Result<Task, Words
     };
     match matches.subcommand() {
         Some(("check", _)) => Ok(Task::Check),
+        Some(("replay", words)) => replay_task(
+            alloc,
+            word_of(words, "flow"),
+            word_of(words, "ttl"),
+            word_of(words, "order"),
+        ),
         Some(("wants", words)) => wants_task(
             alloc,
             word_of(words, "group"),

@@ -11,6 +11,10 @@ use mc_forward::Domain;
 use mc_input::{BundleInput, read_input};
 use std::alloc::Global;
 
+/// How many bytes of its input a run on a bundle reads at most: those of the greatest bundle, and of the
+/// longest line after it.
+pub(crate) const MAX_INPUT: usize = 268_435_552;
+
 /// A domain, and the text of the certificate where one was asked for.
 #[derive(Drop)]
 pub(crate) struct DomainInput<'a> {

@@ -34,7 +34,8 @@ impl Failure {
                 | RunFault::Cache(_, _)
                 | RunFault::PartReports(_, _)
                 | RunFault::Reports(_)
-                | RunFault::Certificate(_),
+                | RunFault::Certificate(_)
+                | RunFault::NoSuchFlow(_),
             ) => 2,
             Failure::Run(RunFault::Read | RunFault::Write) => 3,
             Failure::Words(WordsFault::Memory) | Failure::Run(RunFault::Memory) => 4,

@@ -40,6 +40,9 @@ pub enum RunFault {
     /// (7) The certificate is refused.
     #[error("refused: certificate: {0}")]
     Certificate(CertFault),
+    /// (8) The topology lists no flow with this number, counted from 1.
+    #[error("refused: flow: {0}")]
+    NoSuchFlow(u32),
     /// (9) The input failed.
     #[error("failed: read")]
     Read,

@@ -6,13 +6,17 @@ mod command;
 mod domain_input;
 mod failure;
 mod fault;
+mod replay;
+mod travel_text;
 mod verdict_text;
 mod wants;
 
 use check::run_check;
 use command::{Task, borrowed, command_of, words_of};
 use failure::Failure;
+use mc_replay::{First, Last};
 use mc_text::{FromReader, ToWriter};
+use replay::run_replay;
 use std::env::Env;
 use std::io::{self, Input};
 use std::process::ExitCode;
@@ -26,6 +30,14 @@ fn try_main(rt: &(impl Env + AllocGlobal + Input + Print)) -> Result<bool, Failu
     match command_of(rt.alloc(), &words)? {
         Task::Wants { group, source } => {
             Ok(run_wants(rt.alloc(), group, source, &mut input, &mut output)?)
+        }
+        Task::Replay { flow, ttl, last } => {
+            let alloc = rt.alloc();
+            Ok(if last {
+                run_replay(alloc, flow, ttl, &mut Last, &mut input, &mut output)?
+            } else {
+                run_replay(alloc, flow, ttl, &mut First, &mut input, &mut output)?
+            })
         }
         Task::Check => Ok(run_check(rt.alloc(), &mut input, &mut output)?),
     }

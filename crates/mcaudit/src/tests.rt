@@ -1,6 +1,7 @@
 //! Worked report lists through `run_wants`, devices that fail, and words.
 
 mod check;
+mod replay;
 
 use crate::command::{Task, WordsFault, command_of};
 use crate::fault::RunFault;
@@ -152,6 +153,9 @@ fn words(rt: HostRuntime) {
     }
     let check = command_of(rt.alloc(), &["mcaudit", "check"]);
     assert_eq!(rt; check.ok(), Some(Task::Check));
+    let replay = command_of(rt.alloc(), &["mcaudit", "replay", "2", "64", "--order", "last"]);
+    let (flow, ttl, last) = (2, 64, true);
+    assert_eq!(rt; replay.ok(), Some(Task::Replay { flow, ttl, last }));
     let none = command_of(rt.alloc(), &["mcaudit"]);
     assert!(rt; matches!(none, Err(WordsFault::Wrong(_))));
     let fewer = command_of(rt.alloc(), &["mcaudit", "wants", "239.1.2.3"]);

@@ -2,9 +2,9 @@ use Rattle.std.proofs.Common.{rules, ap, ◌∙◌, sym, Err}
 use Rattle.std.proofs.lemmas.Result.{err_from_is_err_and}
 use Rattle.std.specs.Prelude.{is_ok}
 use Rattle.mcaudit.proofs.WantsLemmas.{where_failed, where_succeeded}
-use Rattle.mcaudit.proofs.CheckLemmas.{answer_told, not_written, part_says, part_told, reads_same}
+use Rattle.mcaudit.proofs.RunLemmas.{not_written, reads_same, writes_same}
+use Rattle.mcaudit.proofs.CheckLemmas.{answer_told, part_says, part_told}
 use Rattle.mcaudit.proofs.CheckLemmas.{refused_told, refused_unsaid, whole_says, written_told}
-use Rattle.mcaudit.proofs.CheckLemmas.{writes_same}
 use Rattle.mcaudit.proofs.check.run_check.Goals as goal
 
 pub returns-in_err-text-clause-headline : goal.returns-in_err-text-clause-headline

@@ -2,9 +2,10 @@
 
 mod entries;
 mod first;
+mod later;
 mod second;
 
-use super::network::{VERSION_ONE, VERSION_TWO, answer, changed, network};
+use super::network::{NETWORK, TWO_FLOWS, VERSION_ONE, VERSION_TWO, answer, changed};
 use mc_topology::Topology;
 use std::alloc::{AllocError, Global};
 use std::process::Abort;
@@ -49,13 +50,28 @@ fn check_each(
     Ok(())
 }
 
+/// Networks, their certificates, and what is changed in each.
+const GROUPS: &[(&str, &str, &[Case])] = &[
+    (NETWORK, VERSION_ONE, first::CASES),
+    (NETWORK, VERSION_ONE, entries::CASES),
+    (NETWORK, VERSION_TWO, second::CASES),
+    (TWO_FLOWS, later::LISTS, later::ONE),
+    (TWO_FLOWS, later::TREES, later::TWO),
+];
+
 #[test]
 fn faults(rt: HostRuntime) -> Result<(), Fail> {
-    let topology = network(rt.alloc())?;
-    check_each(&rt, rt.alloc(), &topology, VERSION_ONE, first::CASES)?;
-    check_each(&rt, rt.alloc(), &topology, VERSION_ONE, entries::CASES)?;
-    check_each(&rt, rt.alloc(), &topology, VERSION_TWO, second::CASES)?;
-    let no_text = answer(rt.alloc(), &topology, b"{\"version\":\xff}")?;
-    assert_eq!(rt; no_text.as_str(), "top: NotJson");
+    for (network, certificate, cases) in GROUPS {
+        let topology = Topology::read(rt.alloc(), network.as_bytes())?;
+        check_each(&rt, rt.alloc(), &topology, certificate, cases)?;
+    }
+    Ok(())
+}
+
+#[test]
+fn bytes_that_are_no_text(rt: HostRuntime) -> Result<(), Fail> {
+    let topology = Topology::read(rt.alloc(), NETWORK.as_bytes())?;
+    let found = answer(rt.alloc(), &topology, b"{\"version\":\xff}")?;
+    assert_eq!(rt; found.as_str(), "top: NotJson");
     Ok(())
 }

@@ -57,10 +57,12 @@ fn both_versions_are_read(rt: HostRuntime) -> Result<(), Fail> {
 }
 
 /// Three trees, of which the flows name the last and the first.
-const TREES: &str = r#"{"flows":[{"group":"239.1.2.3","source":"10.0.0.5","tree":2},{"group":"239.1.2.4","source":"10.0.0.5","tree":0}],"trees":[[{"lan":"l0","need":1,"rank":0}],[],[{"lan":"l0","need":1,"rank":0},{"lan":"l1","need":2,"rank":1,"router":"r1","vif":1},{"lan":"l2","need":3,"rank":2,"router":"r2","vif":1}]],"version":2}"#;
+const TREES: &str =
+    r#"{"flows":[{"group":"239.1.2.3","source":"10.0.0.5","tree":2},{"group":"239.1.2.4","source":"10.0.0.5","tree":0}],"trees":[[{"lan":"l0","need":1,"rank":0}],[],[{"lan":"l0","need":1,"rank":0},{"lan":"l1","need":2,"rank":1,"router":"r1","vif":1},{"lan":"l2","need":3,"rank":2,"router":"r2","vif":1}]],"version":2}"#;
 
 /// The same lists in version 1.
-const LISTS: &str = r#"{"flows":[{"group":"239.1.2.3","reached":[{"lan":"l0","need":1,"rank":0},{"lan":"l1","need":2,"rank":1,"router":"r1","vif":1},{"lan":"l2","need":3,"rank":2,"router":"r2","vif":1}],"source":"10.0.0.5"},{"group":"239.1.2.4","reached":[{"lan":"l0","need":1,"rank":0}],"source":"10.0.0.5"}],"version":1}"#;
+const LISTS: &str =
+    r#"{"flows":[{"group":"239.1.2.3","reached":[{"lan":"l0","need":1,"rank":0},{"lan":"l1","need":2,"rank":1,"router":"r1","vif":1},{"lan":"l2","need":3,"rank":2,"router":"r2","vif":1}],"source":"10.0.0.5"},{"group":"239.1.2.4","reached":[{"lan":"l0","need":1,"rank":0}],"source":"10.0.0.5"}],"version":1}"#;
 
 #[test]
 fn each_flow_has_its_own_list(rt: HostRuntime) -> Result<(), Fail> {
@@ -75,7 +77,8 @@ fn each_flow_has_its_own_list(rt: HostRuntime) -> Result<(), Fail> {
 }
 
 /// Both flows name one tree.
-const SHARED: &str = r#"{"flows":[{"group":"239.1.2.3","source":"10.0.0.5","tree":0},{"group":"239.1.2.4","source":"10.0.0.5","tree":0}],"trees":[[{"lan":"l0","need":1,"rank":0},{"lan":"l1","need":2,"rank":1,"router":"r1","vif":1},{"lan":"l2","need":3,"rank":2,"router":"r2","vif":1}]],"version":2}"#;
+const SHARED: &str =
+    r#"{"flows":[{"group":"239.1.2.3","source":"10.0.0.5","tree":0},{"group":"239.1.2.4","source":"10.0.0.5","tree":0}],"trees":[[{"lan":"l0","need":1,"rank":0},{"lan":"l1","need":2,"rank":1,"router":"r1","vif":1},{"lan":"l2","need":3,"rank":2,"router":"r2","vif":1}]],"version":2}"#;
 
 #[test]
 fn flows_share_a_tree(rt: HostRuntime) -> Result<(), Fail> {

@@ -21,13 +21,16 @@ struct Case {
 }
 
 /// Both flows over one tree of one entry.
-const SHARED: &str = r#"{"flows":[{"group":"239.1.2.3","source":"10.0.0.5","tree":0},{"group":"239.1.2.4","source":"10.0.0.5","tree":0}],"trees":[[{"lan":"l0","need":1,"rank":0}]],"version":2}"#;
+const SHARED: &str =
+    r#"{"flows":[{"group":"239.1.2.3","source":"10.0.0.5","tree":0},{"group":"239.1.2.4","source":"10.0.0.5","tree":0}],"trees":[[{"lan":"l0","need":1,"rank":0}]],"version":2}"#;
 
 /// Each flow over a tree of its own, the first one without entries.
-const OWN: &str = r#"{"flows":[{"group":"239.1.2.3","source":"10.0.0.5","tree":0},{"group":"239.1.2.4","source":"10.0.0.5","tree":1}],"trees":[[],[{"lan":"l0","need":1,"rank":0}]],"version":2}"#;
+const OWN: &str =
+    r#"{"flows":[{"group":"239.1.2.3","source":"10.0.0.5","tree":0},{"group":"239.1.2.4","source":"10.0.0.5","tree":1}],"trees":[[],[{"lan":"l0","need":1,"rank":0}]],"version":2}"#;
 
 /// Trees that have the same entries in another order.
-const ORDERED: &str = r#"{"flows":[{"group":"239.1.2.3","source":"10.0.0.5","tree":0},{"group":"239.1.2.4","source":"10.0.0.5","tree":1}],"trees":[[{"lan":"l0","need":1,"rank":0},{"lan":"l2","need":255,"rank":255,"router":"r2","vif":31}],[{"lan":"l2","need":255,"rank":255,"router":"r2","vif":31},{"lan":"l0","need":1,"rank":0}]],"version":2}"#;
+const ORDERED: &str =
+    r#"{"flows":[{"group":"239.1.2.3","source":"10.0.0.5","tree":0},{"group":"239.1.2.4","source":"10.0.0.5","tree":1}],"trees":[[{"lan":"l0","need":1,"rank":0},{"lan":"l2","need":255,"rank":255,"router":"r2","vif":31}],[{"lan":"l2","need":255,"rank":255,"router":"r2","vif":31},{"lan":"l0","need":1,"rank":0}]],"version":2}"#;
 
 const CASES: &[Case] = &[
     Case {
@@ -104,7 +107,10 @@ fn many_flows(alloc: Global) -> Result<String, AllocError> {
     )?;
     for number in 0..4096u32 {
         let (third, fourth) = (number / 256, number % 256);
-        write!(text, r#"{{source = "10.0.0.5", group = "239.1.{third}.{fourth}", ttl = 3}},"#)?;
+        write!(
+            text,
+            r#"{{source = "10.0.0.5", group = "239.1.{third}.{fourth}", ttl = 3}},"#
+        )?;
     }
     text.push_str("]\n")?;
     Ok(text)
@@ -116,7 +122,10 @@ fn one_tree(alloc: Global) -> Result<String, AllocError> {
     for number in 0..4096u32 {
         let (third, fourth) = (number / 256, number % 256);
         let comma = if number > 0 { "," } else { "" };
-        write!(text, r#"{comma}{{"group":"239.1.{third}.{fourth}","source":"10.0.0.5","tree":0}}"#)?;
+        write!(
+            text,
+            r#"{comma}{{"group":"239.1.{third}.{fourth}","source":"10.0.0.5","tree":0}}"#
+        )?;
     }
     text.push_str(r#"],"trees":[["#)?;
     for number in 0..1024u32 {

@@ -3,16 +3,20 @@
 use super::Case;
 
 /// A certificate of two flows in version 1.
-pub(super) const LISTS: &str = r#"{"flows":[{"group":"239.1.2.3","reached":[{"lan":"l0","need":1,"rank":0}],"source":"10.0.0.5"},{"group":"239.1.2.4","reached":[{"lan":"l1","need":1,"rank":0}],"source":"10.0.0.5"}],"version":1}"#;
+pub(super) const LISTS: &str =
+    r#"{"flows":[{"group":"239.1.2.3","reached":[{"lan":"l0","need":1,"rank":0}],"source":"10.0.0.5"},{"group":"239.1.2.4","reached":[{"lan":"l1","need":1,"rank":0}],"source":"10.0.0.5"}],"version":1}"#;
 
 /// One in version 2.
-pub(super) const TREES: &str = r#"{"flows":[{"group":"239.1.2.3","source":"10.0.0.5","tree":0},{"group":"239.1.2.4","source":"10.0.0.5","tree":1}],"trees":[[{"lan":"l0","need":1,"rank":0}],[{"lan":"l1","need":1,"rank":0}]],"version":2}"#;
+pub(super) const TREES: &str =
+    r#"{"flows":[{"group":"239.1.2.3","source":"10.0.0.5","tree":0},{"group":"239.1.2.4","source":"10.0.0.5","tree":1}],"trees":[[{"lan":"l0","need":1,"rank":0}],[{"lan":"l1","need":1,"rank":0}]],"version":2}"#;
 
 /// The two flows of version 1.
-const FLOWS_ONE: &str = r#"{"group":"239.1.2.3","reached":[{"lan":"l0","need":1,"rank":0}],"source":"10.0.0.5"},{"group":"239.1.2.4","reached":[{"lan":"l1","need":1,"rank":0}],"source":"10.0.0.5"}"#;
+const FLOWS_ONE: &str =
+    r#"{"group":"239.1.2.3","reached":[{"lan":"l0","need":1,"rank":0}],"source":"10.0.0.5"},{"group":"239.1.2.4","reached":[{"lan":"l1","need":1,"rank":0}],"source":"10.0.0.5"}"#;
 
 /// Those of version 2.
-const FLOWS_TWO: &str = r#"{"group":"239.1.2.3","source":"10.0.0.5","tree":0},{"group":"239.1.2.4","source":"10.0.0.5","tree":1}"#;
+const FLOWS_TWO: &str =
+    r#"{"group":"239.1.2.3","source":"10.0.0.5","tree":0},{"group":"239.1.2.4","source":"10.0.0.5","tree":1}"#;
 
 /// The second entry in both.
 const ENTRY: &str = r#"{"lan":"l1","need":1,"rank":0}"#;

@@ -1,5 +1,8 @@
-//! Outside values: certificates of a small network in both versions, each fault with its place, and limits.
+//! Outside values: certificates of a small network in both versions, each fault with its place,
+//! limits, what is read and what is written.
 
 mod faults;
 mod limits;
 mod network;
+mod values;
+mod written;

@@ -2,9 +2,10 @@
 
 mod entries;
 mod first;
+mod later;
 mod second;
 
-use super::network::{VERSION_ONE, VERSION_TWO, answer, changed, network};
+use super::network::{NETWORK, TWO_FLOWS, VERSION_ONE, VERSION_TWO, answer, changed};
 use mc_topology::Topology;
 use std::alloc::{AllocError, Global};
 use std::process::Abort;
@@ -50,12 +51,26 @@ fn check_each(
 }
 
 #[test]
-fn faults(rt: HostRuntime) -> Result<(), Fail> {
-    let topology = network(rt.alloc())?;
+fn faults_of_one_flow(rt: HostRuntime) -> Result<(), Fail> {
+    let topology = Topology::read(rt.alloc(), NETWORK.as_bytes())?;
     check_each(&rt, rt.alloc(), &topology, VERSION_ONE, first::CASES)?;
     check_each(&rt, rt.alloc(), &topology, VERSION_ONE, entries::CASES)?;
     check_each(&rt, rt.alloc(), &topology, VERSION_TWO, second::CASES)?;
-    let no_text = answer(rt.alloc(), &topology, b"{\"version\":\xff}")?;
-    assert_eq!(rt; no_text.as_str(), "top: NotJson");
+    Ok(())
+}
+
+#[test]
+fn faults_of_two_flows(rt: HostRuntime) -> Result<(), Fail> {
+    let topology = Topology::read(rt.alloc(), TWO_FLOWS.as_bytes())?;
+    check_each(&rt, rt.alloc(), &topology, later::LISTS, later::ONE)?;
+    check_each(&rt, rt.alloc(), &topology, later::TREES, later::TWO)?;
+    Ok(())
+}
+
+#[test]
+fn bytes_that_are_no_text(rt: HostRuntime) -> Result<(), Fail> {
+    let topology = Topology::read(rt.alloc(), NETWORK.as_bytes())?;
+    let found = answer(rt.alloc(), &topology, b"{\"version\":\xff}")?;
+    assert_eq!(rt; found.as_str(), "top: NotJson");
     Ok(())
 }

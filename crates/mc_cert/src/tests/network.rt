@@ -11,6 +11,14 @@ source = [{address = "10.0.0.5", lan = "l0"}]
 flow = [{source = "10.0.0.5", group = "239.1.2.3", ttl = 3}]
 "#;
 
+/// The same network with a second flow, which goes the same way.
+pub(super) const TWO_FLOWS: &str = r#"version = 1
+lans = ["l0", "l1", "l2"]
+router = [{name = "r1"}, {name = "r2"}]
+source = [{address = "10.0.0.5", lan = "l0"}]
+flow = [{source = "10.0.0.5", group = "239.1.2.3", ttl = 3}, {source = "10.0.0.5", group = "239.1.2.4", ttl = 3}]
+"#;
+
 pub(super) const VERSION_ONE: &str =
     r#"{"flows":[{"group":"239.1.2.3","reached":[{"lan":"l0","need":1,"rank":0},{"lan":"l1","need":2,"rank":1,"router":"r1","vif":1},{"lan":"l2","need":3,"rank":2,"router":"r2","vif":1}],"source":"10.0.0.5"}],"version":1}"#;
 

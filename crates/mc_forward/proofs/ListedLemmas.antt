@@ -1,11 +1,11 @@
 -- Carried copies are on LANs of the domain, sent by its routers.
 use Rattle.std.proofs.Common.{◌≡◌, ℕ, zero, suc, ◌-◌, ◌<◌, inl, inr, Bool, true, false, cond, ◌==◌, nat_lt, List, [], ◌∷◌, length, get_or, slice_get, Option, Some, None, All, refl, sym, subst, arith}
 use Rattle.mc_theory.specs.Lists.{In}
-use Rattle.mc_theory.specs.Nets.{Net, Row, Interface}
+use Rattle.mc_theory.specs.Nets.{Net, Row}
 use Rattle.mc_theory.specs.Nets.Row.{Exact, Open, NoRow}
 use Rattle.mc_theory.specs.Flights.{Copy, Waiting, Flight, put, leave, send, sends, handle_by, handle, without, step}
 use Rattle.mc_theory.proofs.InLists.{in-push_cases, slice_get-in}
-use Rattle.mc_forward.specs.Domains.{DomainValue, IsDomain, net_of, placed_of}
+use Rattle.mc_forward.specs.Domains.{DomainValue, IsDomain, net_of}
 use Rattle.mc_forward.specs.Journeys.{IsListed, AreListed, AtRouters}
 use Rattle.mc_forward.proofs.DomainLemmas.{placed-listed}
 

@@ -202,6 +202,12 @@ refused_told (Some text) taken f r is read refused =
     let here = subst (λ (t : List ℕ). IsRefusedFor true t f) read refused in
     rw is (refused_whole true text f here)
 
+-- a run whose output failed says nothing of the text
+pub answer_unwritten : (told : Option (List ℕ)) (r : Result Bool RunFault) → r ≡ Err Write
+    → IfSome told (λ text. Answers text r)
+answer_unwritten None r is = tt
+answer_unwritten (Some text) r is = rw is tt
+
 pub answer_told : (told : Option (List ℕ)) (taken : List ℕ) (all : Bool) (written : List ℕ)
     → IsRead told taken → IsVerdictText taken all written
     → IfSome told (λ text. Answers text (Ok all))

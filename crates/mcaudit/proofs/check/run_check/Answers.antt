@@ -3,7 +3,7 @@ use Rattle.std.proofs.lemmas.Result.{err_from_is_err_and}
 use Rattle.std.specs.Prelude.{is_ok}
 use Rattle.mcaudit.proofs.WantsLemmas.{where_failed, where_succeeded}
 use Rattle.mcaudit.proofs.RunLemmas.{not_written, reads_same, writes_same}
-use Rattle.mcaudit.proofs.CheckLemmas.{answer_told, part_says, part_told}
+use Rattle.mcaudit.proofs.CheckLemmas.{answer_told, answer_unwritten, part_says, part_told}
 use Rattle.mcaudit.proofs.CheckLemmas.{refused_told, refused_unsaid, whole_says, written_told}
 use Rattle.mcaudit.proofs.check.run_check.Goals as goal
 
@@ -47,6 +47,11 @@ returns-in_err-verdicts-clause-headline g c =
     let p = err_from_is_err_and c.from_residual-in_err-verdicts.result
     c.from_residual-in_err-verdicts.ensures.1 in
     refused_unsaid p.0 _ _ _ p.1
+
+pub returns-in_err-map_err-clause-answer : goal.returns-in_err-map_err-clause-answer
+returns-in_err-map_err-clause-answer g c =
+    answer_unwritten (g.R.Input.told c.args.input.now) c.from_residual-in_err-map_err.result
+    (search rules)
 
 pub returns-in_err-map_err-clause-part : goal.returns-in_err-map_err-clause-part
 returns-in_err-map_err-clause-part g c =

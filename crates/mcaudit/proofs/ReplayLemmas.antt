@@ -131,12 +131,11 @@ pub replay_written : (told : Option (List ℕ)) (taken : List ℕ) (flow ttl : �
     → IsTravelText taken flow ttl choices clean written → bytes ≡ written → Appends old new bytes
     → IfSome told (λ text. WritesTravel text flow ttl choices clean old new)
 replay_written None taken flow ttl choices clean written bytes old new read v same puts = tt
-replay_written (Some text) taken flow ttl choices clean written bytes old new read v same puts =
-    (
-      written,
-      travel_read text taken flow ttl choices clean written read v,
-      subst (λ (b : List ℕ). Appends old new b) same puts,
-    )
+replay_written (Some text) taken flow ttl choices clean written bytes old new read v same puts = (
+  written,
+  travel_read text taken flow ttl choices clean written read v,
+  subst (λ (b : List ℕ). Appends old new b) same puts,
+)
 
 pub replay_part : (told : Option (List ℕ)) (taken : List ℕ) (flow ttl : ℕ) (choices : Choices)
     (clean : Bool) (written bytes : List ℕ) (old new : Option (List ℕ)) → IsRead told taken
@@ -144,13 +143,12 @@ pub replay_part : (told : Option (List ℕ)) (taken : List ℕ) (flow ttl : ℕ)
     → AppendsPart old new bytes
     → IfSome told (λ text. WritesPartOfTravel text flow ttl choices old new)
 replay_part None taken flow ttl choices clean written bytes old new read v same puts = tt
-replay_part (Some text) taken flow ttl choices clean written bytes old new read v same puts =
-    (
-      clean,
-      written,
-      travel_read text taken flow ttl choices clean written read v,
-      subst (λ (b : List ℕ). AppendsPart old new b) same puts,
-    )
+replay_part (Some text) taken flow ttl choices clean written bytes old new read v same puts = (
+  clean,
+  written,
+  travel_read text taken flow ttl choices clean written read v,
+  subst (λ (b : List ℕ). AppendsPart old new b) same puts,
+)
 
 -- a run whose output failed says nothing of the text
 pub replay_unwritten : (told : Option (List ℕ)) (flow ttl : ℕ) (choices : Choices)

@@ -153,7 +153,10 @@ fn words(rt: HostRuntime) {
     }
     let check = command_of(rt.alloc(), &["mcaudit", "check"]);
     assert_eq!(rt; check.ok(), Some(Task::Check));
-    let replay = command_of(rt.alloc(), &["mcaudit", "replay", "2", "64", "--order", "last"]);
+    let replay = command_of(
+        rt.alloc(),
+        &["mcaudit", "replay", "2", "64", "--order", "last"],
+    );
     let (flow, ttl, last) = (2, 64, true);
     assert_eq!(rt; replay.ok(), Some(Task::Replay { flow, ttl, last }));
     let none = command_of(rt.alloc(), &["mcaudit"]);

@@ -13,9 +13,9 @@ returns-in_err-place-clause-refused g c =
     let p = err_from_is_err_and c.from_residual-in_err-place.result
     c.from_residual-in_err-place.ensures.1 in
     rw (p.1, p.2) (flow_refused c.args.text.now c.args.flow _ c.in_ok-input.input.domain _
-      c.in_ok-input.ensures.means
-      (no_certificate c.in_ok-input.input.certificate c.in_ok-input.ensures.certified)
-      c.in_err-place.ensures.fault c.in_err-place.ensures.none)
+    c.in_ok-input.ensures.means
+    (no_certificate c.in_ok-input.input.certificate c.in_ok-input.ensures.certified)
+    c.in_err-place.ensures.fault c.in_err-place.ensures.none)
 
 pub returns-in_err-place-clause-no_device : goal.returns-in_err-place-clause-no_device
 returns-in_err-place-clause-no_device g c =

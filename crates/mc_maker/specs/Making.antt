@@ -1,8 +1,7 @@
 -- What is made of the copies that a clean travel at TTL 255 carried.
-use Rattle.std.specs.Prelude.{ℕ, ◌<◌, ◌≤◌, All, IfSome, List, length, map}
-use Rattle.std.specs.List.Sorted.{IsStrictlyIncreasing}
+use Rattle.std.specs.Prelude.{ℕ, ◌<◌, ◌≤◌, All, IfSome, List, length}
 use Rattle.mc_theory.specs.Flights.{Copy}
-use Rattle.mc_theory.specs.Certificates.{Entry, IsTree, IsReordering}
+use Rattle.mc_theory.specs.Certificates.{IsTree}
 use Rattle.mc_theory.specs.Made.{entries_of}
 use Rattle.mc_forward.specs.Domains.{DomainValue, net_of}
 
@@ -13,8 +12,3 @@ pub record AreClean (d : DomainValue) (flow : ℕ) (cs : List Copy) : Type 0 whe
   pub needs : All (λ e. e.need ≤ 255) (entries_of (net_of d flow) cs)
   pub lans : All (λ c. c.lan < length d.topology.lans) cs
   pub senders : All (λ c. IfSome c.sender (λ i. i.0 < length d.topology.routers)) cs
-
--- the entries of the copies, by ascending numbers of their LANs
-pub record IsMade (d : DomainValue) (flow : ℕ) (cs : List Copy) (es : List Entry) : Type 0 where
-  pub entries : IsReordering (entries_of (net_of d flow) cs) es
-  pub ascending : IsStrictlyIncreasing (map (λ e. e.lan) es)

@@ -1,12 +1,12 @@
 //! The entries that a clean travel at TTL 255 makes, one for each copy that it carried, in a vector by the
 //! numbers of their LANs.
 
-ghost use Rattle.std.specs.Prelude.{◌≡◌, ◌<◌, ◌≤◌, All, IfOk, IfSome, [], length};
+ghost use Rattle.std.specs.Prelude.{◌≡◌, ◌<◌, ◌≤◌, All, IfOk, IfSome, Some, [], length, slice_set};
 ghost use Rattle.mc_theory.specs.Lists.{Distinct};
 ghost use Rattle.mc_theory.specs.Certificates.{lans};
 ghost use Rattle.mc_theory.specs.Made.{entries_of, need_over, threshold_of};
 ghost use Rattle.mc_forward.specs.Domains.{pairs_of};
-ghost use Rattle.mc_maker.specs.ByLan.{IsByLan, entry_held, held_entries, need_held};
+ghost use Rattle.mc_maker.specs.ByLan.{IsByLan, entry_by, entry_held, held_entries, need_held};
 ghost use Rattle.mc_maker.specs.FlowNet.{flow_net};
 
 use crate::followed::Followed;
@@ -88,6 +88,29 @@ fn need_of(
     }
 }
 
+/// The entry of a copy, after those of the earlier ones.
+fn entry_of(followed: &Followed<'_>, by_lan: &[Option<Reached>], copy: &Carried) -> Reached
+    requires router { IfSome copy.now.sender (λ i.
+        i.0 < length followed.now.domain.now.topology.routers) }
+    requires small { need_held (flow_net followed.now) by_lan.now copy.now.sender ≤ 255 }
+    ensures { result ≡ entry_by (flow_net followed.now) by_lan.now copy.now }
+{
+    Reached {
+        lan: copy.lan,
+        rank: 255 - copy.ttl,
+        need: need_of(followed, by_lan, copy.sender),
+        forwarder: copy.sender,
+    }
+}
+
+/// Puts an entry at its LAN's place.
+fn put(by_lan: &mut [Option<Reached>], entry: Reached)
+    requires { entry.lan < length by_lan.old }
+    ensures { by_lan.new ≡ slice_set by_lan.old entry.lan (Some entry) }
+{
+    by_lan[entry.lan.0 as usize] = Some(entry);
+}
+
 /// Puts the entry of each copy at its LAN's place, where no two are of one LAN.
 fn put_entries(followed: &Followed<'_>, by_lan: &mut [Option<Reached>], copies: &[Carried])
     requires empty { IsByLan by_lan.old [] }
@@ -99,13 +122,8 @@ fn put_entries(followed: &Followed<'_>, by_lan: &mut [Option<Reached>], copies: 
     ensures { IsByLan by_lan.new (entries_of (flow_net followed.now) copies.now) }
 {
     for copy in copies {
-        let need = need_of(followed, by_lan, copy.sender);
-        by_lan[copy.lan.0 as usize] = Some(Reached {
-            lan: copy.lan,
-            rank: 255 - copy.ttl,
-            need,
-            forwarder: copy.sender,
-        });
+        let entry = entry_of(followed, by_lan, copy);
+        put(by_lan, entry);
     }
 }
 

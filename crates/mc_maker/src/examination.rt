@@ -1,13 +1,13 @@
 //! A flow is examined: it has a certificate, or something is found.
 
-ghost use Rattle.std.specs.Prelude.{◌≡◌, ◌↔◌, ◌<◌, All, IfOk, IfSome, IsSome, IsTrue, length, map};
+ghost use Rattle.std.specs.Prelude.{◌≡◌, ◌↔◌, ◌<◌, All, IfNone, IfOk, IfSome, IsSome, IsTrue, length, map};
 ghost use Rattle.std.specs.List.Sorted.{IsStrictlyIncreasing};
-ghost use Rattle.mc_theory.specs.Certificates.{IsAccepted, IsRight, IsServed};
+ghost use Rattle.mc_theory.specs.Certificates.{IsAccepted, IsReordering, IsRight};
 ghost use Rattle.mc_theory.specs.Made.{entries_of};
 ghost use Rattle.mc_forward.specs.Domains.{net_of, ttl_of};
 ghost use Rattle.mc_cert.specs.Certificate.{IsEntryOf, IsList};
 ghost use Rattle.mc_maker.specs.Examined.{FindsFault, FindsNothing, IfCertified, IfFound, IsOfTravel, IsTravelOfFirst, IsTtlOfFault, is_certified};
-ghost use Rattle.mc_maker.specs.Making.{AreClean, IsMade};
+ghost use Rattle.mc_maker.specs.Making.{AreClean};
 
 use crate::entries::{entries_by_lan, listed};
 use crate::followed::Followed;
@@ -42,10 +42,18 @@ fn certificate_of(
 ) -> Result<Option<Vec<Reached>>, Memory>
     requires flow { flow < length domain.now.topology.flows }
     requires clean { AreClean domain.now flow copies.now }
-    ensures made { IfOk result (λ made. IfSome made (λ entries.
-        IsMade domain.now flow copies.now entries.items)) }
-    ensures served { IfOk result (λ made.
-        IsSome made ↔ IsServed (net_of domain.now flow) (entries_of (net_of domain.now flow) copies.now)) }
+    ensures accepted { IfOk result (λ made. IfSome made (λ es.
+        IsAccepted (net_of domain.now flow) es.items)) }
+    ensures ascending { IfOk result (λ made. IfSome made (λ es.
+        IsStrictlyIncreasing (map (λ e. e.lan) es.items))) }
+    ensures listed { IfOk result (λ made. IfSome made (λ es.
+        All (IsEntryOf domain.now.topology) es.items)) }
+    ensures list { IfOk result (λ made. IfSome made (λ es. IsList es.items)) }
+    ensures entries { IfOk result (λ made. IfSome made (λ es.
+        IsReordering (entries_of (net_of domain.now flow) copies.now) es.items)) }
+    // Else the travel at the flow's TTL finds a fault.
+    ensures none { IfOk result (λ made. IfNone made ((travel : Travel) →
+        IsTravelOfFirst domain.now flow (ttl_of domain.now flow) travel → FindsFault travel)) }
 {
     let followed = Followed::new(domain, flow);
     let by_lan = entries_by_lan(alloc, &followed, copies)?;
@@ -84,6 +92,7 @@ pub fn examine(alloc: Global, domain: &Domain, flow: u32) -> Result<Examined, Me
     ensures right { IfOk result (λ examined.
         IsTrue (is_certified examined) ↔ IsRight (net_of domain.now flow)) }
 {
+    let topology = domain.topology();
     let ended = replay_to_end(alloc, domain, flow, 255, &mut First)?;
     let Finding::Clean = ended.travel.finding else {
         return Ok(Examined::Found {
@@ -94,7 +103,7 @@ pub fn examine(alloc: Global, domain: &Domain, flow: u32) -> Result<Examined, Me
     if let Some(entries) = certificate_of(alloc, domain, flow, ended.flight.copies())? {
         return Ok(Examined::Certified(entries));
     }
-    let ttl = domain.topology().flow(flow).ttl;
+    let ttl = topology.flow(flow).ttl;
     let travel = replay(alloc, domain, flow, ttl, &mut First)?;
     Ok(Examined::Found { ttl, travel })
 }
@@ -127,6 +136,7 @@ pub fn make(alloc: Global, domain: &Domain, flow: u32) -> Result<Option<Vec<Reac
         IsTravelOfFirst domain.now flow (ttl_of domain.now flow) second →
         IsSome made ↔ (FindsNothing first × FindsNothing second)) }
 {
+    let _rules = domain.topology();
     match examine(alloc, domain, flow)? {
         Examined::Certified(entries) => Ok(Some(entries)),
         Examined::Found { .. } => Ok(None),

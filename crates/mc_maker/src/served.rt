@@ -1,6 +1,7 @@
 //! Whether the entries reach each LAN that wants the flow.
 
 ghost use Rattle.std.specs.Prelude.{◌≡◌, ◌<◌, IsFalse, IsTrue, ℕ, false, length, true};
+ghost use Rattle.mc_forward.specs.Domains.{IsDomain};
 ghost use Rattle.mc_maker.specs.ByLan.{serves};
 ghost use Rattle.mc_maker.specs.FlowNet.{flow_net};
 
@@ -25,6 +26,7 @@ fn serves(followed: &Followed<'_>, by_lan: &[Option<Reached>], lan: LanNo) -> bo
 
 /// Whether each LAN that wants the flow is.
 pub(crate) fn serves_all(followed: &Followed<'_>, by_lan: &[Option<Reached>]) -> bool
+    ensures rules { IsDomain followed.now.domain.now }
     ensures each { IsTrue result → (lan : ℕ) → lan < length followed.now.domain.now.topology.lans →
         serves (flow_net followed.now) by_lan.now lan ≡ true }
     ensures some { IsFalse result →

@@ -15,13 +15,17 @@ fn chain<'a>() -> Network<'a> {
 
 #[test]
 fn chain_is_certified(rt: HostRuntime) -> Result<(), Fail> {
-    let entries = "0 0 1\n1 1 2 0 1\n2 2 3 1 1\n";
-    certified(&rt, rt.alloc(), &chain(), 1, entries)
+    let entries = [
+        entry(0, 0, 1, None),
+        entry(1, 1, 2, Some((0, 1))),
+        entry(2, 2, 3, Some((1, 1))),
+    ];
+    certified(&rt, rt.alloc(), &chain(), 1, &entries)
 }
 
 #[test]
 fn flow_without_rows_reaches_its_source(rt: HostRuntime) -> Result<(), Fail> {
-    certified(&rt, rt.alloc(), &chain(), 0, "0 0 1\n")
+    certified(&rt, rt.alloc(), &chain(), 0, &[entry(0, 0, 1, None)])
 }
 
 #[test]
@@ -30,12 +34,10 @@ fn low_ttl_misses_a_lan(rt: HostRuntime) -> Result<(), Fail> {
         ttl: "2",
         ..chain()
     };
-    let found = "found ttl 2
-r1 0 ttl 2 sent 1 strayed 0
+    let found = "r1 0 ttl 2 sent 1 strayed 0
 r2 0 ttl 1 sent 0 strayed 0
-Missed l2
-";
-    finds(&rt, rt.alloc(), &network, found)
+Missed l2";
+    finds(&rt, rt.alloc(), &network, 2, found)
 }
 
 #[test]
@@ -47,13 +49,11 @@ fn extra_entry_makes_a_duplicate(rt: HostRuntime) -> Result<(), Fail> {
         rows: [ON, ON, ON],
         ..chain()
     };
-    let found = "found ttl 255
-r1 0 ttl 255 sent 1 strayed 0
+    let found = "r1 0 ttl 255 sent 1 strayed 0
 r3 0 ttl 255 sent 1 strayed 0
 r2 0 ttl 254 sent 1 strayed 0
-Duplicate l2
-";
-    finds(&rt, rt.alloc(), &network, found)
+Duplicate l2";
+    finds(&rt, rt.alloc(), &network, 255, found)
 }
 
 #[test]
@@ -62,12 +62,10 @@ fn lan_without_a_way_is_missed_at_the_greatest_ttl(rt: HostRuntime) -> Result<()
         rows: [ON, NONE, NONE],
         ..chain()
     };
-    let found = "found ttl 255
-r1 0 ttl 255 sent 1 strayed 0
+    let found = "r1 0 ttl 255 sent 1 strayed 0
 r2 0 ttl 254 no row
-Missed l2
-";
-    finds(&rt, rt.alloc(), &network, found)
+Missed l2";
+    finds(&rt, rt.alloc(), &network, 255, found)
 }
 
 #[test]
@@ -77,8 +75,12 @@ fn high_threshold_is_needed_from_there_on(rt: HostRuntime) -> Result<(), Fail> {
         ttl: "255",
         ..chain()
     };
-    let entries = "0 0 1\n1 1 255 0 1\n2 2 255 1 1\n";
-    certified(&rt, rt.alloc(), &network, 1, entries)
+    let entries = [
+        entry(0, 0, 1, None),
+        entry(1, 1, 255, Some((0, 1))),
+        entry(2, 2, 255, Some((1, 1))),
+    ];
+    certified(&rt, rt.alloc(), &network, 1, &entries)
 }
 
 #[test]
@@ -88,7 +90,13 @@ fn dead_pair_makes_no_entry(rt: HostRuntime) -> Result<(), Fail> {
         reports: "",
         ..chain()
     };
-    certified(&rt, rt.alloc(), &network, 1, "0 0 1\n1 1 2 0 1\n")
+    certified(
+        &rt,
+        rt.alloc(),
+        &network,
+        1,
+        &[entry(0, 0, 1, None), entry(1, 1, 2, Some((0, 1)))],
+    )
 }
 
 /// r3 sends from l0 to l2, and r2 from there to l1.
@@ -101,6 +109,10 @@ fn entries_ascend_by_lan(rt: HostRuntime) -> Result<(), Fail> {
         rows: [NONE, "030201EF 0500000A 1 0 0 0 0:1\n", ON],
         ..chain()
     };
-    let entries = "0 0 1\n1 2 3 1 0\n2 1 2 2 1\n";
-    certified(&rt, rt.alloc(), &network, 1, entries)
+    let entries = [
+        entry(0, 0, 1, None),
+        entry(1, 2, 3, Some((1, 0))),
+        entry(2, 1, 2, Some((2, 1))),
+    ];
+    certified(&rt, rt.alloc(), &network, 1, &entries)
 }

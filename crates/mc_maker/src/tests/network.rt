@@ -7,7 +7,7 @@ use mc_igmp::ReportList;
 use mc_replay::{Travel, shown_event};
 use mc_tables::{CacheTable, VifTable};
 use mc_text::Order;
-use mc_topology::Topology;
+use mc_topology::{LanNo, RouterNo, Topology};
 use std::alloc::Global;
 use std::fmt::Write;
 use std::process::Abort;
@@ -104,56 +104,67 @@ fn domain_of(alloc: Global, network: &Network<'_>) -> Result<Domain, Fail> {
     }
 }
 
-/// The entries, a line each: the numbers of the LAN, its rank, its need, and of the router and the vif
-/// that send on it.
-fn entries_text(alloc: Global, entries: &[Reached]) -> Result<String, Fail> {
+/// The events of the travel, a line each, and what it finds.
+fn text_of(alloc: Global, topology: &Topology, travel: &Travel) -> Result<String, Fail> {
     let mut text = String::new(alloc);
-    for entry in entries {
-        write!(text, "{} {} {}", entry.lan.0, entry.rank, entry.need)?;
-        if let Some((router, vif)) = entry.forwarder {
-            write!(text, " {} {vif}", router.0)?;
-        }
-        writeln!(text, "")?;
-    }
-    Ok(text)
-}
-
-/// The TTL, the events of the travel, a line each, and what it finds.
-fn found_text(
-    alloc: Global,
-    topology: &Topology,
-    ttl: u8,
-    travel: &Travel,
-) -> Result<String, Fail> {
-    let mut text = String::new(alloc);
-    writeln!(text, "found ttl {ttl}")?;
     for event in &travel.events {
         writeln!(text, "{}", shown_event(*event, topology))?;
     }
-    writeln!(text, "{}", travel.finding.shown(topology))?;
+    write!(text, "{}", travel.finding.shown(topology))?;
     Ok(text)
 }
 
-/// What an examination of a flow answers, as a text.
-fn examined_text(
+/// The entries of a flow that is certified, and none of another.
+fn entries_of(
     rt: &impl Abort,
     alloc: Global,
     domain: &Domain,
     flow: u32,
-) -> Result<String, Fail> {
+) -> Result<Vec<Reached>, Fail> {
     assert!(rt; flow < domain.topology().flows());
     match examine(alloc, domain, flow)? {
-        Examined::Certified(entries) => entries_text(alloc, &entries),
-        Examined::Found { ttl, travel } => found_text(alloc, domain.topology(), ttl, &travel),
+        Examined::Certified(entries) => Ok(entries),
+        Examined::Found { .. } => Ok(Vec::new(alloc)),
     }
 }
 
-/// The entries that are made for a flow, as a text.
-fn made_text(rt: &impl Abort, alloc: Global, domain: &Domain, flow: u32) -> Result<String, Fail> {
+/// The entries that are made for a flow, none where there is no certificate.
+fn made_of(
+    rt: &impl Abort,
+    alloc: Global,
+    domain: &Domain,
+    flow: u32,
+) -> Result<Vec<Reached>, Fail> {
     assert!(rt; flow < domain.topology().flows());
     match make(alloc, domain, flow)? {
-        Some(entries) => entries_text(alloc, &entries),
-        None => Ok(String::from_str(alloc, "none")?),
+        Some(entries) => Ok(entries),
+        None => Ok(Vec::new(alloc)),
+    }
+}
+
+/// The travel that is found of the flow to 239.1.2.3 at this TTL, empty where none is.
+fn found_of(rt: &impl Abort, alloc: Global, domain: &Domain, at: u8) -> Result<String, Fail> {
+    assert!(rt; domain.topology().flows() == 2);
+    match examine(alloc, domain, 1)? {
+        Examined::Certified(_) => Ok(String::new(alloc)),
+        Examined::Found { ttl, travel } => {
+            assert_eq!(rt; ttl, at);
+            text_of(alloc, domain.topology(), &travel)
+        }
+    }
+}
+
+/// The entry of a LAN, by the numbers of the router and the vif that send on it; none is the source.
+pub(super) fn entry(lan: u32, rank: u8, need: u8, sender: Option<(u32, u8)>) -> Reached {
+    let forwarder = match sender {
+        Some((router, vif)) => Some((RouterNo(router), vif)),
+        None => None,
+    };
+    Reached {
+        lan: LanNo(lan),
+        rank,
+        need,
+        forwarder,
     }
 }
 
@@ -163,27 +174,28 @@ pub(super) fn certified(
     alloc: Global,
     network: &Network<'_>,
     flow: u32,
-    entries: &str,
+    entries: &[Reached],
 ) -> Result<(), Fail> {
     let domain = domain_of(alloc, network)?;
-    let examined = examined_text(rt, alloc, &domain, flow)?;
-    assert_eq!(rt; examined.as_str(), entries);
-    let made = made_text(rt, alloc, &domain, flow)?;
-    assert_eq!(rt; made.as_str(), entries);
+    let examined = entries_of(rt, alloc, &domain, flow)?;
+    let made = made_of(rt, alloc, &domain, flow)?;
+    assert!(rt; examined.as_slice() == entries);
+    assert!(rt; made.as_slice() == entries);
     Ok(())
 }
 
-/// This is found of the flow to 239.1.2.3.
+/// This is found of the flow to 239.1.2.3, at this TTL.
 pub(super) fn finds(
     rt: &impl Abort,
     alloc: Global,
     network: &Network<'_>,
-    found: &str,
+    ttl: u8,
+    travel: &str,
 ) -> Result<(), Fail> {
     let domain = domain_of(alloc, network)?;
-    let examined = examined_text(rt, alloc, &domain, 1)?;
-    assert_eq!(rt; examined.as_str(), found);
-    let made = made_text(rt, alloc, &domain, 1)?;
-    assert_eq!(rt; made.as_str(), "none");
+    let found = found_of(rt, alloc, &domain, ttl)?;
+    let made = made_of(rt, alloc, &domain, 1)?;
+    assert_eq!(rt; found.as_str(), travel);
+    assert!(rt; made.is_empty());
     Ok(())
 }

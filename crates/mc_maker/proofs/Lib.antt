@@ -1,0 +1,5 @@
+pub mod FilledLemmas
+pub mod ListedLemmas
+pub mod ServedLemmas
+pub mod CleanLemmas
+pub mod ExaminedLemmas

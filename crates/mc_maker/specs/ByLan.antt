@@ -1,0 +1,42 @@
+-- The entry of each LAN, by the LAN's number.
+use Rattle.std.specs.Prelude.{◌≡◌, ℕ, ◌-◌, Bool, false, not, ◌||◌, nat_le, List, [], ◌∷◌, Option, Some, None, slice_get}
+use Rattle.mc_theory.specs.Nets.{Net, Interface}
+use Rattle.mc_theory.specs.Flights.{Copy}
+use Rattle.mc_theory.specs.Certificates.{Entry}
+use Rattle.mc_theory.specs.Reasons.{entry_on}
+use Rattle.mc_theory.specs.Findings.{from_lan}
+use Rattle.mc_theory.specs.Made.{need_over, pairs_of, threshold_of}
+use Rattle.mc_replay.specs.Firsts.{held}
+
+-- each place holds the entry of the LAN with its number
+abbrev pub IsByLan : List (Option Entry) → List Entry → Type 0
+IsByLan by_lan es = (lan : ℕ) → held (slice_get by_lan lan) ≡ entry_on es lan
+
+-- the entry of a LAN, if there is a LAN and it has one
+abbrev pub entry_held : List (Option Entry) → Option ℕ → Option Entry
+entry_held by_lan None = None
+entry_held by_lan (Some lan) = held (slice_get by_lan lan)
+
+-- the entries that are held, in the order of their places
+abbrev pub held_entries : List (Option Entry) → List Entry
+held_entries [] = []
+held_entries (None ∷ places) = held_entries places
+held_entries (Some e ∷ places) = e ∷ held_entries places
+
+-- the need of a copy with this sender, after the entries that are held
+abbrev pub need_held : Net → List (Option Entry) → Option Interface → ℕ
+need_held n by_lan None = 1
+need_held n by_lan (Some i) = need_over (threshold_of i.1 (pairs_of (n.row i.0))) (entry_held by_lan (from_lan n (Some i)))
+
+-- a copy's entry, after those that are held
+abbrev pub entry_by : Net → List (Option Entry) → Copy → Entry
+entry_by n by_lan c = record { lan = c.lan; rank = 255 - c.ttl; need = need_held n by_lan c.sender; forwarder = c.sender }
+
+-- an entry with a need that all packets of the flow meet
+abbrev pub meets_need : Net → Option Entry → Bool
+meets_need n None = false
+meets_need n (Some e) = nat_le e.need n.ttl
+
+-- a LAN that wants the flow has such an entry
+abbrev pub serves : Net → List (Option Entry) → ℕ → Bool
+serves n by_lan lan = not (n.wants lan) || meets_need n (held (slice_get by_lan lan))

@@ -1,0 +1,59 @@
+-- What an examination of a flow says.
+use Rattle.std.specs.Prelude.{◌≡◌, ◌≢◌, ℕ, Bool, true, false, List, [], ⊤}
+use Rattle.mc_theory.specs.Flights.{Flight}
+use Rattle.mc_theory.specs.Certificates.{Entry, IsReordering}
+use Rattle.mc_theory.specs.Findings.{Choices}
+use Rattle.mc_theory.specs.Findings.Finding.{Clean}
+use Rattle.mc_theory.specs.Made.{entries_of}
+use Rattle.mc_forward.specs.Domains.{DomainValue, net_of, ttl_of}
+use Rattle.mc_replay.specs.FindingValues.{finding_value}
+use Rattle.mc_replay.specs.Travels.{replay_of, IsRunTo, IsRunOfChoices}
+use Rattle.mc_replay.specs.declared.travel.Travel.{Travel}
+use Rattle.mc_maker.specs.declared.examination.Examined.{Examined}
+use Rattle.mc_maker.specs.declared.examination.Examined.TheVariants.{Certified, Found}
+
+-- ---- the answer
+
+-- a fact of the entries, where the flow is certified
+abbrev pub IfCertified : (List Entry → Type 0) → Examined → Type 0
+IfCertified P (Certified entries) = P entries.items
+IfCertified P (Found ttl travel) = ⊤
+
+-- a fact of the TTL and the travel, where something is found
+abbrev pub IfFound : (ℕ → Travel → Type 0) → Examined → Type 0
+IfFound P (Certified entries) = ⊤
+IfFound P (Found ttl travel) = P ttl travel
+
+abbrev pub is_certified : Examined → Bool
+is_certified (Certified entries) = true
+is_certified (Found ttl travel) = false
+
+-- ---- travels in which the first waiting copy is handled each time
+
+-- what they are chosen by: no number, and then always the first
+abbrev pub first_choices : Choices
+first_choices = record { numbers = []; last = false }
+
+-- the travel of a packet of the flow with this TTL
+abbrev pub IsTravelOfFirst : DomainValue → (flow ttl : ℕ) → Travel → Type 0
+IsTravelOfFirst d flow ttl t = IsRunOfChoices (replay_of d flow ttl first_choices) t
+
+abbrev pub FindsNothing : Travel → Type 0
+FindsNothing t = finding_value t.finding ≡ Clean
+
+abbrev pub FindsFault : Travel → Type 0
+FindsFault t = finding_value t.finding ≢ Clean
+
+-- The TTL at which a fault is found: 255 if the travel at 255 finds one, and else the flow's.
+pub record IsTtlOfFault (d : DomainValue) (flow ttl : ℕ) : Type 0 where
+  pub greatest : (t : Travel) → IsTravelOfFirst d flow 255 t → FindsFault t → ttl ≡ 255
+  pub least : (t : Travel) → IsTravelOfFirst d flow 255 t → FindsNothing t → ttl ≡ ttl_of d flow
+
+-- The entries are those of the copies that the travel at TTL 255 carried, in some order: each has its copy's LAN,
+-- as its rank 255 less its copy's TTL, and its copy's sender as its forwarder.
+pub record IsOfTravel (d : DomainValue) (flow : ℕ) (es : List Entry) : Type 0 where
+  pub travel : Travel
+  pub flight : Flight
+  pub run : IsRunTo (replay_of d flow 255 first_choices) travel flight
+  pub clean : FindsNothing travel
+  pub entries : IsReordering (entries_of (net_of d flow) flight.carried) es

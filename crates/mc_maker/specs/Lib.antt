@@ -1,0 +1,12 @@
+pub mod Examined
+pub mod Making
+pub mod ByLan
+pub mod FlowNet
+pub use Rattle.mc_theory.specs.Nets
+pub use Rattle.mc_theory.specs.Flights
+pub use Rattle.mc_theory.specs.Certificates
+pub use Rattle.mc_theory.specs.Findings
+pub use Rattle.mc_theory.specs.Made
+pub use Rattle.mc_cert.specs.Certificate
+pub use Rattle.mc_replay.specs.FindingValues
+pub use Rattle.mc_replay.specs.Travels

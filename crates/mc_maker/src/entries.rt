@@ -1,0 +1,160 @@
+//! The entries that a clean travel at TTL 255 makes, one for each copy that it carried, in a vector by the
+//! numbers of their LANs.
+
+ghost use Rattle.std.specs.Prelude.{◌≡◌, ◌<◌, ◌≤◌, All, IfOk, IfSome, Some, [], length, slice_set};
+ghost use Rattle.mc_theory.specs.Lists.{Distinct};
+ghost use Rattle.mc_theory.specs.Certificates.{lans};
+ghost use Rattle.mc_theory.specs.Made.{entries_of, need_over, threshold_of};
+ghost use Rattle.mc_forward.specs.Domains.{pairs_of};
+ghost use Rattle.mc_maker.specs.ByLan.{IsByLan, entry_by, entry_held, held_entries, need_held};
+ghost use Rattle.mc_maker.specs.FlowNet.{flow_net};
+
+use crate::followed::Followed;
+use mc_cert::Reached;
+use mc_forward::{Carried, RowFor};
+use mc_tables::Oif;
+use mc_text::Memory;
+use mc_topology::{LanNo, RouterNo};
+use std::alloc::Global;
+
+/// The entry of a LAN, if there is a LAN and it has one.
+pub(crate) fn entry_at(by_lan: &[Option<Reached>], place: Option<LanNo>) -> Option<Reached>
+    ensures { result ≡ entry_held by_lan.now place }
+{
+    match place {
+        Some(lan) => match by_lan.get(lan.0 as usize) {
+            Some(entry) => *entry,
+            None => None,
+        },
+        None => None,
+    }
+}
+
+/// The threshold of a vif's pair, 0 where it has none.
+fn threshold_of(vif: u8, oifs: &[Oif]) -> u8
+    ensures { result ≡ threshold_of vif (pairs_of oifs.now) }
+{
+    for oif in oifs {
+        if oif.vif == vif {
+            return oif.threshold;
+        }
+    }
+    0
+}
+
+/// The least TTL with which packets come over a pair with this threshold, from a LAN with this entry.
+fn need_over(threshold: u8, base: Option<Reached>) -> u8
+    requires { need_over threshold base ≤ 255 }
+    ensures { result ≡ need_over threshold base }
+{
+    match base {
+        Some(base) => base.need.max(base.rank + threshold + 1),
+        None => 1,
+    }
+}
+
+/// The least TTL with which packets are sent by a router's vif.
+fn need_by(followed: &Followed<'_>, by_lan: &[Option<Reached>], router: RouterNo, vif: u8) -> u8
+    requires router { router < length followed.now.domain.now.topology.routers }
+    requires small { need_held (flow_net followed.now) by_lan.now (Some (router, vif)) ≤ 255 }
+    ensures { result ≡ need_held (flow_net followed.now) by_lan.now (Some (router, vif)) }
+{
+    match followed.row(router) {
+        RowFor::Exact(entry) => {
+            let threshold = threshold_of(vif, entry.oifs.as_slice());
+            need_over(
+                threshold,
+                entry_at(by_lan, followed.placed(router, entry.iif)),
+            )
+        }
+        RowFor::Open | RowFor::NoRow => 1,
+    }
+}
+
+/// The least TTL with which packets reach the LAN of a copy with this sender, 1 for the source's.
+fn need_of(
+    followed: &Followed<'_>,
+    by_lan: &[Option<Reached>],
+    sender: Option<(RouterNo, u8)>,
+) -> u8
+    requires router { IfSome sender (λ i.
+        i.0 < length followed.now.domain.now.topology.routers) }
+    requires small { need_held (flow_net followed.now) by_lan.now sender ≤ 255 }
+    ensures { result ≡ need_held (flow_net followed.now) by_lan.now sender }
+{
+    match sender {
+        Some((router, vif)) => need_by(followed, by_lan, router, vif),
+        None => 1,
+    }
+}
+
+/// The entry of a copy, after those of the earlier ones.
+fn entry_of(followed: &Followed<'_>, by_lan: &[Option<Reached>], copy: &Carried) -> Reached
+    requires router { IfSome copy.now.sender (λ i.
+        i.0 < length followed.now.domain.now.topology.routers) }
+    requires small { need_held (flow_net followed.now) by_lan.now copy.now.sender ≤ 255 }
+    ensures { result ≡ entry_by (flow_net followed.now) by_lan.now copy.now }
+{
+    Reached {
+        lan: copy.lan,
+        rank: 255 - copy.ttl,
+        need: need_of(followed, by_lan, copy.sender),
+        forwarder: copy.sender,
+    }
+}
+
+/// Puts an entry at its LAN's place.
+fn put(by_lan: &mut [Option<Reached>], entry: Reached)
+    requires { entry.lan < length by_lan.old }
+    ensures { by_lan.new ≡ slice_set by_lan.old entry.lan (Some entry) }
+{
+    by_lan[entry.lan.0 as usize] = Some(entry);
+}
+
+/// Puts the entry of each copy at its LAN's place, where no two are of one LAN.
+fn put_entries(followed: &Followed<'_>, by_lan: &mut [Option<Reached>], copies: &[Carried])
+    requires empty { IsByLan by_lan.old [] }
+    requires lans { All (λ c. c.lan < length by_lan.old) copies.now }
+    requires senders { All (λ c. IfSome c.sender (λ i.
+        i.0 < length followed.now.domain.now.topology.routers)) copies.now }
+    requires once { Distinct (lans copies.now) }
+    requires needs { All (λ e. e.need ≤ 255) (entries_of (flow_net followed.now) copies.now) }
+    ensures { IsByLan by_lan.new (entries_of (flow_net followed.now) copies.now) }
+{
+    for copy in copies {
+        let entry = entry_of(followed, by_lan, copy);
+        put(by_lan, entry);
+    }
+}
+
+/// The entries of the copies that a travel at TTL 255 carried, each at its LAN's place.
+pub(crate) fn entries_by_lan(
+    alloc: Global,
+    followed: &Followed<'_>,
+    copies: &[Carried],
+) -> Result<Vec<Option<Reached>>, Memory>
+    requires lans { All (λ c. c.lan < length followed.now.domain.now.topology.lans) copies.now }
+    requires senders { All (λ c. IfSome c.sender (λ i.
+        i.0 < length followed.now.domain.now.topology.routers)) copies.now }
+    requires once { Distinct (lans copies.now) }
+    requires needs { All (λ e. e.need ≤ 255) (entries_of (flow_net followed.now) copies.now) }
+    ensures { IfOk result (λ by_lan.
+        IsByLan by_lan.items (entries_of (flow_net followed.now) copies.now)) }
+{
+    let mut by_lan = vec![in alloc; None; followed.lans() as usize]?;
+    put_entries(followed, &mut by_lan, copies);
+    Ok(by_lan)
+}
+
+/// The entries, by ascending numbers of their LANs.
+pub(crate) fn listed(alloc: Global, by_lan: &[Option<Reached>]) -> Result<Vec<Reached>, Memory>
+    ensures { IfOk result (λ entries. entries.items ≡ held_entries by_lan.now) }
+{
+    let mut entries = Vec::new(alloc);
+    for place in by_lan {
+        if let Some(entry) = place {
+            entries.push(*entry)?;
+        }
+    }
+    Ok(entries)
+}

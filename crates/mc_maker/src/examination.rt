@@ -1,0 +1,144 @@
+//! A flow is examined: it has a certificate, or something is found.
+
+ghost use Rattle.std.specs.Prelude.{◌≡◌, ◌↔◌, ◌<◌, All, IfNone, IfOk, IfSome, IsSome, IsTrue, length, map};
+ghost use Rattle.std.specs.List.Sorted.{IsStrictlyIncreasing};
+ghost use Rattle.mc_theory.specs.Certificates.{IsAccepted, IsReordering, IsRight};
+ghost use Rattle.mc_theory.specs.Made.{entries_of};
+ghost use Rattle.mc_forward.specs.Domains.{net_of, ttl_of};
+ghost use Rattle.mc_cert.specs.Certificate.{IsEntryOf, IsList};
+ghost use Rattle.mc_maker.specs.Examined.{FindsFault, FindsNothing, IfCertified, IfFound, IsOfTravel, IsTravelOfFirst, IsTtlOfFault, is_certified};
+ghost use Rattle.mc_maker.specs.Making.{AreClean};
+
+use crate::entries::{entries_by_lan, listed};
+use crate::followed::Followed;
+use crate::served::serves_all;
+use mc_cert::Reached;
+use mc_forward::{Carried, Domain};
+use mc_replay::{Finding, First, Travel, replay, replay_to_end};
+use mc_text::Memory;
+use std::alloc::Global;
+
+/// What an examination of a flow answers.
+#[derive(Debug, Drop)]
+pub enum Examined {
+    /// The flow is right: the entries of its certificate.
+    Certified(Vec<Reached>),
+    /// It isn't: what a packet of it meets.
+    Found {
+        /// The packet's time to live.
+        ttl: u8,
+        /// Its travel, in which the first waiting copy is handled each time.
+        travel: Travel,
+    },
+}
+
+/// The entries of the copies that a clean travel at TTL 255 carried, by ascending numbers of their LANs, if
+/// they reach each LAN that wants the flow.
+fn certificate_of(
+    alloc: Global,
+    domain: &Domain,
+    flow: u32,
+    copies: &[Carried],
+) -> Result<Option<Vec<Reached>>, Memory>
+    requires flow { flow < length domain.now.topology.flows }
+    requires clean { AreClean domain.now flow copies.now }
+    ensures accepted { IfOk result (λ made. IfSome made (λ es.
+        IsAccepted (net_of domain.now flow) es.items)) }
+    ensures ascending { IfOk result (λ made. IfSome made (λ es.
+        IsStrictlyIncreasing (map (λ e. e.lan) es.items))) }
+    ensures listed { IfOk result (λ made. IfSome made (λ es.
+        All (IsEntryOf domain.now.topology) es.items)) }
+    ensures list { IfOk result (λ made. IfSome made (λ es. IsList es.items)) }
+    ensures entries { IfOk result (λ made. IfSome made (λ es.
+        IsReordering (entries_of (net_of domain.now flow) copies.now) es.items)) }
+    // Else the travel at the flow's TTL finds a fault.
+    ensures none { IfOk result (λ made. IfNone made ((travel : Travel) →
+        IsTravelOfFirst domain.now flow (ttl_of domain.now flow) travel → FindsFault travel)) }
+{
+    let followed = Followed::new(domain, flow);
+    let by_lan = entries_by_lan(alloc, &followed, copies)?;
+    if !serves_all(&followed, &by_lan) {
+        return Ok(None);
+    }
+    Ok(Some(listed(alloc, &by_lan)?))
+}
+
+/// Examines the flow with this number: the travel of a packet of TTL 255 shows that the flow is not right, or
+/// its copies make the entries of a certificate, or these leave a LAN unserved and so does a packet of the
+/// flow's least TTL.
+///
+/// # Errors
+///
+/// `Memory` where a growth was refused.
+pub fn examine(alloc: Global, domain: &Domain, flow: u32) -> Result<Examined, Memory>
+    requires { flow < length domain.now.topology.flows }
+    // The entries of a certified flow are accepted,
+    ensures accepted { IfOk result (IfCertified (IsAccepted (net_of domain.now flow))) }
+    // by ascending numbers of their LANs,
+    ensures ascending { IfOk result (IfCertified (λ es. IsStrictlyIncreasing (map (λ e. e.lan) es))) }
+    // of the topology,
+    ensures listed { IfOk result (IfCertified (All (IsEntryOf domain.now.topology))) }
+    // such as a certificate can hold,
+    ensures list { IfOk result (IfCertified IsList) }
+    // and those of the copies that the travel at TTL 255 carried.
+    ensures made { IfOk result (IfCertified (IsOfTravel domain.now flow)) }
+    // What is found is the travel at that TTL in which the first waiting copy is handled each time,
+    ensures travel { IfOk result (IfFound (IsTravelOfFirst domain.now flow)) }
+    // it finds a fault,
+    ensures fault { IfOk result (IfFound (λ ttl travel. FindsFault travel)) }
+    // and the TTL is 255 if a fault is found there, and else the flow's.
+    ensures ttl { IfOk result (IfFound (λ ttl travel. IsTtlOfFault domain.now flow ttl)) }
+    // The flow is certified exactly if it is right.
+    ensures right { IfOk result (λ examined.
+        IsTrue (is_certified examined) ↔ IsRight (net_of domain.now flow)) }
+{
+    let topology = domain.topology();
+    let ended = replay_to_end(alloc, domain, flow, 255, &mut First)?;
+    let Finding::Clean = ended.travel.finding else {
+        return Ok(Examined::Found {
+            ttl: 255,
+            travel: ended.travel,
+        });
+    };
+    if let Some(entries) = certificate_of(alloc, domain, flow, ended.flight.copies())? {
+        return Ok(Examined::Certified(entries));
+    }
+    let ttl = topology.flow(flow).ttl;
+    let travel = replay(alloc, domain, flow, ttl, &mut First)?;
+    Ok(Examined::Found { ttl, travel })
+}
+
+/// The entries of a certificate of the flow with this number, if it is right.
+///
+/// # Errors
+///
+/// `Memory` where a growth was refused.
+pub fn make(alloc: Global, domain: &Domain, flow: u32) -> Result<Option<Vec<Reached>>, Memory>
+    requires { flow < length domain.now.topology.flows }
+    // The entries are accepted,
+    ensures accepted { IfOk result (λ made. IfSome made (λ es.
+        IsAccepted (net_of domain.now flow) es.items)) }
+    // by ascending numbers of their LANs,
+    ensures ascending { IfOk result (λ made. IfSome made (λ es.
+        IsStrictlyIncreasing (map (λ e. e.lan) es.items))) }
+    // of the topology,
+    ensures listed { IfOk result (λ made. IfSome made (λ es.
+        All (IsEntryOf domain.now.topology) es.items)) }
+    // such as a certificate can hold,
+    ensures list { IfOk result (λ made. IfSome made (λ es. IsList es.items)) }
+    // and those of the copies that the travel at TTL 255 carried.
+    ensures made { IfOk result (λ made. IfSome made (λ es. IsOfTravel domain.now flow es.items)) }
+    // There are some exactly if the flow is right,
+    ensures right { IfOk result (λ made. IsSome made ↔ IsRight (net_of domain.now flow)) }
+    // which is to say that the travels at TTL 255 and at the flow's both find nothing.
+    ensures travels { IfOk result (λ made. (first second : Travel) →
+        IsTravelOfFirst domain.now flow 255 first →
+        IsTravelOfFirst domain.now flow (ttl_of domain.now flow) second →
+        IsSome made ↔ (FindsNothing first × FindsNothing second)) }
+{
+    let _rules = domain.topology();
+    match examine(alloc, domain, flow)? {
+        Examined::Certified(entries) => Ok(Some(entries)),
+        Examined::Found { .. } => Ok(None),
+    }
+}

@@ -1,0 +1,13 @@
+//! The maker: for a flow that is right the certificate's entries, and for another one a travel that shows
+//! what is wrong.
+#![tactic(auto)]
+
+mod entries;
+mod examination;
+mod followed;
+mod served;
+
+pub use examination::{Examined, examine, make};
+
+#[cfg(test)]
+mod tests;

@@ -1,0 +1,2 @@
+mod examined;
+mod network;

@@ -1,7 +1,8 @@
 # make            builds the proved program, crates/mcaudit/out/mcaudit
 # make example    builds it if needed, and runs it on the files of examples/
 # make test       the gate: every proof, the edits that must fail, the tests, and the command-line cases
-# make bench      reads large texts, and prints what that took in time and memory (it needs python3)
+# make bench      does the steps of a run on large texts, and prints what they took in time and memory (it needs
+#                 python3)
 # make install    puts the program into $(PREFIX)/bin
 
 PREFIX ?= /usr/local

@@ -9,6 +9,7 @@ use std::alloc::Global;
 use std::time::{Clock, Duration, Instant};
 
 /// How long a step took, and whether it gave what it is for.
+#[derive(Drop)]
 pub(crate) struct Step {
     pub(crate) took: Duration,
     pub(crate) good: bool,

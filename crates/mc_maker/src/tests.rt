@@ -1,2 +1,0 @@
-mod examined;
-mod network;

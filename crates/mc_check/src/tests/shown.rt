@@ -5,9 +5,9 @@ use crate::{Reason, Verdict};
 use mc_topology::{LanNo, RouterNo};
 use std::test::Fail;
 
-const R2: RouterNo = RouterNo(1);
+const SECOND_ROUTER: RouterNo = RouterNo(1);
 
-const R3: RouterNo = RouterNo(2);
+const ROUTER_PAST_THE_LAST: RouterNo = RouterNo(2);
 
 const L0: LanNo = LanNo(0);
 
@@ -21,9 +21,9 @@ fn reasons(rt: HostRuntime) -> Result<(), Fail> {
     for (reason, text) in [
         (Reason::TwoEntries(L2), "TwoEntries l2"),
         (Reason::BadSource, "BadSource"),
-        (Reason::Wildcard(R2, 0), "Wildcard r2 0"),
-        (Reason::Stray(R2, 31), "Stray r2 31"),
-        (Reason::Extra(R2, 1, L0), "Extra r2 1 l0"),
+        (Reason::Wildcard(SECOND_ROUTER, 0), "Wildcard r2 0"),
+        (Reason::Stray(SECOND_ROUTER, 31), "Stray r2 31"),
+        (Reason::Extra(SECOND_ROUTER, 1, L0), "Extra r2 1 l0"),
         (Reason::WrongRank(L2), "WrongRank l2"),
         (Reason::WrongNeed(L2), "WrongNeed l2"),
         (Reason::Unfed(L2), "Unfed l2"),
@@ -31,8 +31,8 @@ fn reasons(rt: HostRuntime) -> Result<(), Fail> {
         (Reason::Low(L0), "Low l0"),
         // Names that the topology hasn't.
         (Reason::Missed(L3), "Missed "),
-        (Reason::Stray(R3, 255), "Stray  255"),
-        (Reason::Extra(R3, 1, L3), "Extra  1 "),
+        (Reason::Stray(ROUTER_PAST_THE_LAST, 255), "Stray  255"),
+        (Reason::Extra(ROUTER_PAST_THE_LAST, 1, L3), "Extra  1 "),
         (Reason::Low(LanNo(u32::MAX)), "Low "),
     ] {
         let shown = reason.shown(domain.topology()).to_string(rt.alloc())?;
@@ -48,7 +48,10 @@ fn verdicts(rt: HostRuntime) -> Result<(), Fail> {
         (Verdict::Yes { copies: 1 }, "yes copies 1"),
         (Verdict::Yes { copies: 1024 }, "yes copies 1024"),
         (Verdict::No(Reason::BadSource), "no BadSource"),
-        (Verdict::No(Reason::Extra(R2, 1, L0)), "no Extra r2 1 l0"),
+        (
+            Verdict::No(Reason::Extra(SECOND_ROUTER, 1, L0)),
+            "no Extra r2 1 l0",
+        ),
     ] {
         let shown = verdict.shown(domain.topology()).to_string(rt.alloc())?;
         assert_eq!(rt; shown.as_str(), text);

@@ -3,6 +3,7 @@
 ghost use Rattle.std.specs.Prelude.{◌≡◌, ◌≤◌, ℕ, map, IfOk, IfSome, Ok, Some};
 ghost use Rattle.std.specs.String.{string_bytes};
 ghost use Rattle.mc_text.specs.Addr.{IsForwardedGroup, IsSource, dotted};
+ghost use Rattle.mc_text.specs.Number.{IsDecimal};
 ghost use Rattle.mcaudit.specs.declared.command.WordsFault.TheVariants.{Memory};
 ghost use Rattle.mcaudit.specs.Task.{AreWords, IsAllowed};
 
@@ -181,7 +182,8 @@ fn source_of(word: &str) -> Option<Addr>
 
 /// The number from 1 to the greatest that the word writes in decimal.
 fn number_of(word: &str, greatest: u64) -> Option<u64>
-    ensures { IfSome result (λ number. (1 ≤ number) × (number ≤ greatest)) }
+    ensures range { IfSome result (λ number. (1 ≤ number) × (number ≤ greatest)) }
+    ensures found { IfSome result (IsDecimal word.now) }
 {
     let number = decimal(word.as_bytes(), greatest)?;
     (number >= 1).then_some(number)

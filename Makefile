@@ -1,15 +1,16 @@
 # make            builds the proved program, crates/mcaudit/out/mcaudit
-# make example    builds it if needed, and judges two bundles of examples/: the second has a fault, which a travel shows
-# make test       the gate: every proof, the edits that must fail, the tests, and the command-line cases
-# make bench      reads large texts, and prints what that took in time and memory (it needs python3)
-# make install    puts the program into $(PREFIX)/bin
+# make example    shows the whole way on two folders of examples/, the second with a fault; by the program if it is built
+# make test       the gate: every proof, the edits that must fail, the tests, the command-line cases, and those of tools/
+# make bench      does steps of a run on large texts, and prints what they took in time and memory (it needs python3)
+# make lab        from routers to a verdict, in network namespaces (it needs root, smcroute, tcpdump and python3)
+# make install    puts the program and its tools into $(PREFIX)/bin, the manual page and the completion into $(PREFIX)/share
 
 PREFIX ?= /usr/local
 PROGRAM = crates/mcaudit/out/mcaudit
 MEASURE = crates/measure/out/measure
 SOURCES = $(shell find crates -path '*/out' -prune -o -type f \( -name '*.rt' -o -name '*.antt' \) -print) crates.txt
 
-.PHONY: all example test bench install
+.PHONY: all example test bench lab install
 
 all: $(PROGRAM)
 
@@ -18,14 +19,14 @@ $(PROGRAM): $(SOURCES)
 	cd crates/mcaudit && rt run -- check < stdin
 	test -x $(PROGRAM)
 
-example: $(PROGRAM)
-	$(PROGRAM) check < examples/network.bundle
-	$(PROGRAM) check < examples/second-router.bundle || test $$? = 1
-	$(PROGRAM) replay 1 3 < examples/second-router-captured.bundle || test $$? = 1
+example:
+	@if $(MAKE) -s -q $(PROGRAM); then \
+		sh examples/whole_way.sh $(PROGRAM); else sh examples/whole_way.sh; fi
 
 test:
 	rt ci
 	sh tests/cli/run.sh $(PROGRAM)
+	sh tests/tools/run.sh
 
 bench: $(MEASURE)
 	python3 bench/run.py $(MEASURE)
@@ -35,5 +36,12 @@ $(MEASURE): $(SOURCES)
 	cd crates/measure && rt run -- vif /dev/null
 	test -x $(MEASURE)
 
+lab: $(PROGRAM)
+	sh tests/lab/run.sh $(PROGRAM)
+
 install: $(PROGRAM)
 	install -D -m 755 $(PROGRAM) $(DESTDIR)$(PREFIX)/bin/mcaudit
+	install -D -m 755 tools/mcaudit-collect $(DESTDIR)$(PREFIX)/bin/mcaudit-collect
+	install -D -m 755 tools/mcaudit-reports $(DESTDIR)$(PREFIX)/bin/mcaudit-reports
+	install -D -m 644 docs/mcaudit.1 $(DESTDIR)$(PREFIX)/share/man/man1/mcaudit.1
+	install -D -m 644 tools/mcaudit.bash $(DESTDIR)$(PREFIX)/share/bash-completion/completions/mcaudit

@@ -1,10 +1,13 @@
 #!/usr/bin/env python3
-"""Makes texts from a seed, reads each through the program crates/measure, and prints a table of what that took.
+"""Makes texts from a seed, does one step with each through the program crates/measure, and prints a table of what
+that took.
 
-usage: run.py MEASURE [RUNS]
+usage: run.py MEASURE [RUNS [WORD]]
 
-read      the best time of the reader alone, the text being in memory
-whole     the best time of the whole process: start, the text from the file, the reader, exit
+With a WORD, only the texts are measured whose names have it.
+
+step      the best time of the step alone: the reader, the text being in memory, or what follows after it
+whole     the best time of the whole process: start, the text from the file, what comes before the step, exit
 memory    the most that the process had at once, the text among it
 wc -l     the best time of that process over the same file
 """
@@ -14,17 +17,10 @@ import sys
 import tempfile
 import time
 
+from domains import Domain, dotted, word
+
 SEED = 7761
 SHARES = (4, 2, 1)  # a quarter, a half and the whole
-
-
-def word(address):
-    """An address as a little-endian kernel prints it."""
-    return "".join(f"{octet:02X}" for octet in address.to_bytes(4, "little"))
-
-
-def dotted(address):
-    return ".".join(str(octet) for octet in address.to_bytes(4, "big"))
 
 
 def outgoing(rng):
@@ -92,13 +88,44 @@ def topology(rng, share):
     return "".join(lines)
 
 
+def domain(rng, share):
+    """All counts at their limits, and 64 reports of each LAN."""
+    return Domain(rng, 1024 // share, 256 // share, 4096 // share).forwarded(64)
+
+
+def domain_flows(rng, share):
+    """The same, of which only the flows become fewer."""
+    return Domain(rng, 1024, 256, 4096 // share).forwarded(64)
+
+
+def reports_of_groups(rng, share):
+    """One LAN with 65,536 reports, over all groups of 4,096 flows."""
+    return Domain(rng, 1024, 256, 4096).reported(65536 // share)
+
+
+def reports_of_one_group(rng, share):
+    """One LAN with 65,536 reports, of the one group of 4,096 flows."""
+    return Domain(rng, 1024, 256, 4096, one_group=True).reported(65536 // share)
+
+
+def travel(rng, share):
+    """8,192 interfaces, and a flow that reaches all of its LANs, among 256 flows."""
+    return Domain(rng, 1024 // share, 256 // share, 256).forwarded(0)
+
+
+# What is made, and the steps that are measured with it.
 TEXTS = (
-    ("cache: different groups", "cache", groups),
-    ("cache: ascending groups", "cache", ascending_groups),
-    ("cache: sources of one group", "cache", sources),
-    ("cache: rows for every source", "cache", wildcards),
-    ("vifs", "vif", vifs),
-    ("topology", "topology", topology),
+    ("cache: different groups", ["cache"], groups),
+    ("cache: ascending groups", ["cache"], ascending_groups),
+    ("cache: sources of one group", ["cache"], sources),
+    ("cache: rows for every source", ["cache"], wildcards),
+    ("vifs", ["vif"], vifs),
+    ("topology", ["topology"], topology),
+    ("domain", ["bundle", "assemble"], domain),
+    ("domain, flows", ["bundle", "assemble"], domain_flows),
+    ("one list: all groups", ["bundle", "assemble"], reports_of_groups),
+    ("one list: one group", ["bundle", "assemble"], reports_of_one_group),
+    ("travel", ["assemble", "travel"], travel),
 )
 
 
@@ -109,39 +136,42 @@ def run(command):
     return time.perf_counter() - start, ended.stdout.decode()
 
 
-def measured(measure, kind, path, runs):
-    """The best times of the reader, of the whole process and of `wc -l`, and the memory."""
-    read = whole = lines = float("inf")
+def measured(measure, step, path, runs):
+    """The best times of the step, of the whole process and of `wc -l`, and the memory."""
+    took = whole = lines = float("inf")
     memory = 0
     for _ in range(runs):
-        took, output = run([measure, kind, path])
+        all_of_it, output = run([measure, step, path])
         micros, answer, kib, _ = output.split()
-        if answer != "read":
-            sys.exit(f"run.py: the {kind} of {path} was refused")
-        read, whole, memory = min(read, int(micros) / 1e6), min(whole, took), max(memory, int(kib))
+        if answer != "good":
+            sys.exit(f"run.py: {step} of {path} was refused")
+        took, whole, memory = min(took, int(micros) / 1e6), min(whole, all_of_it), max(memory, int(kib))
         lines = min(lines, run(["wc", "-l", path])[0])
-    return read, whole, memory, lines
+    return took, whole, memory, lines
 
 
 def main():
     measure, runs = sys.argv[1], int(sys.argv[2]) if len(sys.argv) > 2 else 9
+    among = sys.argv[3] if len(sys.argv) > 3 else ""
     print(
-        f"{'text':30} {'bytes':>9} {'lines':>6} {'read':>9} {'whole':>9} {'memory':>11}"
-        f" {'wc -l':>8} {'read / wc':>9}"
+        f"{'text':30} {'step':>11} {'bytes':>9} {'lines':>7} {'step':>10} {'whole':>10} {'memory':>11}"
+        f" {'wc -l':>8} {'step / wc':>9}"
     )
     with tempfile.TemporaryDirectory() as folder:
-        for name, kind, make in TEXTS:
+        for name, steps, make in (text for text in TEXTS if among in text[0]):
             for share in SHARES:
                 text = make(random.Random(SEED), share)
                 path = f"{folder}/text"
                 with open(path, "w", encoding="ascii") as file:
                     file.write(text)
-                read, whole, memory, lines = measured(measure, kind, path, runs)
                 title = name if share == 1 else f"{name}, 1/{share}"
-                print(
-                    f"{title:30} {len(text):9} {text.count(chr(10)):6} {read * 1e3:6.2f} ms"
-                    f" {whole * 1e3:6.2f} ms {memory:7} KiB {lines * 1e3:5.2f} ms {read / lines:9.1f}"
-                )
+                for step in steps:
+                    took, whole, memory, lines = measured(measure, step, path, runs)
+                    print(
+                        f"{title:30} {step:>11} {len(text):9} {text.count(chr(10)):7} {took * 1e3:7.2f} ms"
+                        f" {whole * 1e3:7.2f} ms {memory:7} KiB {lines * 1e3:5.2f} ms {took / lines:9.1f}",
+                        flush=True,
+                    )
 
 
 main()

@@ -3,10 +3,13 @@
 # say. Usage: run.sh PROGRAM
 #
 #   args        its words, one a line
+#   links       what stands in its folder by a link, lines `name target`: the case's folder is copied with
+#               these beside its files, and the word `FOLDER` of args is the copy's path
 #   stdin       its standard input (without it: empty); or stdin.sh, which writes it; or stdin.pipe, which
 #               writes it while the program runs, and may go on without end; or stdin.path, the path of
 #               what is opened as standard input, from the top of the repository
 #   stdout      its standard output (without it: empty); or stdout.path, where it goes and isn't compared
+#   stdout.same the path of a file that is its standard output, from the top of the repository
 #   stderr      its standard error (without it: empty); or stderr.has, of which it has each line's text
 #   status      its exit status (without it: 0)
 #
@@ -24,10 +27,24 @@ expected_of() {
     if [ -f "$1" ]; then echo "$1"; else echo "$scratch/empty"; fi
 }
 
+copy_with_links() {
+    rm -rf "$2"
+    cp -R "$1/folder" "$2"
+    while read -r name target; do
+        ln -s "$target" "$2/$name"
+    done < "$1/links"
+}
+
 run_case() {
     folder=$1
     set --
+    linked=
+    if [ -f "$folder/links" ]; then
+        linked=$scratch/linked
+        copy_with_links "$folder" "$linked"
+    fi
     while IFS= read -r word || [ -n "$word" ]; do
+        if [ "$word" = FOLDER ] && [ -n "$linked" ]; then word=$linked; fi
         set -- "$@" "$word"
     done < "$folder/args"
     input=$(expected_of "$folder/stdin")
@@ -54,7 +71,11 @@ run_case() {
     fi
     [ "$status" = "$wanted" ] || { echo "status $status, not $wanted"; return 1; }
     if [ ! -f "$folder/stdout.path" ]; then
-        diff "$(expected_of "$folder/stdout")" "$scratch/stdout" || return 1
+        expected=$(expected_of "$folder/stdout")
+        if [ -f "$folder/stdout.same" ]; then
+            expected=$(cat "$folder/stdout.same")
+        fi
+        diff "$expected" "$scratch/stdout" || return 1
     fi
     if [ -f "$folder/stderr.has" ]; then
         [ -s "$folder/stderr.has" ] || { echo "stderr.has is empty"; return 1; }

@@ -6,19 +6,9 @@ use Rattle.mc_theory.specs.Reasons.{first_reason}
 use Rattle.mc_forward.specs.Domains.{DomainValue, IsDomain, net_of}
 use Rattle.mc_check.specs.Reasons.{reason_seen}
 use Rattle.mc_check.proofs.VerdictLemmas.{judge, exact, copies, first, yes-safe, yes-delivers, yes-right, yes-headline}
-use Rattle.mc_check.specs.Verdicts.{verdict_by, OfEachFlow, IsExact, HasCopies, HasFirstReason, YesIsSafe, YesDelivers, YesIsRight, YesKeepsHeadline}
+use Rattle.mc_check.specs.Verdicts.{verdict_by, OfEachFlow, Says}
 use Rattle.mc_check.specs.declared.verdict.Reason.{Reason}
 use Rattle.mc_check.specs.declared.verdict.Verdict.{Verdict}
-
--- all that a verdict says
-pub record Says (count : ℕ) (n : Net) (es : List Entry) (v : Verdict) : Type 0 where
-  pub accepted : IsExact n es v
-  pub copies : HasCopies n es v
-  pub reason : HasFirstReason count n es v
-  pub safe : YesIsSafe n es v
-  pub delivered : YesDelivers n es v
-  pub right : YesIsRight n es v
-  pub headline : YesKeepsHeadline n es v
 
 -- the verdicts on the first k flows
 pub record Judged (d : DomainValue) (lists : List (List Entry)) (k : ℕ) (vs : List Verdict) : Type 0 where

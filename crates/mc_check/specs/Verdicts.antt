@@ -62,6 +62,16 @@ YesIsRight n es v = IfYes v (λ copies. IsRight n)
 abbrev pub YesKeepsHeadline : Net → List Entry → Verdict → Type 0
 YesKeepsHeadline n es v = IfYes v (λ copies. HeadlineHolds n copies)
 
+-- all of this
+pub record Says (count : ℕ) (n : Net) (es : List Entry) (v : Verdict) : Type 0 where
+  pub accepted : IsExact n es v
+  pub copies : HasCopies n es v
+  pub reason : HasFirstReason count n es v
+  pub safe : YesIsSafe n es v
+  pub delivered : YesDelivers n es v
+  pub right : YesIsRight n es v
+  pub headline : YesKeepsHeadline n es v
+
 -- ---- of each flow
 
 -- the fact of each flow's net, list and verdict

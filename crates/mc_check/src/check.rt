@@ -5,7 +5,7 @@ ghost use Rattle.mc_theory.specs.Reasons.{first_reason, twice};
 ghost use Rattle.mc_forward.specs.Domains.{net_of};
 ghost use Rattle.mc_check.specs.FlowNet.{flow_net};
 ghost use Rattle.mc_check.specs.Reasons.{reason_seen};
-ghost use Rattle.mc_check.specs.Verdicts.{HasCopies, HasFirstReason, IsExact, OfEachFlow, verdict_by};
+ghost use Rattle.mc_check.specs.Verdicts.{HasCopies, HasFirstReason, IsExact, OfEachFlow, Says, verdict_by};
 ghost use Rattle.mc_check.specs.Verdicts.{YesDelivers, YesIsRight, YesIsSafe, YesKeepsHeadline};
 
 use crate::fed::fed_reason;
@@ -72,6 +72,22 @@ fn verdict_by(reason: Option<Reason>, entries: &[Reached]) -> Verdict
     }
 }
 
+/// The verdict on a list of entries for a flow, and all that it says.
+fn verdict_on(
+    alloc: Global,
+    domain: &Domain,
+    flow: u32,
+    entries: &[Reached],
+) -> Result<Verdict, Memory>
+    requires flow { flow < length domain.now.topology.flows }
+    requires lans { All (λ e. e.lan < length domain.now.topology.lans) entries.now }
+    ensures { IfOk result (Says (length domain.now.topology.lans) (net_of domain.now flow) entries.now) }
+{
+    let _rules = domain.topology();
+    let reason = first_reason_of(alloc, domain, flow, entries)?;
+    Ok(verdict_by(reason, entries))
+}
+
 /// Whether a list of entries certifies the flow with this number.
 pub fn check_flow(
     alloc: Global,
@@ -97,9 +113,7 @@ pub fn check_flow(
     // and the promise of the headline is kept for it.
     ensures headline { IfOk result (YesKeepsHeadline (net_of domain.now flow) entries.now) }
 {
-    let _rules = domain.topology();
-    let reason = first_reason_of(alloc, domain, flow, entries)?;
-    Ok(verdict_by(reason, entries))
+    verdict_on(alloc, domain, flow, entries)
 }
 
 /// The verdict on each flow, in the order of the topology, by a certificate of the domain's topology: a

@@ -8,6 +8,7 @@ ghost use Rattle.mc_filter.specs.SourceFilter.{SourceFilter, FilterAdmits};
 ghost use Rattle.mc_filter.specs.Merged.{IsMergedValue};
 
 /// What records for a group merge to admits exactly the sources that one of them admits.
+#[tactic(auto, using(crate::proofs::MergedLemmas::merged_admits_wanted))]
 pub fn merged_filter_admits_what_is_wanted()
     ensures { (records : List Record) (group : ℕ) (filter : SourceFilter) →
         IsMergedValue records group filter →

@@ -16,6 +16,7 @@ use std::alloc::Global;
 
 /// The filter that all records for a group merge to (RFC 3376, section 3.2). It admits a source exactly if
 /// one of them does.
+#[tactic(auto, using(crate::proofs::MergedLemmas::merged_admits_wanted))]
 pub fn wants_of(alloc: Global, reports: &ReportList, group: Addr) -> Result<Filter, Memory>
     ensures merged { IfOk result (IsMergedValue reports.now group) }
     ensures wants { IfOk result (λ filter. (source : ℕ) →

@@ -89,19 +89,19 @@ row-entry wild (Some entry) v pairs e = (entry, refl, cc)
 row-entry true None v pairs e = absurd cc
 row-entry false None v pairs e = absurd cc
 
--- the outgoing vifs of an exact row are distinct
-row-distinct : (d : DomainValue) → IsDomain d → (flow router v : ℕ) (pairs : List (ℕ × ℕ)) → row_of d flow router ≡ Exact v pairs → Distinct (map (λ (p : ℕ × ℕ). p.0) pairs)
-row-distinct d ok flow router v pairs e = by d ok flow router v pairs (slice_get d.tables router) (slice_get d.topology.flows flow) refl e
+-- the outgoing vifs of an exact row ascend
+pub row-ascends : (d : DomainValue) (flow router v : ℕ) (pairs : List (ℕ × ℕ)) → IsDomain d → row_of d flow router ≡ Exact v pairs → IsStrictlyIncreasing (map (λ (p : ℕ × ℕ). p.0) pairs)
+row-ascends d flow router v pairs ok e = by d ok flow router v pairs (slice_get d.tables router) (slice_get d.topology.flows flow) refl e
   where
     by : (d : DomainValue) → IsDomain d → (flow router v : ℕ) (pairs : List (ℕ × ℕ)) (own : Option TablesValue) (f : Option Flow) → slice_get d.tables router ≡ own
-        → row_at own f ≡ Exact v pairs → Distinct (map (λ (p : ℕ × ℕ). p.0) pairs)
+        → row_at own f ≡ Exact v pairs → IsStrictlyIncreasing (map (λ (p : ℕ × ℕ). p.0) pairs)
     by d ok flow router v pairs None f at e = absurd cc
     by d ok flow router v pairs (Some own) None at e = absurd cc
     by d ok flow router v pairs (Some own) (Some f) at e =
         let found = row-entry (set.contains own.cache.wildcards f.group || set.contains own.cache.wildcards 0) (finite.get own.cache.entries (f.source, f.group)) v pairs e in
         let entry = subst (λ (o : Option Entry). IfSome o IsEntry) found.1 ((ok.tables router own at).cache.entries (f.source, f.group)) in
-        subst (λ (ps : List (ℕ × ℕ)). Distinct (map (λ (p : ℕ × ℕ). p.0) ps)) found.2
-        (subst Distinct (sym (map-vifs found.0.oifs)) (distinct-ascending (map (λ (o : Oif). o.vif) found.0.oifs) entry.ascending))
+        subst (λ (ps : List (ℕ × ℕ)). IsStrictlyIncreasing (map (λ (p : ℕ × ℕ). p.0) ps)) found.2
+        (subst IsStrictlyIncreasing (sym (map-vifs found.0.oifs)) entry.ascending)
 
 -- ---- the laws
 
@@ -109,7 +109,7 @@ pub net-of_domain : (d : DomainValue) (flow : ℕ) → IsDomain d → IsNet (net
 net-of_domain d flow ok = record {
   router = λ r v l e. (let own = vif-placed d.topology d.tables r v l e in let lt = slice_get_within d.tables r own.0 own.1 in subst (λ (n : ℕ). r < n) ok.routers lt);
   vif = λ r v l e. (let own = vif-placed d.topology d.tables r v l e in let le = (ok.tables r own.0 own.1).vifs.numbered v own.2 in omega (arith, le));
-  vifs = λ r v pairs e. row-distinct d ok flow r v pairs e;
+  vifs = λ r v pairs e. distinct-ascending (map (λ (p : ℕ × ℕ). p.0) pairs) (row-ascends d flow r v pairs ok e);
 }
 
 set-within : (flags : List Bool) (i : ℕ) → slice_index_or flags i false ≡ true → i < length flags

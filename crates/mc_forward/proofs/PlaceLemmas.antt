@@ -1,7 +1,7 @@
 -- A table of the LANs of all vifs, and the interfaces of each LAN by it.
-use Rattle.std.proofs.Common.{◌≡◌, ℕ, ◌+◌, ◌<◌, ◌≤◌, ◌⊎◌, inl, inr, Bool, true, false, cond, eqb}
+use Rattle.std.proofs.Common.{◌≡◌, ℕ, ◌+◌, ◌<◌, ◌≤◌, inl, inr, Bool, true, false, cond}
 use Rattle.std.proofs.Common.{List, [], ◌∷◌, ◌++◌, map, filter, flat_map, length, take, set, get_or}
-use Rattle.std.proofs.Common.{slice_get, Option, Some, None, unwrap_or, refl, ap, sym, subst, ◌∙◌}
+use Rattle.std.proofs.Common.{slice_get, Option, Some, None, refl, ap, sym, ◌∙◌}
 use Rattle.std.proofs.Common.{arith, append_assoc, append-nil}
 use Rattle.std.specs.Prelude.{slice_index_or, option_and_then}
 use Rattle.std.proofs.lemmas.Bool.{cases_eq, cases_lt, eq-eqb, ne_eqb}
@@ -15,7 +15,7 @@ use Rattle.mc_topology.specs.Topology.{TopologyValue}
 use Rattle.mc_theory.specs.Lists.{below}
 use Rattle.mc_theory.specs.Nets.{Interface, interfaces, is_lan, slots}
 use Rattle.mc_forward.specs.Domains.{TablesValue, DomainValue, IsDomain, lan_of_vif, placed_in}
-use Rattle.mc_forward.specs.Domains.{placed_of, net_of}
+use Rattle.mc_forward.specs.Domains.{placed_of}
 use Rattle.mc_forward.specs.DomainParts.{places_of, interfaces_of}
 use Rattle.mc_forward.specs.Assembling.{place_in, interfaces_by, vifs_on, places_by}
 use Rattle.mc_forward.proofs.BelowLemmas.{below-more, by_number-more, slice_get-by_number}

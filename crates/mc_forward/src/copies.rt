@@ -115,6 +115,14 @@ impl Copies {
         &self.strays
     }
 
+    /// The router at which the waiting copy with this index waits.
+    pub(crate) fn router(&self, index: usize) -> RouterNo
+        requires { index < length self.now.waiting }
+        ensures { option_map (λ w. w.router) (slice_get self.now.waiting index) ≡ Some result }
+    {
+        self.waiting[index].router
+    }
+
     /// A copy is put on its LAN.
     pub(crate) fn put(&mut self, net: &FlowNet<'_>, copy: &Carried) -> Result<(), Memory>
         requires { copy.now.lan < length net.now.domain.topology.lans }

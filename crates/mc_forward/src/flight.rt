@@ -70,7 +70,7 @@ impl<'d> Flight<'d> {
           flight = start (net_of domain.now flow) ttl;
         }) }
     {
-        let net = FlowNet::new(domain, flow);
+        let net = FlowNet::new(alloc, domain, flow)?;
         let mut copies = Copies::new(alloc);
         let first = Carried {
             lan: net.source(),
@@ -127,6 +127,7 @@ impl<'d> Flight<'d> {
             (slice_get self.old.flight.waiting index) ≡ Some event) }
         ensures err { OnErr result (self.new ≡ self.old) }
     {
+        self.net.look_up(self.copies.router(index));
         self.copies.handle(&self.net, index)
     }
 

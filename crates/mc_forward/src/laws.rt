@@ -1,8 +1,10 @@
 //! What follows from the definitions alone, for whoever builds on them.
 
-ghost use Rattle.std.specs.Prelude.{◌<◌, ◌≤◌, ℕ, length};
+ghost use Rattle.std.specs.Prelude.{◌≡◌, ◌<◌, ◌≤◌, ℕ, List, length, map};
+ghost use Rattle.std.specs.List.Sorted.{IsStrictlyIncreasing};
 ghost use Rattle.mc_theory.specs.Nets.{IsNet, WantsBelow};
-ghost use Rattle.mc_forward.specs.Domains.{DomainValue, IsDomain, net_of, source_of, ttl_of};
+ghost use Rattle.mc_theory.specs.Nets.Row.{Exact};
+ghost use Rattle.mc_forward.specs.Domains.{DomainValue, IsDomain, net_of, row_of, source_of, ttl_of};
 
 /// What every domain keeps is what the theorems about a flow rest on: its net is one, wanting LANs
 /// are LANs of the topology, its source is on one, and its packets have a time to live of 1 to 255.
@@ -16,4 +18,11 @@ pub fn domains_are_nets()
         1 ≤ ttl_of d flow }
     ensures ttl_to { (d : DomainValue) (flow : ℕ) → IsDomain d → flow < length d.topology.flows →
         ttl_of d flow ≤ 255 }
+{}
+
+/// The outgoing pairs of a router's exact row ascend by vif, so that a step sends by ascending vif.
+pub fn outgoing_vifs_ascend()
+    ensures { (d : DomainValue) (flow router incoming : ℕ) (pairs : List (ℕ × ℕ)) → IsDomain d →
+        row_of d flow router ≡ Exact incoming pairs →
+        IsStrictlyIncreasing (map (λ (p : ℕ × ℕ). p.0) pairs) }
 {}

@@ -29,7 +29,7 @@ pub use flow_laws::{
     every_run_of_a_flow_is_safe, no_reason_accepts_the_list,
 };
 pub use interfaces::Interfaces;
-pub use laws::domains_are_nets;
+pub use laws::{domains_are_nets, outgoing_vifs_ascend};
 pub use refused::{DomainFault, Refused};
 pub use row::RowFor;
 pub use tables::Tables;

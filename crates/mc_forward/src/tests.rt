@@ -1,4 +1,5 @@
 mod kernel;
 mod losses;
+mod memory;
 mod network;
 mod steps;

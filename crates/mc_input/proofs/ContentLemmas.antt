@@ -1,6 +1,6 @@
 -- The contents of the parts, read one after the other.
-use Rattle.std.specs.Prelude.{◌≡◌, ℕ, zero, suc, ◌+◌, ◌<◌, ◌≤◌, List, [], ◌∷◌, ◌++◌, length, drop, slice_get, Option, option_map, Some, Result, Ok, Err, refl}
-use Rattle.std.proofs.Common.{ap, ◌∙◌, sym, append_assoc, append-nil}
+use Rattle.std.specs.Prelude.{◌≡◌, ℕ, zero, suc, ◌+◌, ◌≤◌, List, [], ◌∷◌, ◌++◌, length, drop, slice_get, option_map, Some, Result, Ok, Err, refl}
+use Rattle.std.proofs.Common.{ap, sym, append_assoc, append-nil}
 use Rattle.std.proofs.lemmas.List.{drop_all}
 use Rattle.mc_text.specs.Steps.{◌>>=◌}
 use Rattle.mc_text.proofs.StepLemmas.{with_front}

@@ -1,14 +1,12 @@
 -- What a bundle is read as is what it stands for.
 use Rattle.std.specs.Prelude.{◌≡◌, ℕ, zero, suc, ◌+◌, ◌≤◌, Bool, true, false, ◌==◌, List, [], ◌∷◌, length, drop, slice_get, Option, Some, None, is_some, Result, Ok, Err, refl}
-use Rattle.std.proofs.Common.{ap, ◌∙◌, sym, arith, add-one, subst}
+use Rattle.std.proofs.Common.{ap, ◌∙◌, sym, arith, subst}
 use Rattle.std.proofs.lemmas.List.{drop_all, length-drop}
 use Rattle.std.proofs.lemmas.Option.{slice_get_within}
 use Rattle.std.proofs.lemmas.Bool.Decides.{Decides-eqb}
-use Rattle.std.specs.Str.{bytes_eq}
 use Rattle.std.proofs.lemmas.Slice.Eq.{bytes_eq-Decides}
-use Rattle.mc_text.specs.Steps.{◌>>=◌}
 use Rattle.mc_text.specs.declared.addr.Order.{Order}
-use Rattle.mc_text.specs.Bundle.{PartText, IsBundle}
+use Rattle.mc_text.specs.Bundle.{PartText}
 use Rattle.mc_text.specs.BundleReading.{bundle_of}
 use Rattle.mc_text.proofs.StepLemmas.{bind_ok, if_ok}
 use Rattle.mc_text.proofs.BundleLaws.{bundle_takes, bundle_again}
@@ -26,7 +24,7 @@ use Rattle.mc_forward.specs.Domains.{TablesValue}
 use Rattle.mc_input.specs.declared.fault.InputFault.{InputFault}
 use Rattle.mc_input.specs.declared.fault.InputFault.TheVariants.{Bundle, Parts, Topology, Vif, Cache, Reports}
 use Rattle.mc_input.specs.Names.{topology_name, certificate_name, vif_name, cache_name, reports_name}
-use Rattle.mc_input.specs.Input.{InputValue, InputStands, PartsStand, TellTables, TellReports, TellsTables, TellsReports, TellCertificate}
+use Rattle.mc_input.specs.Input.{InputValue, InputStands, PartsStand, TellTables, TellReports, TellsTables, TellCertificate}
 use Rattle.mc_input.specs.InputReading.{refused_as, part_at, named, is_named, routers_named, lans_named, ended, last_named}
 use Rattle.mc_input.specs.InputReading.{lans_place, last_place, names_in, vifs_of, cache_of, tables_of, tables_from}
 use Rattle.mc_input.specs.InputReading.{reports_of, reports_from, topology_in, input_in, input_of, certificate_in}

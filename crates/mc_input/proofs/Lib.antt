@@ -1,4 +1,6 @@
 mod NameLemmas
 mod ContentLemmas
+mod FilesLemmas
+mod FilesStand
 mod InputLemmas
 mod ReadLemmas

@@ -1,6 +1,6 @@
 -- Names that are compared in two pieces.
-use Rattle.std.specs.Prelude.{◌≡◌, ℕ, zero, suc, ◌+◌, ◌≤◌, Bool, true, false, ◌&&◌, nat_eq, List, [], ◌∷◌, ◌++◌, length, take, drop, slice_get, Option, option_map, Some, Ok, Err, refl}
-use Rattle.std.proofs.Common.{ap, ◌∙◌, sym, add-one}
+use Rattle.std.specs.Prelude.{◌≡◌, ℕ, zero, suc, ◌+◌, ◌≤◌, Bool, true, false, ◌&&◌, nat_eq, List, [], ◌∷◌, ◌++◌, length, take, drop, slice_get, option_map, Some, Ok, Err, refl}
+use Rattle.std.proofs.Common.{ap, ◌∙◌, add-one}
 use Rattle.std.proofs.lemmas.List.{drop_all}
 use Rattle.std.specs.Str.{bytes_eq}
 use Rattle.mc_text.specs.Bundle.{PartText}

@@ -10,7 +10,7 @@ use Rattle.mc_input.specs.declared.input.BundleInput.{BundleInput}
 use Rattle.mc_input.specs.Input.{InputValue, InputStands, PartsStand}
 use Rattle.mc_topology.specs.Topology.{TopologyValue}
 use Rattle.mc_forward.specs.Domains.{TablesValue}
-use Rattle.mc_input.specs.InputReading.{Gives, refused_as, certificate_in, input_in, input_of}
+use Rattle.mc_input.specs.InputReading.{Gives, refused_as, certificate_in, input_in}
 use Rattle.mc_input.specs.InputReading.{topology_in, names_in, tables_from, reports_from, lans_place}
 use Rattle.mc_input.specs.InputView.{input_value, input_seen, certificate_seen}
 use Rattle.mc_input.proofs.InputLemmas.{read_ok, parts_take, parts_again}

@@ -1,7 +1,8 @@
--- What was read of a bundle, as the value that it stands for.
+-- What was read of a bundle or of files, as the value that it stands for.
 use Rattle.std.specs.Prelude.{ℕ, List, Option, Some, None}
 use denote.Ref.{Bor}
 use Rattle.mc_input.specs.declared.input.BundleInput.{BundleInput}
+use Rattle.mc_input.specs.declared.files.FilesInput.{FilesInput}
 use Rattle.mc_input.specs.Input.{InputValue}
 
 abbrev pub input_value : BundleInput → InputValue
@@ -14,3 +15,6 @@ certificate_seen (Some text) = Some text.now
 
 abbrev pub input_seen : BundleInput → InputValue × Option (List ℕ)
 input_seen i = (input_value i, certificate_seen i.certificate)
+
+abbrev pub files_value : FilesInput → InputValue
+files_value i = record { topology = i.topology; tables = i.tables.items; reports = i.reports.items }

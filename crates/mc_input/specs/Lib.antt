@@ -2,8 +2,13 @@ pub mod Names
 pub mod Input
 pub mod InputReading
 pub mod InputView
+pub mod FilesFault
+pub mod FilesInput
+pub mod FilesReading
 pub use Rattle.mc_text.specs.Bundle
 pub use Rattle.mc_text.specs.BundleReading
+pub use Rattle.mc_files.specs.Files
+pub use Rattle.mc_files.specs.Packing
 pub use Rattle.mc_tables.specs.VifTable
 pub use Rattle.mc_tables.specs.VifReading
 pub use Rattle.mc_tables.specs.CacheTable

@@ -4,7 +4,8 @@ ghost use Rattle.std.specs.Prelude.{◌≡◌, ℕ, Bool, List, Option, is_some,
 ghost use Rattle.mc_input.specs.Input.{InputValue, InputStands};
 ghost use Rattle.mc_input.specs.InputReading.{Gives, certificate_in, input_in as input_in_parts, input_of, refused_as, topology_in as topology_in_parts};
 ghost use Rattle.mc_input.specs.InputView.{certificate_seen, input_seen, input_value};
-ghost use Rattle.mc_input.specs.declared.fault.InputFault.TheVariants.{Bundle as bundle_fault};
+ghost use Rattle.mc_input.specs.declared.fault.InputFault.TheVariants.{Bundle as bundle_fault, Topology as topology_fault};
+ghost use Rattle.mc_topology.specs.Reading.{reading_of};
 ghost use Rattle.mc_text.specs.BundleReading.{bundle_of as parts_of_text};
 
 use crate::fault::InputFault;
@@ -31,13 +32,11 @@ pub struct BundleInput<'a> {
     pub certificate: Option<&'a [u8]>,
 }
 
-/// The topology, in the first part.
-#[tactic(auto, unfolding(crate::specs::InputReading::topology_in))]
-fn topology_in(alloc: Global, bundle: &Bundle<'_>) -> Result<Topology, InputFault>
-    ensures { Gives (λ topology. topology) result (topology_in_parts bundle.now) }
+/// The topology of a text.
+pub(crate) fn topology_of(alloc: Global, text: &[u8]) -> Result<Topology, InputFault>
+    ensures { Gives (λ topology. topology) result (refused_as topology_fault (reading_of text.now)) }
 {
-    named(bundle, 0, b"topology", b"")?;
-    match Topology::read(alloc, bundle.part(0).bytes) {
+    match Topology::read(alloc, text) {
         Ok(topology) => Ok(topology),
         Err(
             TopologyFault {
@@ -47,6 +46,15 @@ fn topology_in(alloc: Global, bundle: &Bundle<'_>) -> Result<Topology, InputFaul
         ) => Err(InputFault::Memory),
         Err(fault) => Err(InputFault::Topology(fault)),
     }
+}
+
+/// The topology, in the first part.
+#[tactic(auto, unfolding(crate::specs::InputReading::topology_in))]
+fn topology_in(alloc: Global, bundle: &Bundle<'_>) -> Result<Topology, InputFault>
+    ensures { Gives (λ topology. topology) result (topology_in_parts bundle.now) }
+{
+    named(bundle, 0, b"topology", b"")?;
+    topology_of(alloc, bundle.part(0).bytes)
 }
 
 /// What the parts tell: first the topology, then the names and the number of the other parts, and then

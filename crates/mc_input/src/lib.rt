@@ -1,14 +1,19 @@
-//! What a run is handed: one bundle of a domain's texts, each part by its reader, in the one order in which
-//! they are judged.
+//! What a run is handed: a domain's texts, as the parts of one bundle or as the files of a folder, each by its
+//! reader, in the one order in which they are judged.
 #![tactic(auto)]
 
 mod fault;
+mod file_part;
+mod files;
+mod files_fault;
 mod input;
 mod names;
 mod reports;
 mod tables;
 
 pub use fault::InputFault;
+pub use files::{FilesInput, read_files};
+pub use files_fault::FilesFault;
 pub use input::{BundleInput, read_input};
 
 #[cfg(test)]

@@ -11,7 +11,7 @@ use mc_topology::Topology;
 use std::alloc::Global;
 
 /// The report list of a LAN.
-fn reports_of(alloc: Global, part: &Part<'_>) -> Result<ReportList, InputFault>
+pub(crate) fn reports_of(alloc: Global, part: &Part<'_>) -> Result<ReportList, InputFault>
     ensures { Gives (λ reports. reports) result (reports_in_part (part_text part.now)) }
 {
     match ReportList::read(alloc, part.bytes) {

@@ -12,7 +12,7 @@ use mc_topology::{RouterNo, Topology};
 use std::alloc::Global;
 
 /// The vifs of a router.
-fn vifs_of(alloc: Global, part: &Part<'_>) -> Result<VifTable, InputFault>
+pub(crate) fn vifs_of(alloc: Global, part: &Part<'_>) -> Result<VifTable, InputFault>
     ensures { Gives (λ vifs. vifs) result (vifs_of (part_text part.now)) }
 {
     match VifTable::read(alloc, part.bytes) {
@@ -28,7 +28,11 @@ fn vifs_of(alloc: Global, part: &Part<'_>) -> Result<VifTable, InputFault>
 }
 
 /// The forwarding cache of a router.
-fn cache_of(alloc: Global, part: &Part<'_>, order: Order) -> Result<CacheTable, InputFault>
+pub(crate) fn cache_of(
+    alloc: Global,
+    part: &Part<'_>,
+    order: Order,
+) -> Result<CacheTable, InputFault>
     ensures { Gives (λ cache. cache) result (cache_of order (part_text part.now)) }
 {
     match CacheTable::read(alloc, part.bytes, order) {

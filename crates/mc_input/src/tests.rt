@@ -1,5 +1,7 @@
 //! A chain of two routers as a bundle, and bundles that tell no domain.
 
+mod files;
+
 use crate::*;
 use mc_igmp::{ListFault, ListFaultKind};
 use mc_tables::{TableFault, TableFaultKind};
@@ -8,7 +10,7 @@ use mc_topology::{Section, TopologyFault, TopologyFaultKind};
 use std::alloc::Global;
 use std::test::Fail;
 
-const TOPOLOGY: &str = "version = 1\n\
+pub(crate) const TOPOLOGY: &str = "version = 1\n\
 lans = [\"l0\", \"l1\", \"l2\"]\n\
 router = [{name = \"r1\"}, {name = \"r2\"}]\n\
 interface = [\n\
@@ -20,20 +22,21 @@ interface = [\n\
 source = [{address = \"10.0.0.5\", lan = \"l0\"}]\n\
 flow = [{source = \"10.0.0.5\", group = \"239.1.2.3\", ttl = 3}]\n";
 
-const NO_FLOW: &str = "version = 1\nlans = [\"l0\"]\nflow = []\n";
+pub(crate) const NO_FLOW: &str = "version = 1\nlans = [\"l0\"]\nflow = []\n";
 
-const VIFS: &str = "Interface BytesIn PktsIn BytesOut PktsOut Flags Local Remote\n\
+pub(crate) const VIFS: &str = "Interface BytesIn PktsIn BytesOut PktsOut Flags Local Remote\n\
 0 eth0 0 0 0 0 00000 00000000 00000000\n\
 1 eth1 0 0 0 0 00000 00000000 00000000\n";
 
-const CACHE: &str = "Group Origin Iif Pkts Bytes Wrong Oifs\n030201EF 0500000A 0 0 0 0 1:1\n";
+pub(crate) const CACHE: &str =
+    "Group Origin Iif Pkts Bytes Wrong Oifs\n030201EF 0500000A 0 0 0 0 1:1\n";
 
 const UNENDED: &str = "Group Origin Iif Pkts Bytes Wrong Oifs\n030201EF 0500000A 0 0 0 0 1:1";
 
-const BAD_THRESHOLD: &str =
+pub(crate) const BAD_THRESHOLD: &str =
     "Group Origin Iif Pkts Bytes Wrong Oifs\n030201EF 0500000A 0 0 0 0 1:255\n";
 
-const WANTED: &str = "2200eaf90000000102000000ef010203\n";
+pub(crate) const WANTED: &str = "2200eaf90000000102000000ef010203\n";
 
 const CERTIFICATE: &str = "a certificate's text";
 

@@ -60,7 +60,8 @@ fn certificate_of(
     if !serves_all(&followed, &by_lan) {
         return Ok(None);
     }
-    Ok(Some(listed(alloc, &by_lan)?))
+    let entries = listed(alloc, &by_lan)?;
+    Ok(Some(entries))
 }
 
 /// Examines the flow with this number: the travel of a packet of TTL 255 shows that the flow is not right, or

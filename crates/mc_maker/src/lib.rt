@@ -8,3 +8,6 @@ mod followed;
 mod served;
 
 pub use examination::{Examined, examine, make};
+
+#[cfg(test)]
+mod tests;

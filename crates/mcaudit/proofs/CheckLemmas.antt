@@ -1,21 +1,20 @@
 -- What a run of `mcaudit check` shows of the text that it read.
-use Rattle.std.proofs.Common.{◌≡◌, ◌≢◌, ℕ, zero, suc, ◌+◌, ◌<◌, ◌≤◌, Bool, true, false, List, [], ◌∷◌, ◌++◌}
-use Rattle.std.proofs.Common.{length, take, drop, All, ◌⊎◌, inl, inr, Option, Some, None, Result, Ok, Err}
-use Rattle.std.proofs.Common.{refl, sym, ap, subst, ◌∙◌, arith, append_assoc, length-take}
-use Rattle.std.specs.Prelude.{IfSome, IfOk, IfErr, IsTrue, is_some, unwrap_or, slice_get, codes}
+use Rattle.std.proofs.Common.{◌≡◌, ◌≢◌, ℕ, zero, suc, ◌<◌, Bool, true, List, [], ◌∷◌, ◌++◌}
+use Rattle.std.proofs.Common.{length, take, drop, All, inl, inr, Option, Some, None, Result, Ok, Err}
+use Rattle.std.proofs.Common.{refl, sym, ap, subst, ◌∙◌, arith, append_assoc}
+use Rattle.std.specs.Prelude.{IfSome, IsTrue, is_some, unwrap_or, slice_get, codes}
 use Rattle.std.specs.Io.KnownBytes.{Appends}
 use Rattle.std.specs.List.{list_all}
 use Rattle.std.proofs.lemmas.Bool.{and_parts}
 use Rattle.std.proofs.lemmas.List.{take_all, length-append, take-append-drop}
 use denote.Ref.{Bor}
-use Rattle.mc_text.specs.Bundle.{max_bundle}
 use Rattle.mc_text.specs.Device.{AppendsPart}
 use Rattle.mc_theory.specs.Certificates.{Entry}
 use Rattle.mc_theory.specs.Headline.{HeadlineHolds}
-use Rattle.mc_topology.specs.Topology.{TopologyValue, IsTopology}
+use Rattle.mc_topology.specs.Topology.{TopologyValue}
 use Rattle.mc_forward.specs.Domains.{DomainValue, net_of}
 use Rattle.mc_cert.specs.Answer.{out_of_memory}
-use Rattle.mc_cert.specs.Certificate.{Tree, tree_at, BelongsTo, IsEntryOf}
+use Rattle.mc_cert.specs.Certificate.{Tree, tree_at, BelongsTo}
 use Rattle.mc_cert.specs.Reading.{reading_of}
 use Rattle.mc_cert.specs.Stands.{CertificateStands}
 use Rattle.mc_cert.specs.declared.fault.CertFault.{CertFault}
@@ -24,14 +23,12 @@ use Rattle.mc_cert.specs.declared.fault.CertFaultKind.TheVariants as kinds
 use Rattle.mc_check.specs.Verdicts.{is_yes, OfEachFlow, IsExact, HasCopies, HasFirstReason, YesKeepsHeadline}
 use Rattle.mc_check.specs.declared.verdict.Verdict.{Verdict}
 use Rattle.mc_check.specs.declared.verdict.Verdict.TheVariants.{Yes, No}
-use Rattle.mc_input.specs.Input.{InputValue, InputStands}
-use Rattle.mc_input.specs.InputReading.{input_of}
 use Rattle.mc_input.specs.InputView.{certificate_seen}
 use Rattle.mcaudit.specs.declared.fault.RunFault.{RunFault}
-use Rattle.mcaudit.specs.declared.fault.RunFault.TheVariants.{Bundle, Parts, Topology, Vif, Cache, PartReports, Reports, Certificate, Read, Write, Memory}
+use Rattle.mcaudit.specs.declared.fault.RunFault.TheVariants.{Write}
 use Rattle.mcaudit.specs.BundleMeaning.{MeansDomain, MeansCertified, HasBadCertificate, IsRefusedFor}
-use Rattle.mcaudit.specs.CheckRun.{IsVerdictText, Answers, WritesVerdicts, WritesPartOfVerdicts, IsLineStart, WroteYes, SaysYes, KeepsHeadline, HeadlineOf}
-use Rattle.mcaudit.specs.Failures.{IsNoDeviceFault, failed_reads, failed_writes}
+use Rattle.mcaudit.specs.CheckRun.{IsVerdictText, Answers, WritesVerdicts, WritesPartOfVerdicts, WroteYes, SaysYes, KeepsHeadline, HeadlineOf}
+use Rattle.mcaudit.specs.Failures.{IsNoDeviceFault}
 use Rattle.mcaudit.specs.RunFault.{of_certificate, of_certificate_kind}
 use Rattle.mcaudit.specs.VerdictText.{IsVerdict, AreVerdicts, are_yes, check_text}
 use Rattle.mcaudit.proofs.RunLemmas.{IsRead, read_whole, refused_whole}

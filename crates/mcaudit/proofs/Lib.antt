@@ -1,5 +1,9 @@
 pub mod BundleFront
+pub mod CertifiedLemmas
 pub mod CheckLemmas
+pub mod LineFeed
+pub mod MakeLemmas
+pub mod PackingLemmas
 pub mod ReplayLemmas
 pub mod RunLemmas
 pub mod TextLemmas

@@ -1,7 +1,7 @@
 -- What a run on a bundle shows of the text that it read, and of its devices.
-use Rattle.std.proofs.Common.{◌≡◌, ℕ, ◌≤◌, Bool, true, List, length, take, Option, Some, None, Result, Ok, Err}
+use Rattle.std.proofs.Common.{◌≡◌, ◌≢◌, ℕ, Bool, List, length, take, Option, Some, Result, Err}
 use Rattle.std.proofs.Common.{refl, sym, ap, subst, ◌∙◌, arith, length-take}
-use Rattle.std.specs.Prelude.{IfSome}
+use Rattle.std.specs.Prelude.{IfErr, IfSome}
 use Rattle.std.proofs.lemmas.List.{take_all}
 use Rattle.mc_input.specs.Input.{InputValue, InputStands}
 use Rattle.mc_input.specs.InputReading.{input_of}
@@ -92,3 +92,8 @@ not_written f r P is none write =
     let same : f ≡ Write = cc in
     let bad : IsNoDeviceFault Write = subst (λ (x : RunFault). IsNoDeviceFault x) same none in
     absurd bad
+
+-- a run that answers `Write` leaves what it wrote to its other clauses
+pub only_write : (r : Result Bool RunFault) (P : Type 0) → r ≡ Err Write
+    → IfErr r (λ fault. fault ≢ Write → P)
+only_write r P is = rw is (λ other. absurd (other refl))

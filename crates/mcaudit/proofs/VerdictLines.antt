@@ -1,12 +1,11 @@
 -- The lines of a verdict text: `verdict yes` begins none but the last, and that only where every verdict is yes.
-use Rattle.std.proofs.Common.{◌≡◌, ℕ, zero, suc, ◌+◌, ◌-◌, ◌*◌, ◌<◌, ◌≤◌, ◌/◌, ◌%◌, Bool, true, false}
-use Rattle.std.proofs.Common.{cond, eqb, List, [], ◌∷◌, ◌++◌, length, ◌⊎◌, inl, inr, Option, Some, None}
+use Rattle.std.proofs.Common.{◌≡◌, ℕ, zero, suc, ◌+◌, ◌/◌, ◌%◌, Bool, true, false}
+use Rattle.std.proofs.Common.{cond, eqb, List, [], ◌∷◌, ◌++◌, ◌⊎◌, inl, inr, Some}
 use Rattle.std.proofs.Common.{refl, sym, ap, subst, ◌∙◌, arith, append_assoc}
-use Rattle.std.specs.Prelude.{◌==◌, ◌&&◌, not, nat_lt, codes, slice_index, decimal, IsTrue, slice_get, unwrap_or, option_map}
+use Rattle.std.specs.Prelude.{◌==◌, not, nat_lt, codes, slice_index, decimal, IsTrue, slice_get, unwrap_or, option_map}
 use Rattle.std.specs.Fmt.{digits, digits_onto, digit_glyph}
 use Rattle.std.specs.List.{list_all}
 use Rattle.std.proofs.lemmas.Bool.{and_parts, ne_eqb}
-use Rattle.std.proofs.lemmas.List.{length-append}
 use Rattle.mc_text.specs.Addr.{dotted}
 use Rattle.mc_text.proofs.BundleWords.{Without, Without-append, Without-from_list_all}
 use Rattle.mc_topology.specs.declared.flow.Flow.{Flow}

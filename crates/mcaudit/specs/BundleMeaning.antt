@@ -1,5 +1,5 @@
 -- What a bundle means to a run: a domain, and the lists of a certificate for its flows; or why it is refused.
-use Rattle.std.specs.Prelude.{◌≡◌, ℕ, Bool, IsTrue, List, Option, Some, Result, Err, ⊤}
+use Rattle.std.specs.Prelude.{◌≡◌, ℕ, Bool, IsTrue, List, Option, Some, Err, ⊤}
 use Rattle.mc_forward.specs.Domains.{DomainValue, IsDomain}
 use Rattle.mc_forward.specs.Assembling.{IsAssembled}
 use Rattle.mc_cert.specs.Certificate.{Tree}

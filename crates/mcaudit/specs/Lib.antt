@@ -1,6 +1,8 @@
 pub mod BundleMeaning
 pub mod CheckRun
 pub mod Failures
+pub mod MakeRun
+pub mod PackingRun
 pub mod ReplayRun
 pub mod RunFault
 pub mod Status
@@ -20,6 +22,10 @@ pub use Rattle.mc_theory.specs.Certificates
 pub use Rattle.mc_theory.specs.Headline
 pub use Rattle.mc_theory.specs.Reasons as FirstReasons
 pub use Rattle.mc_topology.specs.Topology
+pub use Rattle.mc_files.specs.Files
+pub use Rattle.mc_files.specs.Packing
+pub use Rattle.mc_files.specs.PackReading
+pub use Rattle.mc_files.specs.PackRun
 pub use Rattle.mc_forward.specs.Domains
 pub use Rattle.mc_forward.specs.Assembling
 pub use Rattle.mc_cert.specs.Certificate
@@ -31,3 +37,5 @@ pub use Rattle.mc_theory.specs.Events
 pub use Rattle.mc_theory.specs.Findings
 pub use Rattle.mc_replay.specs.Travels
 pub use Rattle.mc_replay.specs.TravelText
+pub use Rattle.mc_cert.specs.CertificateText
+pub use Rattle.mc_maker.specs.Examined

@@ -2,16 +2,20 @@
 use Rattle.std.specs.Prelude.{◌≡◌, ◌≤◌, ℕ, List, ⊤}
 use Rattle.mc_text.specs.Addr.{IsForwardedGroup, IsSource, dotted}
 use Rattle.mcaudit.specs.declared.command.Task.{Task}
-use Rattle.mcaudit.specs.declared.command.Task.TheVariants.{Wants, Check, Replay}
+use Rattle.mcaudit.specs.declared.command.Task.TheVariants.{Wants, Check, Make, Replay, Pack}
 
 abbrev pub IsAllowed : Task → Type 0
 IsAllowed (Wants group source) = IsForwardedGroup group × IsSource source
 IsAllowed Check = ⊤
+IsAllowed Make = ⊤
 IsAllowed (Replay flow ttl last) = (1 ≤ flow) × (flow ≤ 4096) × (1 ≤ ttl)
+IsAllowed (Pack folder certificate) = ⊤
 
 -- the words after `wants` are the group and the source of the task
 abbrev pub AreWords : List ℕ → List ℕ → Task → Type 0
 AreWords group_word source_word (Wants group source) =
     (group_word ≡ dotted group) × (source_word ≡ dotted source)
 AreWords group_word source_word Check = ⊥
+AreWords group_word source_word Make = ⊥
 AreWords group_word source_word (Replay flow ttl last) = ⊥
+AreWords group_word source_word (Pack folder certificate) = ⊥

@@ -8,7 +8,7 @@ ghost use Rattle.mcaudit.specs.declared.command.WordsFault.TheVariants.{Memory};
 ghost use Rattle.mcaudit.specs.Task.{AreWords, IsAllowed};
 
 use clap::error::ErrorKind;
-use clap::{Arg, ArgMatches, Command};
+use clap::{Arg, ArgAction, ArgMatches, Command};
 use mc_text::{Addr, decimal};
 use std::alloc::{AllocError, Global};
 use std::env::{self, Env};
@@ -17,7 +17,7 @@ use thiserror::Error;
 
 /// What the words ask for.
 #[derive(Clone, Copy, Debug, PartialEq, Eq)]
-pub enum Task {
+pub enum Task<'a> {
     /// Whether the LAN whose reports are read wants what the source sends to the group.
     Wants {
         /// 224.0.1.0 to 239.255.255.255.
@@ -27,6 +27,8 @@ pub enum Task {
     },
     /// Whether a bundle's certificate proves that its domain forwards every listed flow as it should.
     Check,
+    /// The certificate of a bundle's domain, or what a packet meets of each flow that has none.
+    Make,
     /// The travel of one packet through a bundle's domain.
     Replay {
         /// The number of the packet's flow, 1 to 4,096.
@@ -35,6 +37,13 @@ pub enum Task {
         ttl: u8,
         /// Whether the last of the waiting copies is always handled next, and not the first.
         last: bool,
+    },
+    /// The bundle of a folder's files.
+    Pack {
+        /// The folder's path, which is empty for the present directory.
+        folder: &'a str,
+        /// Whether the certificate is to be in the bundle.
+        certificate: bool,
     },
 }
 
@@ -60,8 +69,12 @@ impl From<AllocError> for WordsFault {
 const EXAMPLES: &str = "\
 Examples: is each flow of a domain forwarded as its certificate says?
   mcaudit check < bundle
+Which certificate does a domain have, or what is wrong with its flows?
+  mcaudit make < bundle
 Where does a packet of the first flow go that is sent with a time to live of 3?
   mcaudit replay 1 3 < bundle
+How is a bundle made of a folder's files?
+  mcaudit pack examples/network --certificate > bundle
 Does a LAN want what 10.0.0.5 sends to 239.1.2.3?
   mcaudit wants 239.1.2.3 10.0.0.5 < reports
 
@@ -100,6 +113,31 @@ fn check_command<'a>(alloc: Global) -> Command<'a> {
         .override_usage("mcaudit check")
 }
 
+/// The command `make`, which has no arguments.
+fn make_command<'a>(alloc: Global) -> Command<'a> {
+    Command::new(alloc, "make")
+        .about(
+            "Makes the certificate of a bundle, or shows what is wrong with each flow that has none",
+        )
+        .override_usage("mcaudit make")
+}
+
+/// The command `pack` and its arguments.
+fn pack_command<'a>(alloc: Global) -> Result<Command<'a>, AllocError> {
+    let folder = Arg::new(alloc, "folder").required(true).help(
+        "The folder with the files topology, vif-<router>, cache-<router> and igmp-<lan>",
+    );
+    let certificate = Arg::new(alloc, "certificate")
+        .long("certificate")
+        .action(ArgAction::SetTrue)
+        .help("Packs the file certificate too");
+    Command::new(alloc, "pack")
+        .about("Packs the files of a folder into a bundle")
+        .override_usage("mcaudit pack <folder> [--certificate]")
+        .arg(folder)?
+        .arg(certificate)
+}
+
 /// The command `replay` and its arguments.
 fn replay_command<'a>(alloc: Global) -> Result<Command<'a>, AllocError> {
     let flow = Arg::new(alloc, "flow")
@@ -130,6 +168,8 @@ fn program<'a>(alloc: Global) -> Result<Command<'a>, AllocError> {
         .arg_required_else_help(true)
         .disable_help_subcommand(true)
         .subcommand(check_command(alloc))?
+        .subcommand(make_command(alloc))?
+        .subcommand(pack_command(alloc)?)?
         .subcommand(replay_command(alloc)?)?
         .subcommand(wants_command(alloc)?)
 }
@@ -199,7 +239,12 @@ fn is_last(word: &str) -> Option<bool> {
 }
 
 /// The task of the words after `replay`.
-fn replay_task(alloc: Global, flow: &str, ttl: &str, order: &str) -> Result<Task, WordsFault>
+fn replay_task(
+    alloc: Global,
+    flow: &str,
+    ttl: &str,
+    order: &str,
+) -> Result<Task<'static>, WordsFault>
     ensures allowed { IfOk result IsAllowed }
 {
     let Some(flow) = number_of(flow, 4_096) else {
@@ -217,7 +262,7 @@ fn replay_task(alloc: Global, flow: &str, ttl: &str, order: &str) -> Result<Task
 }
 
 /// The task of the words after `wants`.
-fn wants_task(alloc: Global, group: &str, source: &str) -> Result<Task, WordsFault>
+fn wants_task(alloc: Global, group: &str, source: &str) -> Result<Task<'static>, WordsFault>
     ensures allowed { IfOk result IsAllowed }
     ensures found { IfOk result (AreWords group.now source.now) }
     ensures only { (g s : ℕ) → IsForwardedGroup g → IsSource s → group.now ≡ dotted g → source.now ≡ dotted s
@@ -257,7 +302,7 @@ fn word_of<'a>(matches: &ArgMatches<'a>, argument: &str) -> &'a str {
 }
 
 /// The task that the program's words ask for. The first word is the program's own name.
-pub fn command_of<'a>(alloc: Global, words: &'a [&'a str]) -> Result<Task, WordsFault>
+pub fn command_of<'a>(alloc: Global, words: &'a [&'a str]) -> Result<Task<'a>, WordsFault>
     // A task is given only with a group that routers forward and an address that a host may send from, and with a
     // flow's number from 1 to 4,096 and a time to live from 1.
     ensures allowed { IfOk result IsAllowed }
@@ -269,6 +314,11 @@ pub fn command_of<'a>(alloc: Global, words: &'a [&'a str]) -> Result<Task, Words
     };
     match matches.subcommand() {
         Some(("check", _)) => Ok(Task::Check),
+        Some(("make", _)) => Ok(Task::Make),
+        Some(("pack", words)) => Ok(Task::Pack {
+            folder: word_of(words, "folder"),
+            certificate: words.get_flag("certificate"),
+        }),
         Some(("replay", words)) => replay_task(
             alloc,
             word_of(words, "flow"),

@@ -2,9 +2,11 @@
 
 ghost use Rattle.std.specs.Prelude.{◌≡◌};
 ghost use Rattle.mcaudit.specs.declared.fault.RunFault.TheVariants.{Memory};
+ghost use Rattle.mcaudit.specs.PackingRun.{of_packing};
 ghost use Rattle.mcaudit.specs.RunFault.{of_certificate, of_input, of_list, of_reading};
 
 use mc_cert::{CertFault, CertFaultKind};
+use mc_files::PackFault;
 use mc_igmp::{ListFault, ListFaultKind};
 use mc_input::InputFault;
 use mc_tables::TableFault;
@@ -67,6 +69,21 @@ impl From<InputFault> for RunFault {
             InputFault::Cache(part, fault) => RunFault::Cache(part, fault),
             InputFault::Reports(part, fault) => RunFault::PartReports(part, fault),
             InputFault::Memory => RunFault::Memory,
+        }
+    }
+}
+
+/// Nothing is packed. What is too large for a bundle is told of the bundle.
+impl From<PackFault> for RunFault {
+    ghost from_gives = { λ packing fault. fault ≡ of_packing packing };
+
+    fn from(fault: PackFault) -> RunFault {
+        match fault {
+            PackFault::Topology(fault) => RunFault::Topology(fault),
+            PackFault::TooLarge => RunFault::Bundle(BundleFault::TooLarge),
+            PackFault::Read => RunFault::Read,
+            PackFault::Write => RunFault::Write,
+            PackFault::Memory => RunFault::Memory,
         }
     }
 }

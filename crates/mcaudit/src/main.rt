@@ -6,6 +6,10 @@ mod command;
 mod domain_input;
 mod failure;
 mod fault;
+mod found_text;
+mod laws;
+mod make;
+mod pack;
 mod replay;
 mod travel_text;
 mod verdict_text;
@@ -14,15 +18,19 @@ mod wants;
 use check::run_check;
 use command::{Task, borrowed, command_of, words_of};
 use failure::Failure;
+use make::run_make;
+use mc_files::Folder;
 use mc_replay::{First, Last};
 use mc_text::{FromReader, ToWriter};
+use pack::run_pack;
 use replay::run_replay;
 use std::env::Env;
 use std::io::{self, Input};
 use std::process::ExitCode;
+use std::rt::Files;
 use wants::run_wants;
 
-fn try_main(rt: &(impl Env + AllocGlobal + Input + Print)) -> Result<bool, Failure> {
+fn try_main(rt: &(impl Env + AllocGlobal + Files + Input + Print)) -> Result<bool, Failure> {
     let words = words_of(rt)?;
     let words = borrowed(rt.alloc(), &words)?;
     let mut input = FromReader::new(rt.reader());
@@ -40,6 +48,15 @@ fn try_main(rt: &(impl Env + AllocGlobal + Input + Print)) -> Result<bool, Failu
             })
         }
         Task::Check => Ok(run_check(rt.alloc(), &mut input, &mut output)?),
+        Task::Make => Ok(run_make(rt.alloc(), &mut input, &mut output)?),
+        Task::Pack {
+            folder,
+            certificate,
+        } => {
+            let mut files = Folder::new(rt, folder);
+            run_pack(rt.alloc(), &mut files, certificate, &mut output)?;
+            Ok(true)
+        }
     }
 }
 

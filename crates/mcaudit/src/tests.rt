@@ -1,6 +1,7 @@
 //! Worked report lists through `run_wants`, devices that fail, and words.
 
 mod check;
+mod make;
 mod replay;
 
 use crate::command::{Task, WordsFault, command_of};
@@ -153,6 +154,8 @@ fn words(rt: HostRuntime) {
     }
     let check = command_of(rt.alloc(), &["mcaudit", "check"]);
     assert_eq!(rt; check.ok(), Some(Task::Check));
+    let make = command_of(rt.alloc(), &["mcaudit", "make"]);
+    assert_eq!(rt; make.ok(), Some(Task::Make));
     let replay = command_of(
         rt.alloc(),
         &["mcaudit", "replay", "2", "64", "--order", "last"],

@@ -12,8 +12,9 @@ use std::fmt;
 
 /// The words that begin a flow's line, as `flow 10.0.0.5 239.1.2.3 ttl 3`.
 #[derive(Clone, Copy, Drop)]
-struct FlowWords<'t> {
-    flow: &'t Flow,
+pub(crate) struct FlowWords<'t> {
+    /// The flow.
+    pub(crate) flow: &'t Flow,
 }
 
 impl<'t> fmt::Display for FlowWords<'t> {

@@ -1,6 +1,6 @@
 //! Small networks, and what is asked of them.
 
-use crate::{Domain, Event, Flight, Tables};
+use crate::{Domain, DomainFault, Event, Flight, Tables};
 use mc_igmp::ReportList;
 use mc_tables::{CacheTable, VifTable};
 use mc_text::Order;
@@ -48,6 +48,37 @@ pub(super) fn tables_of(alloc: Global, texts: (&str, &str)) -> Result<Tables, Fa
     })
 }
 
+/// The tables of each router's texts.
+pub(super) fn tables_of_all(alloc: Global, routers: &[(&str, &str)]) -> Result<Vec<Tables>, Fail> {
+    let mut tables = Vec::new(alloc);
+    for texts in routers {
+        tables.push(tables_of(alloc, *texts)?)?;
+    }
+    Ok(tables)
+}
+
+/// The reports of each LAN's text.
+pub(super) fn reports_of_all(alloc: Global, lans: &[&str]) -> Result<Vec<ReportList>, Fail> {
+    let mut reports = Vec::new(alloc);
+    for text in lans {
+        reports.push(ReportList::read(alloc, text.as_bytes())?)?;
+    }
+    Ok(reports)
+}
+
+/// The domain of these parts.
+pub(super) fn assembled(
+    alloc: Global,
+    topology: Topology,
+    tables: Vec<Tables>,
+    reports: Vec<ReportList>,
+) -> Result<Domain, DomainFault> {
+    match Domain::assemble(alloc, topology, tables, reports) {
+        Ok(domain) => Ok(domain),
+        Err(refused) => Err(refused.fault),
+    }
+}
+
 /// The domain of these texts: the topology, each router's vifs and cache, and each LAN's reports.
 pub(super) fn domain_of(
     alloc: Global,
@@ -56,18 +87,9 @@ pub(super) fn domain_of(
     lans: &[&str],
 ) -> Result<Domain, Fail> {
     let topology = Topology::read(alloc, topology.as_bytes())?;
-    let mut tables = Vec::new(alloc);
-    for texts in routers {
-        tables.push(tables_of(alloc, *texts)?)?;
-    }
-    let mut reports = Vec::new(alloc);
-    for text in lans {
-        reports.push(ReportList::read(alloc, text.as_bytes())?)?;
-    }
-    match Domain::assemble(alloc, topology, tables, reports) {
-        Ok(domain) => Ok(domain),
-        Err(refused) => Err(refused.fault)?,
-    }
+    let tables = tables_of_all(alloc, routers)?;
+    let reports = reports_of_all(alloc, lans)?;
+    Ok(assembled(alloc, topology, tables, reports)?)
 }
 
 /// The first flow's packet with this TTL, before any handling.
@@ -89,6 +111,34 @@ pub(super) fn handled(
 ) -> Result<Event, Fail> {
     assert!(rt; index < flight.waiting());
     Ok(flight.handle(index)?)
+}
+
+/// The flight of the first flow's packet with this TTL, in which the first waiting copy is handled each
+/// time, and these events are shown.
+pub(super) fn showing<'d>(
+    rt: &impl Abort,
+    alloc: Global,
+    domain: &'d Domain,
+    ttl: u8,
+    events: &[Event],
+) -> Result<Flight<'d>, Fail> {
+    let mut flight = flight_of(rt, alloc, domain, ttl)?;
+    for event in events {
+        assert_eq!(rt; handled(rt, &mut flight, 0)?, *event);
+    }
+    Ok(flight)
+}
+
+/// The waiting copies with these indexes are handled, one after the other.
+pub(super) fn handles(
+    rt: &impl Abort,
+    flight: &mut Flight<'_>,
+    indexes: &[usize],
+) -> Result<(), Fail> {
+    for index in indexes {
+        let _event = handled(rt, flight, *index)?;
+    }
+    Ok(())
 }
 
 /// A waiting copy is lost.

@@ -1,7 +1,7 @@
 //! Small networks, and the texts of travels through them.
 
 use crate::{Picker, Travel, replay, shown_event};
-use mc_forward::{Domain, Tables};
+use mc_forward::{Domain, DomainFault, Tables};
 use mc_igmp::ReportList;
 use mc_tables::{CacheTable, VifTable};
 use mc_text::Order;
@@ -88,14 +88,24 @@ fn all_reports(alloc: Global) -> Result<Vec<ReportList>, Fail> {
     Ok(reports)
 }
 
+/// The domain of these parts.
+fn assembled(
+    alloc: Global,
+    topology: Topology,
+    tables: Vec<Tables>,
+    reports: Vec<ReportList>,
+) -> Result<Domain, DomainFault> {
+    match Domain::assemble(alloc, topology, tables, reports) {
+        Ok(domain) => Ok(domain),
+        Err(refused) => Err(refused.fault),
+    }
+}
+
 fn domain_of(alloc: Global, network: &Network<'_>) -> Result<Domain, Fail> {
     let topology = topology_of(alloc, network.0)?;
     let tables = all_tables(alloc, &network.1)?;
     let reports = all_reports(alloc)?;
-    match Domain::assemble(alloc, topology, tables, reports) {
-        Ok(domain) => Ok(domain),
-        Err(refused) => Err(refused.fault)?,
-    }
+    Ok(assembled(alloc, topology, tables, reports)?)
 }
 
 /// The events of a travel, a line each, and what it finds.

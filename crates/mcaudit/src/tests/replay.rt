@@ -6,7 +6,7 @@ use crate::replay::run_replay;
 use mc_replay::{First, Numbers};
 
 /// Two ways from l0 to l2: by r1, l1 and r2, and by r3.
-const TWO_WAYS: &str = "mcaudit bundle 1\n\
+pub(super) const TWO_WAYS: &str = "mcaudit bundle 1\n\
 part topology 492\n\
 version = 1\n\
 lans = [\"l0\", \"l1\", \"l2\"]\n\

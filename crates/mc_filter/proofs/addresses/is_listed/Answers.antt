@@ -3,5 +3,5 @@ use Rattle.mc_filter.proofs.AscendingLemmas.{found_by_search}
 use Rattle.mc_filter.proofs.addresses.is_listed.Goals as goal
 
 pub returns : goal.returns
-returns c = c.is_ok.ensures.value
-    ∙ found_by_search c.args.addresses.now c.args.address _ c.requires c.binary_search.ensures.position
+returns c =
+    c.is_ok.ensures.value ∙ found_by_search _ _ _ c.requires c.binary_search.ensures.position

@@ -1,14 +1,13 @@
-use Rattle.std.proofs.Common.{List, ℕ, sym, subst, eqb}
-use Rattle.std.specs.List.Sorted.{IsStrictlyIncreasing}
+use Rattle.std.proofs.Common.{eqb}
 use Rattle.std.proofs.lemmas.List.Filters.{dedup_is}
 use Rattle.std.proofs.lemmas.Map.Keys.{IsStrictlyIncreasing-dedup}
 use Rattle.mc_filter.proofs.AscendingLemmas.{has-sorted}
 use Rattle.mc_filter.proofs.addresses.make_ascending.Goals as goal
 
-pub returns-clause-ascending : goal.returns-clause-ascending
-returns-clause-ascending c =
-    let ascends : List ℕ → Type 0 = λ xs. IsStrictlyIncreasing xs in
-    subst ascends (sym (dedup_is eqb _ _ c.dedup.ensures.filtered)) (IsStrictlyIncreasing-dedup _ c.sort_unstable.ensures.sorted)
-
-pub returns-clause-same : goal.returns-clause-same
-returns-clause-same c = has-sorted _ _ _ c.sort_unstable.ensures.permutation (dedup_is eqb _ _ c.dedup.ensures.filtered)
+pub returns : goal.returns
+returns c =
+    let left = dedup_is eqb _ _ c.dedup.ensures.filtered in
+    record {
+      ascending = rw left (IsStrictlyIncreasing-dedup _ c.sort_unstable.ensures.sorted);
+      same = has-sorted _ _ _ c.sort_unstable.ensures.permutation left;
+    }

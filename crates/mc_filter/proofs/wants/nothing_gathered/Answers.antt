@@ -1,14 +1,15 @@
-use Rattle.std.proofs.Common.{[], ◌∷◌, arith}
-use Rattle.std.proofs.lemmas.List.{length-append}
-use Rattle.mc_filter.proofs.WantsLemmas.{EachGathers-push}
+use Rattle.std.proofs.Common.{slice_index, arith}
+use Rattle.std.proofs.lemmas.Grind.{elements}
+use Rattle.std.proofs.lemmas.List.Elements.{All-push}
+use Rattle.mc_filter.proofs.wants.nothing_gathered.Invariants.{TellsNothing}
 use Rattle.mc_filter.proofs.wants.nothing_gathered.Goals as goal
 
 pub loop-preserved : goal.loop-preserved
-loop-preserved c =
-    let before = c.loop.gathered.items in
-    rw c.in_ok-push.ensures.items (record {
-      counted = omega (arith, length-append before (c.none.result ∷ []), c.loop.invariant.counted);
-      each = λ records groups.
-          EachGathers-push records groups before c.none.result records (c.none.ensures records)
-          (c.loop.invariant.each records groups);
-    })
+loop-preserved c = rw c.in_ok-push.ensures.items (record {
+  counted = grind (arith, elements);
+  each = All-push TellsNothing _ _ c.loop.invariant.each c.none.ensures;
+})
+
+pub returns-clause-each : goal.returns-clause-each
+returns-clause-each c = λ records groups i below d.
+    c.loop.invariant.each i d below records (slice_index groups i)

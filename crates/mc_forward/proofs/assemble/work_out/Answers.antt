@@ -1,6 +1,6 @@
-use Rattle.std.proofs.Common.{◌≡◌, ◌<◌, ℕ, Option, List, map, length, sym, ap, subst, ◌∙◌, arith}
+use Rattle.std.proofs.Common.{ℕ, Option, List, map, length, sym, ap, ◌∙◌, arith}
 use Rattle.mc_theory.specs.Lists.{below}
-use Rattle.mc_forward.specs.DomainParts.{domain_with, places_of}
+use Rattle.mc_forward.specs.DomainParts.{domain_with}
 use Rattle.mc_forward.specs.Assembling.{interfaces_by}
 use Rattle.mc_forward.proofs.DomainLemmas.{length-places}
 use Rattle.mc_forward.proofs.PlaceLemmas.{place-listed, interfaces-worked_out}

@@ -1,4 +1,3 @@
-use Rattle.std.proofs.Common.{refl}
 use Rattle.mc_forward.proofs.PlaceLemmas.{number-none, number-more}
 use Rattle.mc_forward.proofs.interfaces.no_interfaces.Goals as goal
 

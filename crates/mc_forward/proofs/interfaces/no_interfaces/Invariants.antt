@@ -1,4 +1,4 @@
-use Rattle.std.proofs.Common.{◌≡◌, ℕ, List, [], map}
+use Rattle.std.proofs.Common.{◌≡◌, List, [], map}
 use Rattle.mc_theory.specs.Lists.{below}
 use Rattle.mc_theory.specs.Nets.{Interface}
 use Rattle.mc_forward.proofs.interfaces.no_interfaces.Given as goal

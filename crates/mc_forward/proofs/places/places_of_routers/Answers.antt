@@ -1,7 +1,7 @@
-use Rattle.std.proofs.Common.{◌≡◌, ℕ, ◌<◌, ◌⊎◌, inl, inr, Some, length, slice_get, sym, ap, subst}
+use Rattle.std.proofs.Common.{◌<◌, length}
 use Rattle.std.proofs.Common.{◌∙◌, arith}
 use Rattle.std.proofs.lemmas.Option.{slice_get_within}
-use Rattle.mc_forward.specs.Domains.{TablesValue, AreTables}
+use Rattle.mc_forward.specs.Domains.{AreTables}
 use Rattle.mc_forward.proofs.EachLemmas.{read-at, rules-more}
 use Rattle.mc_forward.proofs.PlaceLemmas.{number-none, number-more, places-own}
 use Rattle.mc_forward.proofs.places.places_of_routers.Goals as goal

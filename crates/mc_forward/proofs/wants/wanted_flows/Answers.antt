@@ -1,4 +1,4 @@
-use Rattle.std.proofs.Common.{◌≡◌, ◌<◌, sym, ◌∙◌, arith, length, get_or}
+use Rattle.std.proofs.Common.{◌<◌, arith, length, get_or}
 use Rattle.mc_forward.specs.Assembling.{IsWanted}
 use Rattle.mc_forward.proofs.EachLemmas.{count-pushed, each-pushed, read-at}
 use Rattle.mc_forward.proofs.WantsLemmas.{place-within, wanted-by}

@@ -1,4 +1,3 @@
-use Rattle.std.proofs.Common.{◌≡◌, length, sym}
 use Rattle.mc_forward.specs.Assembling.{AreWanted}
 use Rattle.mc_forward.proofs.EachLemmas.{count-pushed, each-pushed, read-at}
 use Rattle.mc_forward.proofs.wants.wants_of_lans.Goals as goal

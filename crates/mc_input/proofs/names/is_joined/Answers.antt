@@ -1,4 +1,4 @@
-use Rattle.std.proofs.Common.{sym, ◌∙◌, refl}
+use Rattle.std.proofs.Common.{refl}
 use Rattle.mc_input.proofs.NameLemmas.{bytes_eq-joined}
 use Rattle.mc_input.proofs.names.is_joined.Goals as goal
 

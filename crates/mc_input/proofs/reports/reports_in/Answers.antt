@@ -1,8 +1,8 @@
-use Rattle.std.proofs.Common.{sym, ◌∙◌, ap, ℕ, ◌+◌, ◌*◌, ◌≡◌, length, drop, get_or, [], arith}
+use Rattle.std.proofs.Common.{sym, ◌∙◌, ◌+◌, ◌*◌, ◌≡◌, get_or, [], arith}
 use Rattle.std.proofs.lemmas.Option.{slice_get-get_or}
 use Rattle.std.proofs.lemmas.Result.{err_from_is_err_and}
 use Rattle.mc_text.specs.PartView.{part_text}
-use Rattle.mc_input.specs.InputReading.{part_at, reports_from, lans_place}
+use Rattle.mc_input.specs.InputReading.{lans_place}
 use Rattle.mc_input.proofs.ContentLemmas.{part_at-found, reports_from-refused, reports_from-next, reports_from-end}
 use Rattle.mc_input.proofs.reports.reports_in.Goals as goal
 

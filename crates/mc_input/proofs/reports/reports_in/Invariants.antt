@@ -1,4 +1,4 @@
-use Rattle.std.proofs.Common.{◌≡◌, ◌+◌, ◌*◌, length, drop}
+use Rattle.std.proofs.Common.{◌≡◌, ◌+◌, length, drop}
 use Rattle.mc_input.specs.InputReading.{reports_from, lans_place}
 use Rattle.mc_text.proofs.StepLemmas.{with_front}
 use Rattle.mc_input.proofs.reports.reports_in.Given as goal

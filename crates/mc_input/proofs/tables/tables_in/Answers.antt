@@ -1,7 +1,6 @@
-use Rattle.std.proofs.Common.{sym, ◌∙◌, ap, ℕ, ◌+◌, ◌*◌, ◌≡◌, drop, arith}
+use Rattle.std.proofs.Common.{sym, ◌∙◌, ◌+◌, ◌*◌, ◌≡◌, arith}
 use Rattle.std.proofs.lemmas.Result.{err_from_is_err_and}
 use Rattle.mc_text.specs.PartView.{part_text}
-use Rattle.mc_input.specs.InputReading.{tables_from}
 use Rattle.mc_input.proofs.ContentLemmas.{part_at-found, tables_from-refused, tables_from-next, tables_from-end}
 use Rattle.mc_input.proofs.tables.tables_in.Goals as goal
 

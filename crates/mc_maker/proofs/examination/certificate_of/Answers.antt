@@ -16,29 +16,29 @@ returns-then-not-serves_all-clause-none c =
 pub returns-clause-accepted : goal.returns-clause-accepted
 returns-clause-accepted c =
     accepted-by_lan c.args.domain.now c.new-followed.result.domain.now c.args.flow c.new-followed.result.flow c.args.copies.now c.in_ok-by_lan.by_lan.items c.deref.result.now
-    c.deref-2.result.now c.in_ok-listed.field-0.items
+    c.deref-2.result.now c.in_ok-entries.entries.items
     c.new-followed.ensures.domain c.new-followed.ensures.flow c.serves_all.ensures.rules c.requires.clean c.in_ok-by_lan.ensures c.deref.ensures.value c.deref-2.ensures.value
-    c.in_ok-listed.ensures (c.serves_all.ensures.each c.if-not-serves_all.false)
+    c.in_ok-entries.ensures (c.serves_all.ensures.each c.if-not-serves_all.false)
 
 pub returns-clause-ascending : goal.returns-clause-ascending
 returns-clause-ascending c =
     ascends-by_lan c.args.domain.now c.new-followed.result.domain.now c.args.flow c.new-followed.result.flow c.args.copies.now c.in_ok-by_lan.by_lan.items c.deref-2.result.now
-    c.in_ok-listed.field-0.items c.new-followed.ensures.domain c.new-followed.ensures.flow c.in_ok-by_lan.ensures c.deref-2.ensures.value c.in_ok-listed.ensures
+    c.in_ok-entries.entries.items c.new-followed.ensures.domain c.new-followed.ensures.flow c.in_ok-by_lan.ensures c.deref-2.ensures.value c.in_ok-entries.ensures
 
 pub returns-clause-entries : goal.returns-clause-entries
 returns-clause-entries c =
     reordered-by_lan c.args.domain.now c.new-followed.result.domain.now c.args.flow c.new-followed.result.flow c.args.copies.now c.in_ok-by_lan.by_lan.items c.deref-2.result.now
-    c.in_ok-listed.field-0.items c.new-followed.ensures.domain c.new-followed.ensures.flow c.requires.clean c.in_ok-by_lan.ensures c.deref-2.ensures.value c.in_ok-listed.ensures
+    c.in_ok-entries.entries.items c.new-followed.ensures.domain c.new-followed.ensures.flow c.requires.clean c.in_ok-by_lan.ensures c.deref-2.ensures.value c.in_ok-entries.ensures
 
 pub returns-clause-listed : goal.returns-clause-listed
 returns-clause-listed c =
-    made-listed c.args.domain.now c.args.flow c.args.copies.now c.in_ok-listed.field-0.items c.requires.clean
+    made-listed c.args.domain.now c.args.flow c.args.copies.now c.in_ok-entries.entries.items c.requires.clean
     (reordered-by_lan c.args.domain.now c.new-followed.result.domain.now c.args.flow c.new-followed.result.flow c.args.copies.now c.in_ok-by_lan.by_lan.items c.deref-2.result.now
-    c.in_ok-listed.field-0.items c.new-followed.ensures.domain c.new-followed.ensures.flow c.requires.clean c.in_ok-by_lan.ensures c.deref-2.ensures.value c.in_ok-listed.ensures)
+    c.in_ok-entries.entries.items c.new-followed.ensures.domain c.new-followed.ensures.flow c.requires.clean c.in_ok-by_lan.ensures c.deref-2.ensures.value c.in_ok-entries.ensures)
 
 pub returns-clause-list : goal.returns-clause-list
 returns-clause-list c =
-    made-list c.args.domain.now c.args.flow c.args.copies.now c.in_ok-listed.field-0.items
+    made-list c.args.domain.now c.args.flow c.args.copies.now c.in_ok-entries.entries.items
     (subst IsDomain c.new-followed.ensures.domain c.serves_all.ensures.rules) c.requires.clean
     (reordered-by_lan c.args.domain.now c.new-followed.result.domain.now c.args.flow c.new-followed.result.flow c.args.copies.now c.in_ok-by_lan.by_lan.items c.deref-2.result.now
-    c.in_ok-listed.field-0.items c.new-followed.ensures.domain c.new-followed.ensures.flow c.requires.clean c.in_ok-by_lan.ensures c.deref-2.ensures.value c.in_ok-listed.ensures)
+    c.in_ok-entries.entries.items c.new-followed.ensures.domain c.new-followed.ensures.flow c.requires.clean c.in_ok-by_lan.ensures c.deref-2.ensures.value c.in_ok-entries.ensures)

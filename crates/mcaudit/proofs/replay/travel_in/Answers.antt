@@ -1,4 +1,3 @@
-use Rattle.std.proofs.Common.{ap, ◌∙◌, sym}
 use Rattle.std.proofs.lemmas.Result.{err_from_is_err_and}
 use Rattle.mcaudit.proofs.ReplayLemmas.{bundle_refused, flow_refused, no_certificate, travel_told}
 use Rattle.mcaudit.proofs.replay.travel_in.Goals as goal

@@ -1,7 +1,13 @@
-use Rattle.mc_filter.proofs.WantsLemmas.{Gathers-end}
+use Rattle.std.proofs.Common.{arith}
+use Rattle.mc_filter.proofs.FilterLemmas.{tests_tell}
+use Rattle.mc_filter.proofs.MergedLemmas.{Merges-iff}
 use Rattle.mc_filter.proofs.gathered.Gathered.into_filter.Goals as goal
 
 pub returns : goal.returns
-returns c =
-    Gathers-end c.args.self c.merge_list.new.self c.merge_list.ensures.ascending
-    c.in_ok-merge_list.ensures.mode c.in_ok-merge_list.ensures.admits
+returns c = λ records group h. record {
+  ascending = c.merge_list.ensures.ascending;
+  merged = (Merges-iff _ _ records group).0 (record {
+    excludes = grind (arith, h.excludes, tests_tell);
+    admitted = λ s. grind (arith, h.wants s, c.in_ok-merge_list.ensures.admits s);
+  });
+}

@@ -1,0 +1,12 @@
+pub mod Files
+pub mod Packing
+pub mod PackReading
+pub mod PackRun
+pub use Rattle.mc_text.specs.Bundle
+pub use Rattle.mc_text.specs.BundleReading
+pub use Rattle.mc_text.specs.BundleWriting
+pub use Rattle.mc_text.specs.Device
+pub use Rattle.mc_topology.specs.Names
+pub use Rattle.mc_topology.specs.Topology
+pub use Rattle.mc_topology.specs.Stands
+pub use Rattle.mc_topology.specs.Reading

@@ -1,0 +1,189 @@
+//! Want of memory: what `assemble` hands back, and the flight that `handle` leaves. With every growth
+//! granted these tests compare the calls' answers. `rt try --test --fail-alloc N`, for N from 1 on,
+//! refuses one growth after the other: the call is then made again, of what the refusal left.
+
+use super::network::*;
+use crate::{Carried, Domain, DomainFault, Event, Flight, Outcome, Refused, Stray, Tables};
+use mc_igmp::ReportList;
+use mc_text::Memory;
+use mc_topology::{LanNo, Topology};
+use std::alloc::Global;
+use std::process::Abort;
+use std::test::Fail;
+
+/// r1 from l0 to l1 and l2, and five routers from l1 to l2.
+const WIDE: &str = r#"version = 1
+lans = ["l0", "l1", "l2"]
+router = [
+{name = "r1"}, {name = "r2"}, {name = "r3"}, {name = "r4"}, {name = "r5"}, {name = "r6"},
+]
+interface = [
+{router = "r1", device = "eth0", lan = "l0"},
+{router = "r1", device = "eth1", lan = "l1"},
+{router = "r1", device = "eth2", lan = "l2"},
+{router = "r2", device = "eth0", lan = "l1"},
+{router = "r2", device = "eth1", lan = "l2"},
+{router = "r3", device = "eth0", lan = "l1"},
+{router = "r3", device = "eth1", lan = "l2"},
+{router = "r4", device = "eth0", lan = "l1"},
+{router = "r4", device = "eth1", lan = "l2"},
+{router = "r5", device = "eth0", lan = "l1"},
+{router = "r5", device = "eth1", lan = "l2"},
+{router = "r6", device = "eth0", lan = "l1"},
+{router = "r6", device = "eth1", lan = "l2"},
+]
+source = [{address = "10.0.0.5", lan = "l0"}]
+flow = [{source = "10.0.0.5", group = "239.1.2.3", ttl = 5}]
+"#;
+
+/// r1's vifs and its row, which also sends to a vif that isn't there.
+const FIRST: (&str, &str) = (
+    "Interface BytesIn PktsIn BytesOut PktsOut Flags Local Remote
+0 eth0 0 0 0 0 00000 00000000 00000000
+1 eth1 0 0 0 0 00000 00000000 00000000
+2 eth2 0 0 0 0 00000 00000000 00000000
+",
+    "Group Origin Iif Pkts Bytes Wrong Oifs
+030201EF 0500000A 0 0 0 0 1:1 2:1 7:1
+",
+);
+
+/// A router that forwards from vif 0 to vif 1 and to a vif that isn't there.
+const OTHER: (&str, &str) = (
+    VIFS,
+    "Group Origin Iif Pkts Bytes Wrong Oifs
+030201EF 0500000A 0 0 0 0 1:1 9:1
+",
+);
+
+/// The domain of the parts that a refusal handed back.
+fn assembled_again(
+    rt: &impl Abort,
+    alloc: Global,
+    refused: Refused,
+) -> Result<Domain, DomainFault> {
+    assert_eq!(rt; refused.fault, DomainFault::Memory);
+    assembled(alloc, refused.topology, refused.tables, refused.reports)
+}
+
+/// The domain of these parts, where need be of those that the first refusal handed back.
+fn assembled_at_last(
+    rt: &impl Abort,
+    alloc: Global,
+    topology: Topology,
+    tables: Vec<Tables>,
+    reports: Vec<ReportList>,
+) -> Result<Domain, DomainFault> {
+    match Domain::assemble(alloc, topology, tables, reports) {
+        Ok(domain) => Ok(domain),
+        Err(refused) => assembled_again(rt, alloc, refused),
+    }
+}
+
+/// The domain of these texts, at the second try where the first is refused.
+fn domain_at_last(
+    rt: &impl Abort,
+    alloc: Global,
+    topology: &str,
+    routers: &[(&str, &str)],
+    lans: &[&str],
+) -> Result<Domain, Fail> {
+    let topology = Topology::read(alloc, topology.as_bytes())?;
+    let tables = tables_of_all(alloc, routers)?;
+    let reports = reports_of_all(alloc, lans)?;
+    Ok(assembled_at_last(rt, alloc, topology, tables, reports)?)
+}
+
+/// The wide domain, of which l1 wants the flow.
+fn wide(rt: &impl Abort, alloc: Global) -> Result<Domain, Fail> {
+    let routers = [FIRST, OTHER, OTHER, OTHER, OTHER, OTHER];
+    domain_at_last(rt, alloc, WIDE, &routers, &["", WANTED, ""])
+}
+
+/// Whether a LAN wants the flow, and how many interfaces it has.
+fn lan_of(rt: &impl Abort, domain: &Domain, lan: u32) -> (bool, usize) {
+    assert!(rt; domain.topology().flows() > 0);
+    assert!(rt; lan < domain.topology().lans());
+    (
+        domain.wants(LanNo(lan), 0),
+        domain.interfaces(LanNo(lan)).count(),
+    )
+}
+
+/// The flight shows what it showed before.
+fn is_as_before(
+    rt: &impl Abort,
+    flight: &Flight<'_>,
+    waiting: usize,
+    copies: &[Carried],
+    strays: &[Stray],
+) {
+    assert_eq!(rt; flight.waiting(), waiting);
+    assert_eq!(rt; flight.copies(), copies);
+    assert_eq!(rt; flight.strays(), strays);
+}
+
+/// The handling of the first waiting copy. Where a growth is refused the flight is as it was, and
+/// the handling can be asked for again.
+fn handled_at_last(rt: &impl Abort, alloc: Global, flight: &mut Flight<'_>) -> Result<Event, Fail> {
+    let copies = flight.copies().to_vec(alloc)?;
+    let strays = flight.strays().to_vec(alloc)?;
+    let waiting = flight.waiting();
+    assert!(rt; waiting > 0);
+    match flight.handle(0) {
+        Ok(event) => Ok(event),
+        Err(Memory) => {
+            is_as_before(rt, flight, waiting, &copies, &strays);
+            handled(rt, flight, 0)
+        }
+    }
+}
+
+/// What the handling with this number shows, counted from 0. r1 sends onto l1 and l2, and each of
+/// the others onto l2. The copies on l2 come to vifs that the rows don't take from.
+fn outcome_of(number: u32) -> Outcome {
+    match number {
+        0 => Outcome::Sent {
+            copies: 2,
+            strays: 1,
+        },
+        1..=5 => Outcome::Sent {
+            copies: 1,
+            strays: 1,
+        },
+        _ => Outcome::OtherVif,
+    }
+}
+
+/// All handlings of a packet, one after the other.
+fn handled_all(rt: &impl Abort, alloc: Global, flight: &mut Flight<'_>) -> Result<(), Fail> {
+    for number in 0..36 {
+        let event = handled_at_last(rt, alloc, flight)?;
+        assert_eq!(rt; event.outcome, outcome_of(number), "handling {number}");
+    }
+    Ok(())
+}
+
+/// The travel of a packet in the wide domain.
+fn travels(rt: &impl Abort, alloc: Global, domain: &Domain) -> Result<(), Fail> {
+    let mut flight = flight_of(rt, alloc, domain, 5)?;
+    handled_all(rt, alloc, &mut flight)?;
+    ends_with(rt, &flight, &[(0, 1), (1, 1), (2, 6)]);
+    assert_eq!(rt; flight.strays().len(), 6);
+    Ok(())
+}
+
+#[test]
+fn domain_is_made_after_a_refused_growth(rt: HostRuntime) -> Result<(), Fail> {
+    let domain = wide(&rt, rt.alloc())?;
+    assert_eq!(rt; lan_of(&rt, &domain, 0), (false, 1));
+    assert_eq!(rt; lan_of(&rt, &domain, 1), (true, 6));
+    assert_eq!(rt; lan_of(&rt, &domain, 2), (false, 6));
+    Ok(())
+}
+
+#[test]
+fn flight_goes_on_after_a_refused_growth(rt: HostRuntime) -> Result<(), Fail> {
+    let domain = wide(&rt, rt.alloc())?;
+    travels(&rt, rt.alloc(), &domain)
+}

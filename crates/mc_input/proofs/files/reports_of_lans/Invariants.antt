@@ -1,0 +1,16 @@
+use Rattle.std.proofs.Common.{◌≡◌, List, length, drop, Some}
+use Rattle.mc_files.specs.Files.{FileText}
+use Rattle.mc_text.proofs.StepLemmas.{with_front}
+use Rattle.mc_input.specs.FilesReading.{all_reports}
+use Rattle.mc_input.proofs.files.reports_of_lans.Given as goal
+
+abbrev pub invariant-loop-lan : goal.invariant-loop-lan
+invariant-loop-lan g l = record {
+  count : l.lan-end ≡ length l.fn.topology.lans;
+  same : g.F.FileSource.names l.files ≡ g.F.FileSource.names l.fn.files;
+  kept : g.F.FileSource.told l.files ≡ g.F.FileSource.told l.fn.files;
+  failures : g.F.FileSource.failed l.files ≡ g.F.FileSource.failed l.fn.files;
+  left : (told : List FileText) → g.F.FileSource.told l.fn.files ≡ Some told
+      → with_front l.reports.items (all_reports (drop l.lan l.fn.topology.lans) told)
+      ≡ all_reports l.fn.topology.lans told;
+}

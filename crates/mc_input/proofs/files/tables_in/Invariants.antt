@@ -1,0 +1,16 @@
+use Rattle.std.proofs.Common.{◌≡◌, List, length, drop, Some}
+use Rattle.mc_files.specs.Files.{FileText}
+use Rattle.mc_text.proofs.StepLemmas.{with_front}
+use Rattle.mc_input.specs.FilesReading.{all_tables}
+use Rattle.mc_input.proofs.files.tables_in.Given as goal
+
+abbrev pub invariant-loop-router : goal.invariant-loop-router
+invariant-loop-router g l = record {
+  count : l.router-end ≡ length l.fn.topology.routers;
+  same : g.F.FileSource.names l.files ≡ g.F.FileSource.names l.fn.files;
+  kept : g.F.FileSource.told l.files ≡ g.F.FileSource.told l.fn.files;
+  failures : g.F.FileSource.failed l.files ≡ g.F.FileSource.failed l.fn.files;
+  left : (told : List FileText) → g.F.FileSource.told l.fn.files ≡ Some told
+      → with_front l.tables.items (all_tables (drop l.router l.fn.topology.routers) told)
+      ≡ all_tables l.fn.topology.routers told;
+}

@@ -1,0 +1,128 @@
+//! The chain of two routers as a folder's files, and files that tell no domain.
+
+use crate::tests::{BAD_THRESHOLD, CACHE, NO_FLOW, TOPOLOGY, VIFS, WANTED};
+use crate::*;
+use mc_files::{FaultyFiles, FileSource, MapFiles};
+use mc_igmp::{ListFault, ListFaultKind};
+use mc_tables::{TableFault, TableFaultKind};
+use mc_text::PartName;
+use mc_topology::{Section, TopologyFault, TopologyFaultKind};
+use std::alloc::Global;
+use std::test::Fail;
+
+type File = (&'static str, &'static [u8]);
+
+// The files of the chain.
+fn files() -> [File; 8] {
+    [
+        ("topology", TOPOLOGY.as_bytes()),
+        ("vif-r1", VIFS.as_bytes()),
+        ("cache-r1", CACHE.as_bytes()),
+        ("vif-r2", VIFS.as_bytes()),
+        ("cache-r2", CACHE.as_bytes()),
+        ("igmp-l0", b""),
+        ("igmp-l1", b""),
+        ("igmp-l2", WANTED.as_bytes()),
+    ]
+}
+
+// The files with one of them another one.
+fn with_file(place: usize, file: File) -> [File; 8] {
+    let mut files = files();
+    if let Some(changed) = files.get_mut(place) {
+        *changed = file;
+    }
+    files
+}
+
+// The fault that the files are refused with.
+fn fault_of(alloc: Global, files: &[File]) -> Option<FilesFault> {
+    read_files(alloc, &mut MapFiles::new(files)).err()
+}
+
+#[test]
+fn chain_is_read_of_files(rt: HostRuntime) -> Result<(), Fail> {
+    let input = read_files(rt.alloc(), &mut MapFiles::new(&files()))?;
+    assert_eq!(rt; (input.topology.lans(), input.topology.routers()), (3, 2));
+    assert_eq!(rt; (input.tables.len(), input.reports.len()), (2, 3));
+    Ok(())
+}
+
+#[test]
+fn no_file_may_be_missing(rt: HostRuntime) {
+    for place in 0..8usize {
+        let fault = fault_of(rt.alloc(), &with_file(place, ("other", b"")));
+        assert_eq!(rt; fault, Some(FilesFault::Read), "file {place}");
+    }
+}
+
+#[test]
+fn source_that_fails_is_told(rt: HostRuntime) {
+    for count in 0..9usize {
+        let files = files();
+        let mut source = FaultyFiles::new(&files, count);
+        let fault = read_files(rt.alloc(), &mut source).err();
+        let want = (count < 8).then_some(FilesFault::Read);
+        assert_eq!(rt; fault, want, "after {count}");
+        assert_eq!(rt; FileSource::failures(&source), u64::from(count < 8));
+    }
+}
+
+#[test]
+fn topology_is_judged_before_another_file_is_asked_for(rt: HostRuntime) {
+    let fault = fault_of(rt.alloc(), &[("topology", NO_FLOW.as_bytes())]);
+    let no_flow = TopologyFault {
+        section: Section::Flow,
+        number: 0,
+        kind: TopologyFaultKind::NoFlow,
+    };
+    assert_eq!(rt;
+        fault,
+        Some(FilesFault::Input(InputFault::Topology(no_flow)))
+    );
+}
+
+#[test]
+fn vifs_are_judged_before_the_cache_is_asked_for(rt: HostRuntime) {
+    let [topology, ..] = files();
+    let files = [topology, ("vif-r1", BAD_THRESHOLD.as_bytes())];
+    let kind = TableFaultKind::NoHeader;
+    let told = PartName::new(b"vif/r1").map(|name| {
+        FilesFault::Input(InputFault::Vif(name, TableFault { line: 1, kind }))
+    });
+    assert_eq!(rt; fault_of(rt.alloc(), &files), told);
+}
+
+#[test]
+fn cache_is_judged_before_another_file_is_asked_for(rt: HostRuntime) {
+    let [topology, vifs, ..] = files();
+    let files = [topology, vifs, ("cache-r1", BAD_THRESHOLD.as_bytes())];
+    let kind = TableFaultKind::BadThreshold;
+    let told = PartName::new(b"cache/r1").map(|name| {
+        FilesFault::Input(InputFault::Cache(name, TableFault { line: 2, kind }))
+    });
+    assert_eq!(rt; fault_of(rt.alloc(), &files), told);
+}
+
+#[test]
+fn report_list_is_refused_by_its_part(rt: HostRuntime) {
+    let list = ListFault {
+        line: 1,
+        record_no: 0,
+        kind: ListFaultKind::BadHex,
+    };
+    let told = PartName::new(b"igmp/l1").map(|name| FilesFault::Input(InputFault::Reports(
+        name, list,
+    )));
+    let fault = fault_of(rt.alloc(), &with_file(6, ("igmp-l1", b"zz\n")));
+    assert_eq!(rt; fault, told);
+}
+
+#[test]
+fn file_past_its_limit_is_not_read(rt: HostRuntime) -> Result<(), Fail> {
+    let bytes = vec![in rt.alloc(); b'x'; 16_777_217]?;
+    let files = [("topology", bytes.as_slice())];
+    let fault = read_files(rt.alloc(), &mut MapFiles::new(&files)).err();
+    assert_eq!(rt; fault, Some(FilesFault::TooLarge));
+    Ok(())
+}

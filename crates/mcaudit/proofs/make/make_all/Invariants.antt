@@ -1,0 +1,9 @@
+use Rattle.std.proofs.Common.{map}
+use Rattle.std.specs.String.{string_bytes}
+use Rattle.mcaudit.proofs.MakeLemmas.{AreMadeTo}
+use Rattle.mcaudit.proofs.make.make_all.Given as goal
+
+-- the lists and the lines so far are those of the first flows
+abbrev pub invariant-loop-flow : goal.invariant-loop-flow
+invariant-loop-flow l =
+    AreMadeTo l.fn.domain l.flow (map (λ list. list.items) l.lists.items) (string_bytes l.lines)

@@ -1,0 +1,70 @@
+"""Multicast traffic for the lab: General Queries, members and a source.
+
+Usage: traffic.py query ADDRESS TENTHS
+           sends one IGMPv3 General Query by the interface of the address; its answers have so many
+           tenths of a second, 1 to 127
+       traffic.py member ADDRESS SECONDS GROUP ...
+           joins the groups on the interface of the address, and after so many seconds prints for each
+           how many packets came
+       traffic.py source ADDRESS TTL COUNT GROUP ...
+           sends so many packets to each group by the interface of the address
+"""
+
+import select
+import socket
+import struct
+import sys
+import time
+
+PORT = 5004
+
+
+def checksum(message):
+    """The checksum of a message of whole 16-bit words (RFC 3376, section 4.1.2)."""
+    total = sum(struct.unpack(f"!{len(message) // 2}H", message))
+    while total >> 16:
+        total = (total & 0xFFFF) + (total >> 16)
+    return 0xFFFF - total
+
+
+def query(address, tenths):
+    parts = [0x11, int(tenths), 0, bytes(4), 2, 125, 0]
+    parts[2] = checksum(struct.pack("!BBH4sBBH", *parts))
+    sender = socket.socket(socket.AF_INET, socket.SOCK_RAW, socket.IPPROTO_IGMP)
+    sender.setsockopt(socket.IPPROTO_IP, socket.IP_OPTIONS, bytes([0x94, 4, 0, 0]))
+    sender.setsockopt(socket.IPPROTO_IP, socket.IP_MULTICAST_IF, socket.inet_aton(address))
+    sender.sendto(struct.pack("!BBH4sBBH", *parts), ("224.0.0.1", 0))
+
+
+def member(address, seconds, *groups):
+    receivers = {}
+    for group in groups:
+        receiver = socket.socket(socket.AF_INET, socket.SOCK_DGRAM)
+        receiver.setsockopt(socket.SOL_SOCKET, socket.SO_REUSEADDR, 1)
+        receiver.bind((group, PORT))
+        membership = socket.inet_aton(group) + socket.inet_aton(address)
+        receiver.setsockopt(socket.IPPROTO_IP, socket.IP_ADD_MEMBERSHIP, membership)
+        receivers[receiver] = group
+    counts = dict.fromkeys(groups, 0)
+    end = time.monotonic() + float(seconds)
+    while (left := end - time.monotonic()) > 0:
+        for receiver in select.select(list(receivers), [], [], left)[0]:
+            receiver.recv(2048)
+            counts[receivers[receiver]] += 1
+    for group in groups:
+        print(group, counts[group])
+
+
+def source(address, ttl, count, *groups):
+    sender = socket.socket(socket.AF_INET, socket.SOCK_DGRAM)
+    sender.setsockopt(socket.IPPROTO_IP, socket.IP_MULTICAST_TTL, int(ttl))
+    sender.setsockopt(socket.IPPROTO_IP, socket.IP_MULTICAST_IF, socket.inet_aton(address))
+    sender.bind((address, 0))
+    for _ in range(int(count)):
+        for group in groups:
+            sender.sendto(b"mcaudit", (group, PORT))
+        time.sleep(0.1)
+
+
+if __name__ == "__main__":
+    {"query": query, "member": member, "source": source}[sys.argv[1]](*sys.argv[2:])

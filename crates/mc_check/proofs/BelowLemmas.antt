@@ -1,40 +1,51 @@
 -- The first reason over the numbers below n, as a loop comes to it.
-use Rattle.std.proofs.Common.{◌≡◌, ℕ, zero, suc, ◌+◌, ◌-◌, ◌<◌, List, [], ◌∷◌, ◌++◌, Option, Some, None, refl, ap, ◌∙◌, subst, arith, add-one}
+use Rattle.std.proofs.Common.{◌≡◌, ℕ, zero, suc, ◌+◌, ◌-◌, ◌<◌, List, [], ◌∷◌, ◌++◌, Option, Some}
+use Rattle.std.proofs.Common.{None, refl, ap, ◌∙◌, subst, arith, add-one}
 use Rattle.mc_theory.specs.Lists.{below}
 use Rattle.mc_theory.specs.Reasons.{Reason, ◌then◌, first_of}
 
-first-push : (f : ℕ → Option Reason) (xs : List ℕ) (x : ℕ) → first_of f (xs ++ x ∷ []) ≡ (first_of f xs then f x)
+first-push : (f : ℕ → Option Reason) (xs : List ℕ) (x : ℕ)
+    → first_of f (xs ++ x ∷ []) ≡ (first_of f xs then f x)
 first-push f [] x = by (f x)
   where
     by : (o : Option Reason) → (o then None) ≡ o
     by None = refl
     by (Some y) = refl
-first-push f (y ∷ xs) x = ap (λ o. f y then o) (first-push f xs x) ∙ assoc (f y) (first_of f xs) (f x)
+first-push f (y ∷ xs) x = ap (λ o. f y then o) (first-push f xs x)
+    ∙ assoc (f y) (first_of f xs) (f x)
   where
     assoc : (a b c : Option Reason) → (a then (b then c)) ≡ ((a then b) then c)
     assoc None b c = refl
     assoc (Some x) b c = refl
 
-first-next : (f : ℕ → Option Reason) (k : ℕ) → first_of f (below k) ≡ None → first_of f (below (k + 1)) ≡ f k
+first-next : (f : ℕ → Option Reason) (k : ℕ) → first_of f (below k) ≡ None
+    → first_of f (below (k + 1)) ≡ f k
 unfolding below
-first-next f k h = ap (λ n. first_of f (below n)) (add-one k) ∙ (first-push f (below k) k ∙ ap (λ o. o then f k) h)
+first-next f k h = ap (λ n. first_of f (below n)) (add-one k)
+    ∙ (first-push f (below k) k ∙ ap (λ o. o then f k) h)
 
 pub none-start : (f : ℕ → Option Reason) → first_of f (below 0) ≡ None
 unfolding below
 none-start f = refl
 
-pub none-more : (f : ℕ → Option Reason) (k : ℕ) → first_of f (below k) ≡ None → f k ≡ None → first_of f (below (k + 1)) ≡ None
+pub none-more : (f : ℕ → Option Reason) (k : ℕ) → first_of f (below k) ≡ None → f k ≡ None
+    → first_of f (below (k + 1)) ≡ None
 none-more f k h e = first-next f k h ∙ e
 
 -- what was found at k stays the first
-some-stays : (f : ℕ → Option Reason) (k d : ℕ) (x : Reason) → first_of f (below (k + 1)) ≡ Some x → first_of f (below (k + 1 + d)) ≡ Some x
+some-stays : (f : ℕ → Option Reason) (k d : ℕ) (x : Reason) → first_of f (below (k + 1)) ≡ Some x
+    → first_of f (below (k + 1 + d)) ≡ Some x
 unfolding below
-some-stays f k zero x h = let e : k + 1 ≡ k + 1 + zero = omega arith in subst (λ n. first_of f (below n) ≡ Some x) e h
+some-stays f k zero x h = let e : k + 1 ≡ k + 1 + zero =
+    omega arith in subst (λ n. first_of f (below n) ≡ Some x) e h
 some-stays f k (suc d) x h =
     let e : suc (k + 1 + d) ≡ k + 1 + suc d = omega arith in
-    subst (λ n. first_of f (below n) ≡ Some x) e (first-push f (below (k + 1 + d)) (k + 1 + d) ∙ ap (λ o. o then f (k + 1 + d)) (some-stays f k d x h))
+    subst (λ n. first_of f (below n) ≡ Some x) e (first-push f (below (k + 1 + d)) (k + 1 + d)
+    ∙ ap (λ o. o then f (k + 1 + d)) (some-stays f k d x h))
 
-pub some-found : (f : ℕ → Option Reason) (k n : ℕ) (x : Reason) → first_of f (below k) ≡ None → f k ≡ Some x → k < n → first_of f (below n) ≡ Some x
+pub some-found : (f : ℕ → Option Reason) (k n : ℕ) (x : Reason) → first_of f (below k) ≡ None
+    → f k ≡ Some x → k < n → first_of f (below n) ≡ Some x
 some-found f k n x h e lt =
     let q : k + 1 + (n - (k + 1)) ≡ n = omega arith in
-    subst (λ m. first_of f (below m) ≡ Some x) q (some-stays f k (n - (k + 1)) x (first-next f k h ∙ e))
+    subst (λ m. first_of f (below m) ≡ Some x) q
+    (some-stays f k (n - (k + 1)) x (first-next f k h ∙ e))

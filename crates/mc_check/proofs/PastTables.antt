@@ -5,20 +5,28 @@ use Rattle.std.specs.FinMap as finite
 use Rattle.std.proofs.lemmas.Option.{slice_get_past}
 use Rattle.mc_theory.specs.Nets.Row.{NoRow}
 use Rattle.mc_topology.specs.declared.flow.Flow.{Flow}
-use Rattle.mc_forward.specs.Domains.{TablesValue, DomainValue, IsDomain, lan_of_vif, placed_of, row_at, row_of}
+use Rattle.mc_forward.specs.Domains.{TablesValue, DomainValue, IsDomain, lan_of_vif, placed_of}
+use Rattle.mc_forward.specs.Domains.{row_at, row_of}
 
-no_tables : (d : DomainValue) → IsDomain d → (router : ℕ) → length d.topology.routers ≤ router → slice_get d.tables router ≡ None
+no_tables : (d : DomainValue) → IsDomain d → (router : ℕ) → length d.topology.routers ≤ router
+    → slice_get d.tables router ≡ None
 no_tables d ok router past = slice_get_past d.tables router (omega (arith, ok.routers))
 
-pub placed-past : (d : DomainValue) → IsDomain d → (router vif : ℕ) → length d.topology.routers ≤ router → placed_of d router vif ≡ None
-placed-past d ok router vif past = by d router vif (slice_get d.tables router) (no_tables d ok router past)
+pub placed-past : (d : DomainValue) → IsDomain d → (router vif : ℕ)
+    → length d.topology.routers ≤ router → placed_of d router vif ≡ None
+placed-past d ok router vif past = by d router vif (slice_get d.tables router)
+    (no_tables d ok router past)
   where
-    by : (d : DomainValue) (router vif : ℕ) (o : Option TablesValue) → o ≡ None → option_and_then (lan_of_vif d.topology router) (option_and_then (λ own. finite.get own.vifs vif) o) ≡ None
+    by : (d : DomainValue) (router vif : ℕ) (o : Option TablesValue) → o ≡ None
+        → option_and_then (lan_of_vif d.topology router)
+        (option_and_then (λ own. finite.get own.vifs vif) o) ≡ None
     by d router vif None e = refl
     by d router vif (Some own) e = absurd cc
 
-pub row-past : (d : DomainValue) → IsDomain d → (flow router : ℕ) → length d.topology.routers ≤ router → row_of d flow router ≡ NoRow
-row-past d ok flow router past = by (slice_get d.tables router) (slice_get d.topology.flows flow) (no_tables d ok router past)
+pub row-past : (d : DomainValue) → IsDomain d → (flow router : ℕ)
+    → length d.topology.routers ≤ router → row_of d flow router ≡ NoRow
+row-past d ok flow router past = by (slice_get d.tables router) (slice_get d.topology.flows flow)
+    (no_tables d ok router past)
   where
     by : (o : Option TablesValue) (f : Option Flow) → o ≡ None → row_at o f ≡ NoRow
     by None f e = refl

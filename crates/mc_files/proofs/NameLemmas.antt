@@ -1,6 +1,9 @@
 -- The names of the files that are packed.
-use Rattle.std.proofs.Common.{◌≡◌, ℕ, zero, suc, ◌+◌, ◌*◌, ◌≤◌, Bool, true, false, List, [], ◌∷◌, ◌++◌, codes, length, map, take, refl, ap, sym, ◌∙◌, arith, add-one, lit≤, subst}
-use Rattle.std.specs.Prelude.{Option, Some, None, option_map, slice_get, flat_map, IsTrue, find, cond}
+use Rattle.std.proofs.Common.{◌≡◌, ℕ, zero, suc, ◌+◌, ◌*◌, ◌≤◌, Bool, true, false, List, [], ◌∷◌}
+use Rattle.std.proofs.Common.{◌++◌, codes, length, map, take, refl, ap, sym, ◌∙◌, arith, add-one}
+use Rattle.std.proofs.Common.{lit≤, subst}
+use Rattle.std.specs.Prelude.{Option, Some, None, option_map, slice_get, flat_map, IsTrue, find}
+use Rattle.std.specs.Prelude.{cond}
 use Rattle.std.specs.List.{AllByRecursion}
 use Rattle.std.specs.Str.{bytes_eq}
 use Rattle.std.proofs.lemmas.List.{append_assoc}

@@ -1,11 +1,14 @@
 -- What is packed of files, and when.
-use Rattle.std.proofs.Common.{◌≡◌, ℕ, zero, suc, ◌+◌, ◌*◌, ◌≤◌, ◌<◌, Bool, true, false, List, [], ◌∷◌, ◌++◌, codes, length, drop, get_or, Option, Some, None, Result, Ok, Err, refl, ap, sym, subst, ◌∙◌, arith, lit≤, add-one}
+use Rattle.std.proofs.Common.{◌≡◌, ℕ, zero, suc, ◌+◌, ◌*◌, ◌≤◌, ◌<◌, Bool, true, false, List, []}
+use Rattle.std.proofs.Common.{◌∷◌, ◌++◌, codes, length, drop, get_or, Option, Some, None, Result}
+use Rattle.std.proofs.Common.{Ok, Err, refl, ap, sym, subst, ◌∙◌, arith, lit≤, add-one}
 use Rattle.std.specs.Prelude.{◌&&◌, ◌≢◌, IfErr, nat_le, flat_map, if◌then◌else◌, IsTrue, slice_get}
 use Rattle.std.specs.List.{AllByRecursion, list_all}
 use Rattle.std.proofs.lemmas.Bool.{leb-true, le-leb, and_parts}
 use Rattle.std.proofs.lemmas.List.{length-append, append-nil, append_assoc, drop_all}
 use Rattle.mc_text.specs.Steps.{◌>>=◌}
-use Rattle.mc_text.specs.Bundle.{PartText, IsPartName, AreWithinLimits, bundle_spelling, max_part, max_bundle, max_parts}
+use Rattle.mc_text.specs.Bundle.{PartText, IsPartName, AreWithinLimits, bundle_spelling, max_part}
+use Rattle.mc_text.specs.Bundle.{max_bundle, max_parts}
 use Rattle.mc_topology.proofs.Steps.{bind_ok, test_ok, ok_is}
 use Rattle.mc_topology.proofs.Whole.{reading_takes, reading_again}
 use Rattle.mc_topology.proofs.Kept.{text_kept}
@@ -17,10 +20,13 @@ use Rattle.mc_topology.specs.Stands.{TopologyStands}
 use Rattle.mc_topology.specs.Topology.{TopologyValue, IsTopology}
 use Rattle.mc_topology.specs.declared.fault.TopologyFault.{TopologyFault}
 use Rattle.mc_files.specs.Files.{FileText, file_named}
-use Rattle.mc_files.specs.Packing.{PackedName, ArePacked, IsPacked, topology_packed, others_packed, router_packed, lan_packed, certificate_packed}
-use Rattle.mc_files.specs.PackReading.{part_bytes, part_packed, parts_after, parts_read, within_limits, pack_of, judged, names_told}
+use Rattle.mc_files.specs.Packing.{PackedName, ArePacked, IsPacked, topology_packed, others_packed}
+use Rattle.mc_files.specs.Packing.{router_packed, lan_packed, certificate_packed}
+use Rattle.mc_files.specs.PackReading.{part_bytes, part_packed, parts_after, parts_read}
+use Rattle.mc_files.specs.PackReading.{within_limits, pack_of, judged, names_told}
 use Rattle.mc_files.specs.declared.fault.PackFault.{PackFault}
-use Rattle.mc_files.specs.declared.fault.PackFault.TheVariants.{Topology, TooLarge, Read, Write, Memory}
+use Rattle.mc_files.specs.declared.fault.PackFault.TheVariants.{Topology, TooLarge, Read, Write}
+use Rattle.mc_files.specs.declared.fault.PackFault.TheVariants.{Memory}
 use Rattle.mc_files.specs.PackRun.{Gives}
 
 -- ---- one part
@@ -33,10 +39,13 @@ too_small a b small is =
 
 -- the part is made of the file that was found
 abbrev IsMade : Option (List ℕ) → List ℕ → PartText → Type 0
-IsMade found name part = (part.name ≡ name) × (found ≡ Some part.bytes) × (length part.bytes ≤ max_part)
+IsMade found name part = (part.name ≡ name) × (found ≡ Some part.bytes)
+    × (length part.bytes ≤ max_part)
 
-sized_takes : (b : Bool) (bytes name : List ℕ) (part : PartText) → nat_le (length bytes) max_part ≡ b
-    → ((if b then Ok bytes else Err TooLarge) >>= λ bytes. Ok (record { name = name; bytes = bytes })) ≡ Ok part
+sized_takes : (b : Bool) (bytes name : List ℕ) (part : PartText)
+    → nat_le (length bytes) max_part ≡ b
+    → ((if b then Ok bytes else Err TooLarge) >>= λ bytes. Ok
+    (record { name = name; bytes = bytes })) ≡ Ok part
     → IsMade (Some bytes) name part
 sized_takes true bytes name part small e =
     let is : record { name = name; bytes = bytes } ≡ part = ok_is _ part e in
@@ -48,7 +57,8 @@ made_takes : (found : Option (List ℕ)) (name : List ℕ) (part : PartText)
     → (part_bytes found >>= λ bytes. Ok (record { name = name; bytes = bytes })) ≡ Ok part
     → IsMade found name part
 made_takes None name part e = absurd cc
-made_takes (Some bytes) name part e = sized_takes (nat_le (length bytes) max_part) bytes name part refl e
+made_takes (Some bytes) name part e = sized_takes (nat_le (length bytes) max_part) bytes name part
+    refl e
 
 part_takes : (files : List FileText) (name : PackedName) (part : PartText)
     → part_packed files name ≡ Ok part → IsMade (file_named files name.file) name.part part
@@ -167,7 +177,8 @@ names_take : (certified : Bool) (text : List ℕ) (names : List PackedName)
     → (t : TopologyValue) × TopologyStands text t × (others_packed certified t ≡ names)
 unfolding names_told
 names_take certified text names e =
-    let one = bind_ok (judged Topology (reading_of text)) (λ t. Ok (others_packed certified t)) names e in (
+    let one = bind_ok (judged Topology (reading_of text)) (λ t. Ok (others_packed certified t))
+    names e in (
       one.0,
       reading_takes text one.0 (judged_ok (reading_of text) one.0 one.1),
       ok_is (others_packed certified one.0) names one.2,
@@ -267,7 +278,8 @@ pub pack_takes : (files : List FileText) (certified : Bool) (parts : List PartTe
 unfolding pack_of within_limits
 pack_takes files certified parts e =
     let one = bind_ok (parts_read certified files) within_limits parts e in
-    let size = test_ok (nat_le (length (bundle_spelling one.0)) max_bundle) TooLarge (Ok one.0) parts
+    let size = test_ok (nat_le (length (bundle_spelling one.0)) max_bundle) TooLarge
+    (Ok one.0) parts
     one.2 in
     let all = read_takes files certified one.0 one.1 in
     let limits : AreWithinLimits one.0 = record {
@@ -380,7 +392,8 @@ IsPlain name = IsTrue (list_all is_name_byte name.file)
 plain : (name : List ℕ) → is_name name ≡ true → list_all is_name_byte name ≡ true
 unfolding is_name
 plain name is =
-    (and_parts (nat_le 1 (length name) && nat_le (length name) 32) (list_all is_name_byte name) is).1
+    (and_parts (nat_le 1 (length name) && nat_le (length name) 32)
+    (list_all is_name_byte name) is).1
 
 plain_append : (xs ys : List PackedName) → AllByRecursion IsPlain xs → AllByRecursion IsPlain ys
     → AllByRecursion IsPlain (xs ++ ys)
@@ -431,7 +444,8 @@ given_on view seen r Write step next is e = rw (e) tt
 given_on view seen r Memory step next is e = rw (e) tt
 
 -- want of memory says nothing
-pub given_memory : {Z V : Type 0} (seen : Z → V) (r : Result Z PackFault) (step : Result V PackFault)
+pub given_memory : {Z V : Type 0} (seen : Z → V) (r : Result Z PackFault)
+    (step : Result V PackFault)
     → r ≡ Err Memory → Gives seen r step
 given_memory seen r step e = rw (e) tt
 
@@ -488,7 +502,8 @@ pub first_refused : {X : Type 0} (files : List FileText) (certified : Bool) (nam
     → Gives view r (parts_read certified files)
 unfolding parts_read
 first_refused files certified name view r fault is given e =
-    let first = subst (λ (n : PackedName). Gives (λ (part : PartText). part) (Err fault) (part_packed files n))
+    let first = subst (λ (n : PackedName). Gives (λ (part : PartText). part) (Err fault)
+    (part_packed files n))
     is given in
     given_on (λ (part : PartText). part) view r fault (part_packed files topology_packed)
     (λ first. names_told certified first.bytes >>= λ names. parts_after files (first ∷ []) names)
@@ -515,7 +530,8 @@ pub others_given : {X : Type 0} (files : List FileText) (certified : Bool) (name
     (first : PartText) (text : List ℕ) (names items : List PackedName) (view : X → List PartText)
     (r : Result X PackFault) → name ≡ topology_packed → part_packed files name ≡ Ok first
     → text ≡ first.bytes → names_told certified text ≡ Ok names → items ≡ names
-    → Gives view r (parts_after files (first ∷ []) items) → Gives view r (parts_read certified files)
+    → Gives view r (parts_after files (first ∷ []) items)
+    → Gives view r (parts_read certified files)
 unfolding parts_read
 others_given files certified name first text names items view r is made same told all given =
     let there : part_packed files topology_packed ≡ Ok first =

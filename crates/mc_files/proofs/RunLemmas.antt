@@ -1,5 +1,6 @@
 -- What packing shows of the files that were told, and of the output.
-use Rattle.std.proofs.Common.{◌≡◌, ℕ, Bool, List, ◌⊎◌, inl, inr, Option, Some, None, Result, Ok, Err, refl, ap, sym, subst}
+use Rattle.std.proofs.Common.{◌≡◌, ℕ, Bool, List, ◌⊎◌, inl, inr, Option, Some, None, Result, Ok}
+use Rattle.std.proofs.Common.{Err, refl, ap, sym, subst}
 use Rattle.std.specs.Prelude.{IfErr, IfOk, IfSome, OnOk}
 use Rattle.mc_text.specs.Bundle.{PartText, AreWithinLimits, bundle_spelling}
 use Rattle.mc_text.specs.BundleWriting.{AppendsBundle}
@@ -7,9 +8,11 @@ use Rattle.mc_text.specs.Device.{AppendsPart}
 use Rattle.mc_files.specs.Files.{FileText}
 use Rattle.mc_files.specs.Packing.{IsPacked}
 use Rattle.mc_files.specs.PackReading.{pack_of, parts_read}
-use Rattle.mc_files.specs.PackRun.{Answers, Gives, GivesOf, SaysNothing, WritesPacked, WritesPartOfPacked}
+use Rattle.mc_files.specs.PackRun.{Answers, Gives, GivesOf, SaysNothing, WritesPacked}
+use Rattle.mc_files.specs.PackRun.{WritesPartOfPacked}
 use Rattle.mc_files.specs.declared.fault.PackFault.{PackFault}
-use Rattle.mc_files.specs.declared.fault.PackFault.TheVariants.{Topology, TooLarge, Read, Write, Memory}
+use Rattle.mc_files.specs.declared.fault.PackFault.TheVariants.{Topology, TooLarge, Read, Write}
+use Rattle.mc_files.specs.declared.fault.PackFault.TheVariants.{Memory}
 use Rattle.mc_files.proofs.PackLemmas.{packed_within, packed_beyond, packed_refused, pack_again}
 
 -- ---- the files are refused
@@ -67,7 +70,8 @@ unwritten files certified items f read (inl is) beyond =
 unwritten files certified items f read (inr is) beyond =
     subst (λ (x : PackFault). Answers certified files (Err x)) (sym is) tt
 
-pub written_answer : (told : Option (List FileText)) (certified : Bool) (items texts : List PartText)
+pub written_answer : (told : Option (List FileText)) (certified : Bool)
+    (items texts : List PartText)
     (old new : Option (List ℕ)) (r : Result (Unit {0}) PackFault)
     → ((files : List FileText) → told ≡ Some files → parts_read certified files ≡ Ok items)
     → texts ≡ items → OnOk r (AppendsBundle old new texts) → IfErr r IsOfWriting

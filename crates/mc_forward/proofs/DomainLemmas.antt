@@ -29,47 +29,65 @@ use Rattle.mc_forward.proofs.BelowLemmas.{length-below, slice_get-by_number}
 -- ---- placed
 
 -- a placed vif stands in its router's table
-vif-placed : (t : TopologyValue) (tables : List TablesValue) (router vif lan : ℕ) → placed_in t tables router vif ≡ Some lan
+vif-placed : (t : TopologyValue) (tables : List TablesValue) (router vif lan : ℕ)
+    → placed_in t tables router vif ≡ Some lan
     → (own : TablesValue) × (slice_get tables router ≡ Some own) × IsSome (finite.get own.vifs vif)
-vif-placed t tables router vif lan e = by_tables t tables router vif lan (slice_get tables router) refl e
+vif-placed t tables router vif lan e = by_tables t tables router vif lan
+    (slice_get tables router) refl e
   where
-    by_vif : (t : TopologyValue) (router lan : ℕ) (o : Option VifText) → option_and_then (lan_of_vif t router) o ≡ Some lan → IsSome o
+    by_vif : (t : TopologyValue) (router lan : ℕ) (o : Option VifText)
+        → option_and_then (lan_of_vif t router) o ≡ Some lan → IsSome o
     by_vif t router lan None e = absurd cc
     by_vif t router lan (Some v) e = refl
 
-    by_tables : (t : TopologyValue) (tables : List TablesValue) (router vif lan : ℕ) (o : Option TablesValue) → slice_get tables router ≡ o
-        → option_and_then (lan_of_vif t router) (option_and_then (λ own. finite.get own.vifs vif) o) ≡ Some lan
-        → (own : TablesValue) × (slice_get tables router ≡ Some own) × IsSome (finite.get own.vifs vif)
+    by_tables : (t : TopologyValue) (tables : List TablesValue) (router vif lan : ℕ)
+        (o : Option TablesValue) → slice_get tables router ≡ o
+        → option_and_then (lan_of_vif t router) (option_and_then (λ own. finite.get own.vifs vif) o)
+        ≡ Some lan
+        → (own : TablesValue) × (slice_get tables router ≡ Some own)
+        × IsSome (finite.get own.vifs vif)
     by_tables t tables router vif lan None at e = absurd cc
-    by_tables t tables router vif lan (Some own) at e = (own, at, by_vif t router lan (finite.get own.vifs vif) e)
+    by_tables t tables router vif lan (Some own) at e =
+        (own, at, by_vif t router lan (finite.get own.vifs vif) e)
 
 -- a vif is placed on a LAN of the topology
-pub placed-listed : (d : DomainValue) (router vif : ℕ) → IsDomain d → (o : Option ℕ) → placed_of d router vif ≡ o
+pub placed-listed : (d : DomainValue) (router vif : ℕ) → IsDomain d → (o : Option ℕ)
+    → placed_of d router vif ≡ o
     → IfSome o (λ lan. lan < length d.topology.lans)
 placed-listed d router vif ok None e = tt
 placed-listed d router vif ok (Some lan) e = by_vif d router lan ok (vif_of d.tables router vif) e
   where
-    by_kind : (d : DomainValue) (router lan : ℕ) → IsDomain d → (v : VifText) (b : Bool) → cond b None (lan_of_interface router v.device d.topology.interfaces) ≡ Some lan → lan < length d.topology.lans
+    by_kind : (d : DomainValue) (router lan : ℕ) → IsDomain d → (v : VifText) (b : Bool)
+        → cond b None (lan_of_interface router v.device d.topology.interfaces) ≡ Some lan
+        → lan < length d.topology.lans
     by_kind d router lan ok v true e = absurd cc
-    by_kind d router lan ok v false e = lan_listed d.topology router v.device (Some lan) ok.topology e
+    by_kind d router lan ok v false e = lan_listed d.topology router v.device
+        (Some lan) ok.topology e
 
-    by_vif : (d : DomainValue) (router lan : ℕ) → IsDomain d → (o : Option VifText) → option_and_then (lan_of_vif d.topology router) o ≡ Some lan → lan < length d.topology.lans
+    by_vif : (d : DomainValue) (router lan : ℕ) → IsDomain d → (o : Option VifText)
+        → option_and_then (lan_of_vif d.topology router) o ≡ Some lan → lan < length d.topology.lans
     by_vif d router lan ok None e = absurd cc
-    by_vif d router lan ok (Some v) e = by_kind d router lan ok v ((v.tunnel || v.register) || bytes_eq v.device no_device) e
+    by_vif d router lan ok (Some v) e = by_kind d router lan ok v
+        ((v.tunnel || v.register) || bytes_eq v.device no_device) e
 
 -- ---- rows
 
 pub tail-ascends : (x : ℕ) (xs : List ℕ) → IsStrictlyIncreasing (x ∷ xs) → IsStrictlyIncreasing xs
 tail-ascends x xs h i lt =
     let e : suc i + 1 ≡ suc (i + 1) = omega arith in
-    let k : slice_index (x ∷ xs) (suc i) < slice_index (x ∷ xs) (suc i + 1) = h (suc i) (omega (arith, lt)) in
+    let k : slice_index (x ∷ xs) (suc i) < slice_index (x ∷ xs) (suc i + 1) =
+    h (suc i) (omega (arith, lt)) in
     subst (λ (j : ℕ). slice_index xs i < slice_index (x ∷ xs) j) e k
 
 above-first : (x : ℕ) (xs : List ℕ) → IsStrictlyIncreasing (x ∷ xs) → (y : ℕ) → In y xs → x < y
 above-first x [] h y k = absurd k
 above-first x (z ∷ zs) h y k = (
     let first : x < z = h 0 (omega arith) in
-    elim k [ inl e ↦ subst (λ (n : ℕ). x < n) e first | inr j ↦ (let rest = above-first z zs (tail-ascends x (z ∷ zs) h) y j in omega (arith, rest, first)) ])
+    elim k [
+      | inl e ↦ subst (λ (n : ℕ). x < n) e first
+      | inr j ↦ (let rest = above-first z zs (tail-ascends x (z ∷ zs) h) y j in omega
+          (arith, rest, first))
+    ])
 
 -- numbers that ascend are distinct
 pub distinct-ascending : (xs : List ℕ) → IsStrictlyIncreasing xs → Distinct xs
@@ -79,27 +97,35 @@ distinct-ascending (x ∷ xs) h = (
   distinct-ascending xs (tail-ascends x xs h),
 )
 
-map-vifs : (oifs : List Oif) → map (λ (p : ℕ × ℕ). p.0) (pairs_of oifs) ≡ map (λ (o : Oif). o.vif) oifs
+map-vifs : (oifs : List Oif) → map (λ (p : ℕ × ℕ). p.0) (pairs_of oifs)
+    ≡ map (λ (o : Oif). o.vif) oifs
 map-vifs [] = refl
 map-vifs (o ∷ oifs) = ap (λ (vs : List ℕ). o.vif ∷ vs) (map-vifs oifs)
 
 -- an exact row is that of an entry
-row-entry : (wild : Bool) (o : Option Entry) (v : ℕ) (pairs : List (ℕ × ℕ)) → row_by wild o ≡ Exact v pairs → (entry : Entry) × (o ≡ Some entry) × (pairs_of entry.oifs ≡ pairs)
+row-entry : (wild : Bool) (o : Option Entry) (v : ℕ) (pairs : List (ℕ × ℕ))
+    → row_by wild o ≡ Exact v pairs → (entry : Entry) × (o ≡ Some entry)
+    × (pairs_of entry.oifs ≡ pairs)
 row-entry wild (Some entry) v pairs e = (entry, refl, cc)
 row-entry true None v pairs e = absurd cc
 row-entry false None v pairs e = absurd cc
 
 -- the outgoing vifs of an exact row ascend
-pub row-ascends : (d : DomainValue) (flow router v : ℕ) (pairs : List (ℕ × ℕ)) → IsDomain d → row_of d flow router ≡ Exact v pairs → IsStrictlyIncreasing (map (λ (p : ℕ × ℕ). p.0) pairs)
-row-ascends d flow router v pairs ok e = by d ok flow router v pairs (slice_get d.tables router) (slice_get d.topology.flows flow) refl e
+pub row-ascends : (d : DomainValue) (flow router v : ℕ) (pairs : List (ℕ × ℕ)) → IsDomain d
+    → row_of d flow router ≡ Exact v pairs → IsStrictlyIncreasing (map (λ (p : ℕ × ℕ). p.0) pairs)
+row-ascends d flow router v pairs ok e = by d ok flow router v pairs (slice_get d.tables router)
+    (slice_get d.topology.flows flow) refl e
   where
-    by : (d : DomainValue) → IsDomain d → (flow router v : ℕ) (pairs : List (ℕ × ℕ)) (own : Option TablesValue) (f : Option Flow) → slice_get d.tables router ≡ own
+    by : (d : DomainValue) → IsDomain d → (flow router v : ℕ) (pairs : List (ℕ × ℕ))
+        (own : Option TablesValue) (f : Option Flow) → slice_get d.tables router ≡ own
         → row_at own f ≡ Exact v pairs → IsStrictlyIncreasing (map (λ (p : ℕ × ℕ). p.0) pairs)
     by d ok flow router v pairs None f at e = absurd cc
     by d ok flow router v pairs (Some own) None at e = absurd cc
     by d ok flow router v pairs (Some own) (Some f) at e =
-        let found = row-entry (set.contains own.cache.wildcards f.group || set.contains own.cache.wildcards 0) (finite.get own.cache.entries (f.source, f.group)) v pairs e in
-        let entry = subst (λ (o : Option Entry). IfSome o IsEntry) found.1 ((ok.tables router own at).cache.entries (f.source, f.group)) in
+        let found = row-entry (set.contains own.cache.wildcards f.group || set.contains
+        own.cache.wildcards 0) (finite.get own.cache.entries (f.source, f.group)) v pairs e in
+        let entry = subst (λ (o : Option Entry). IfSome o IsEntry) found.1
+        ((ok.tables router own at).cache.entries (f.source, f.group)) in
         subst (λ (ps : List (ℕ × ℕ)). IsStrictlyIncreasing (map (λ (p : ℕ × ℕ). p.0) ps)) found.2
         (subst IsStrictlyIncreasing (sym (map-vifs found.0.oifs)) entry.ascending)
 
@@ -107,9 +133,12 @@ row-ascends d flow router v pairs ok e = by d ok flow router v pairs (slice_get 
 
 pub net-of_domain : (d : DomainValue) (flow : ℕ) → IsDomain d → IsNet (net_of d flow)
 net-of_domain d flow ok = record {
-  router = λ r v l e. (let own = vif-placed d.topology d.tables r v l e in let lt = slice_get_within d.tables r own.0 own.1 in subst (λ (n : ℕ). r < n) ok.routers lt);
-  vif = λ r v l e. (let own = vif-placed d.topology d.tables r v l e in let le = (ok.tables r own.0 own.1).vifs.numbered v own.2 in omega (arith, le));
-  vifs = λ r v pairs e. distinct-ascending (map (λ (p : ℕ × ℕ). p.0) pairs) (row-ascends d flow r v pairs ok e);
+  router = λ r v l e. (let own = vif-placed d.topology d.tables r v l e in let lt =
+      slice_get_within d.tables r own.0 own.1 in subst (λ (n : ℕ). r < n) ok.routers lt);
+  vif = λ r v l e. (let own = vif-placed d.topology d.tables r v l e in let le =
+      (ok.tables r own.0 own.1).vifs.numbered v own.2 in omega (arith, le));
+  vifs = λ r v pairs e. distinct-ascending (map (λ (p : ℕ × ℕ). p.0) pairs)
+      (row-ascends d flow r v pairs ok e);
 }
 
 set-within : (flags : List Bool) (i : ℕ) → slice_index_or flags i false ≡ true → i < length flags
@@ -117,46 +146,58 @@ set-within [] i e = absurd cc
 set-within (b ∷ flags) zero e = omega arith
 set-within (b ∷ flags) (suc i) e = let h = set-within flags i e in omega (arith, h)
 
-row-within : (rows : List (List Bool)) (i j : ℕ) → slice_index_or (slice_index_or rows i []) j false ≡ true → i < length rows
+row-within : (rows : List (List Bool)) (i j : ℕ)
+    → slice_index_or (slice_index_or rows i []) j false ≡ true → i < length rows
 row-within [] i j e = absurd cc
 row-within (b ∷ rows) zero j e = omega arith
 row-within (b ∷ rows) (suc i) j e = let h = row-within rows i j e in omega (arith, h)
 
 -- only LANs of the topology want a flow
-pub wanting-within : (d : DomainValue) (flow lan : ℕ) → IsDomain d → wants_of d flow lan ≡ true → lan < length d.topology.lans
+pub wanting-within : (d : DomainValue) (flow lan : ℕ) → IsDomain d → wants_of d flow lan ≡ true
+    → lan < length d.topology.lans
 wanting-within d flow lan ok e = subst (λ (n : ℕ). lan < n) ok.lans (row-within d.wants lan flow e)
 
 -- the flow of a number
-pub flow-at : (flows : List Flow) (i : ℕ) → i < length flows → (f : Flow) × (slice_get flows i ≡ Some f)
+pub flow-at : (flows : List Flow) (i : ℕ) → i < length flows
+    → (f : Flow) × (slice_get flows i ≡ Some f)
 flow-at [] i h = absurd (omega arith)
 flow-at (f ∷ flows) zero h = (f, refl)
 flow-at (f ∷ flows) (suc i) h = flow-at flows i (omega arith)
 
-pub source-within : (d : DomainValue) (flow : ℕ) → IsDomain d → flow < length d.topology.flows → source_of d flow < length d.topology.lans
+pub source-within : (d : DomainValue) (flow : ℕ) → IsDomain d → flow < length d.topology.flows
+    → source_of d flow < length d.topology.lans
 source-within d flow ok h =
     let f = flow-at d.topology.flows flow h in
-    subst (λ (o : Option Flow). unwrap_or (option_map (λ (f : Flow). f.lan) o) 0 < length d.topology.lans) (sym f.1) (ok.topology.flows_among flow f.0 f.1).lan
+    subst (λ (o : Option Flow). unwrap_or (option_map (λ (f : Flow). f.lan) o) 0 < length
+    d.topology.lans) (sym f.1) (ok.topology.flows_among flow f.0 f.1).lan
 
-pub ttl-from : (d : DomainValue) (flow : ℕ) → IsDomain d → flow < length d.topology.flows → 1 ≤ ttl_of d flow
+pub ttl-from : (d : DomainValue) (flow : ℕ) → IsDomain d → flow < length d.topology.flows
+    → 1 ≤ ttl_of d flow
 ttl-from d flow ok h =
     let f = flow-at d.topology.flows flow h in
-    subst (λ (o : Option Flow). 1 ≤ unwrap_or (option_map (λ (f : Flow). f.ttl) o) 0) (sym f.1) (ok.topology.flows_among flow f.0 f.1).ttl_from
+    subst (λ (o : Option Flow). 1 ≤ unwrap_or (option_map (λ (f : Flow). f.ttl) o) 0) (sym f.1)
+    (ok.topology.flows_among flow f.0 f.1).ttl_from
 
-pub ttl-to : (d : DomainValue) (flow : ℕ) → IsDomain d → flow < length d.topology.flows → ttl_of d flow ≤ 255
+pub ttl-to : (d : DomainValue) (flow : ℕ) → IsDomain d → flow < length d.topology.flows
+    → ttl_of d flow ≤ 255
 ttl-to d flow ok h =
     let f = flow-at d.topology.flows flow h in
-    subst (λ (o : Option Flow). unwrap_or (option_map (λ (f : Flow). f.ttl) o) 0 ≤ 255) (sym f.1) (ok.topology.flows_among flow f.0 f.1).ttl_to
+    subst (λ (o : Option Flow). unwrap_or (option_map (λ (f : Flow). f.ttl) o) 0 ≤ 255) (sym f.1)
+    (ok.topology.flows_among flow f.0 f.1).ttl_to
 
 -- ---- what was worked out
 
 pub length-places : (d : DomainValue) → length (places_of d) ≡ length d.topology.routers
-length-places d = length-map (below (length d.topology.routers)) (λ (router : ℕ). map (placed_of d router) (below 32)) ∙ length-below (length d.topology.routers)
+length-places d = length-map (below (length d.topology.routers))
+    (λ (router : ℕ). map (placed_of d router) (below 32)) ∙ length-below (length d.topology.routers)
 
 pub length-interfaces : (d : DomainValue) → length (interfaces_of d) ≡ length d.topology.lans
-length-interfaces d = length-map (below (length d.topology.lans)) (interfaces (net_of d 0)) ∙ length-below (length d.topology.lans)
+length-interfaces d = length-map (below (length d.topology.lans)) (interfaces (net_of d 0))
+    ∙ length-below (length d.topology.lans)
 
 -- no vif from 32 on is placed
-unplaced-past : (d : DomainValue) (router vif : ℕ) → IsDomain d → 32 ≤ vif → (o : Option ℕ) → placed_of d router vif ≡ o → None ≡ placed_of d router vif
+unplaced-past : (d : DomainValue) (router vif : ℕ) → IsDomain d → 32 ≤ vif → (o : Option ℕ)
+    → placed_of d router vif ≡ o → None ≡ placed_of d router vif
 unplaced-past d router vif ok h None e = sym e
 unplaced-past d router vif ok h (Some lan) e =
     let own = vif-placed d.topology d.tables router vif lan e in
@@ -164,34 +205,51 @@ unplaced-past d router vif ok h (Some lan) e =
     absurd (omega (arith, le))
 
 -- the vif's place in the row of its router
-pub place-found : (d : DomainValue) (ps : List (List (Option ℕ))) (own : List (Option ℕ)) (router vif : ℕ) → IsDomain d → ps ≡ places_of d
-    → router < length d.topology.routers → own ≡ get_or ps router own → unwrap_or (slice_get own vif) None ≡ placed_of d router vif
+pub place-found : (d : DomainValue) (ps : List (List (Option ℕ))) (own : List (Option ℕ))
+    (router vif : ℕ) → IsDomain d → ps ≡ places_of d
+    → router < length d.topology.routers → own ≡ get_or ps router own
+    → unwrap_or (slice_get own vif) None ≡ placed_of d router vif
 place-found d ps own router vif ok e h read =
     let width : List (Option ℕ) = map (placed_of d router) (below 32) in
     let size : length ps ≡ length d.topology.routers = ap length e ∙ length-places d in
-    let at : slice_get ps router ≡ Some own = slice_get_read ps (length ps) router own refl (omega (arith, size)) read in
-    let table : slice_get (places_of d) router ≡ Some width = slice_get-by_number (λ (r : ℕ). map (placed_of d r) (below 32)) (length d.topology.routers) router h in
-    let same : own ≡ width = (let q : Some own ≡ Some width = sym at ∙ ap (λ (xs : List (List (Option ℕ))). slice_get xs router) e ∙ table in cc) in
+    let at : slice_get ps router ≡ Some own = slice_get_read ps (length ps) router own refl
+    (omega (arith, size)) read in
+    let table : slice_get (places_of d) router ≡ Some width =
+    slice_get-by_number (λ (r : ℕ). map (placed_of d r) (below 32))
+    (length d.topology.routers) router h in
+    let same : own ≡ width = (let q : Some own ≡ Some width = sym at
+    ∙ ap (λ (xs : List (List (Option ℕ))). slice_get xs router) e ∙ table in cc) in
     ap (λ (xs : List (Option ℕ)). unwrap_or (slice_get xs vif) None) same ∙ (elim (within vif) [
-      | inl low ↦ ap (λ (o : Option (Option ℕ)). unwrap_or o None) (slice_get-by_number (placed_of d router) 32 vif low)
+      | inl low ↦ ap (λ (o : Option (Option ℕ)). unwrap_or o None)
+          (slice_get-by_number (placed_of d router) 32 vif low)
       | inr high ↦ (
-          let past : slice_get width vif ≡ None = slice_get_past width vif (let n : length width ≡ 32 = length-map (below 32) (placed_of d router) ∙ length-below 32 in omega (arith, n)) in
-          ap (λ (o : Option (Option ℕ)). unwrap_or o None) past ∙ unplaced-past d router vif ok high (placed_of d router vif) refl)
+          let past : slice_get width vif ≡ None =
+          slice_get_past width vif (let n : length width ≡ 32 =
+          length-map (below 32) (placed_of d router)
+          ∙ length-below 32 in omega (arith, n)) in
+          ap (λ (o : Option (Option ℕ)). unwrap_or o None) past
+          ∙ unplaced-past d router vif ok high (placed_of d router vif) refl)
     ])
   where
     within : (vif : ℕ) → (vif < 32) ⊎ (32 ≤ vif)
     within vif = grind arith
 
 -- a LAN's interfaces are the same for each flow
-pub interfaces-same : (d : DomainValue) (flow flow' lan : ℕ) → interfaces (net_of d flow) lan ≡ interfaces (net_of d flow') lan
+pub interfaces-same : (d : DomainValue) (flow flow' lan : ℕ)
+    → interfaces (net_of d flow) lan ≡ interfaces (net_of d flow') lan
 unfolding interfaces
 interfaces-same d flow flow' lan = refl
 
-pub interfaces-found : (d : DomainValue) (is : List (List Interface)) (own : List Interface) (lan flow : ℕ) → is ≡ interfaces_of d
+pub interfaces-found : (d : DomainValue) (is : List (List Interface)) (own : List Interface)
+    (lan flow : ℕ) → is ≡ interfaces_of d
     → lan < length d.topology.lans → own ≡ get_or is lan own → own ≡ interfaces (net_of d flow) lan
 interfaces-found d is own lan flow e h read =
     let size : length is ≡ length d.topology.lans = ap length e ∙ length-interfaces d in
-    let at : slice_get is lan ≡ Some own = slice_get_read is (length is) lan own refl (omega (arith, size)) read in
-    let table : slice_get (interfaces_of d) lan ≡ Some (interfaces (net_of d 0) lan) = slice_get-by_number (interfaces (net_of d 0)) (length d.topology.lans) lan h in
-    let same : own ≡ interfaces (net_of d 0) lan = (let q : Some own ≡ Some (interfaces (net_of d 0) lan) = sym at ∙ ap (λ (xs : List (List Interface)). slice_get xs lan) e ∙ table in cc) in
+    let at : slice_get is lan ≡ Some own = slice_get_read is (length is) lan own refl
+    (omega (arith, size)) read in
+    let table : slice_get (interfaces_of d) lan ≡ Some (interfaces (net_of d 0) lan) =
+    slice_get-by_number (interfaces (net_of d 0)) (length d.topology.lans) lan h in
+    let same : own ≡ interfaces (net_of d 0) lan =
+    (let q : Some own ≡ Some (interfaces (net_of d 0) lan) = sym at
+    ∙ ap (λ (xs : List (List Interface)). slice_get xs lan) e ∙ table in cc) in
     same ∙ interfaces-same d 0 flow lan

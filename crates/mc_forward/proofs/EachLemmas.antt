@@ -14,12 +14,14 @@ push-cases : {A : Type 0} (xs : List A) (y z : A) (k : ℕ) → slice_get (xs ++
 push-cases [] y z zero e = inr (refl, cc)
 push-cases [] y z (suc k) e = absurd cc
 push-cases (x ∷ xs) y z zero e = inl e
-push-cases (x ∷ xs) y z (suc k) e = elim (push-cases xs y z k e) [ inl h ↦ inl h | inr p ↦ inr (ap suc p.0, p.1) ]
+push-cases (x ∷ xs) y z (suc k) e = elim (push-cases xs y z k e)
+    [ inl h ↦ inl h | inr p ↦ inr (ap suc p.0, p.1) ]
 
 same-item : {A : Type 0} (o : Option A) (x z : A) → o ≡ Some x → o ≡ Some z → x ≡ z
 same-item o x z a b = cc
 
-pub each-push : {A B : Type 0} (R : A → B → Type 0) (xs : List A) (ys : List B) (x : A) (y : B) → EachAt R xs ys
+pub each-push : {A B : Type 0} (R : A → B → Type 0) (xs : List A) (ys : List B) (x : A) (y : B)
+    → EachAt R xs ys
     → slice_get xs (length ys) ≡ Some x → R x y → EachAt R xs (ys ++ y ∷ [])
 each-push R xs ys x y each at r k w z ew ez = elim (push-cases ys y z k ez) [
   | inl e ↦ each k w z ew e
@@ -32,52 +34,70 @@ pub each-none : {A B : Type 0} (R : A → B → Type 0) (xs : List A) → EachAt
 each-none R xs k x y ex ey = absurd cc
 
 -- an item within the list
-pub some-at : {A : Type 0} (xs : List A) (i : ℕ) → i < length xs → (x : A) × (slice_get xs i ≡ Some x)
+pub some-at : {A : Type 0} (xs : List A) (i : ℕ) → i < length xs
+    → (x : A) × (slice_get xs i ≡ Some x)
 some-at [] i h = absurd (omega arith)
 some-at (x ∷ xs) zero h = (x, refl)
 some-at (x ∷ xs) (suc i) h = some-at xs i (omega arith)
 
 -- one item more from the front
-pub take-found : {A : Type 0} (xs : List A) (i : ℕ) (x : A) → slice_get xs i ≡ Some x → take (i + 1) xs ≡ take i xs ++ x ∷ []
+pub take-found : {A : Type 0} (xs : List A) (i : ℕ) (x : A) → slice_get xs i ≡ Some x
+    → take (i + 1) xs ≡ take i xs ++ x ∷ []
 take-found xs i x e =
-    take_more xs i x (slice_get_within xs i x e) ∙ ap (λ y. take i xs ++ y ∷ []) (get_or_from_slice_get xs i x x e)
+    take_more xs i x (slice_get_within xs i x e)
+    ∙ ap (λ y. take i xs ++ y ∷ []) (get_or_from_slice_get xs i x x e)
 
-front-by_number : {A : Type 0} (xs : List A) (f : ℕ → A) (d : A) → ((i : ℕ) → i < length xs → get_or xs i d ≡ f i)
+front-by_number : {A : Type 0} (xs : List A) (f : ℕ → A) (d : A)
+    → ((i : ℕ) → i < length xs → get_or xs i d ≡ f i)
     → (k : ℕ) → k ≤ length xs → take k xs ≡ map f (below k)
 unfolding below
 front-by_number xs f d each zero h = refl
 front-by_number xs f d each (suc k) h =
-    let more : take (suc k) xs ≡ take k xs ++ get_or xs k d ∷ [] = subst (λ (n : ℕ). take n xs ≡ take k xs ++ get_or xs k d ∷ []) (add-one k) (take_more xs k d (omega (arith, h))) in
-    let next : map f (below (suc k)) ≡ map f (below k) ++ f k ∷ [] = subst (λ (n : ℕ). map f (below n) ≡ map f (below k) ++ f k ∷ []) (add-one k) (by_number-more f k) in
+    let more : take (suc k) xs ≡ take k xs ++ get_or xs k d ∷ [] =
+    subst (λ (n : ℕ). take n xs ≡ take k xs ++ get_or xs k d ∷ []) (add-one k)
+    (take_more xs k d (omega (arith, h))) in
+    let next : map f (below (suc k)) ≡ map f (below k) ++ f k ∷ [] =
+    subst (λ (n : ℕ). map f (below n) ≡ map f (below k) ++ f k ∷ []) (add-one k)
+    (by_number-more f k) in
     more ∙ ap (λ ys. ys ++ get_or xs k d ∷ []) (front-by_number xs f d each k (omega (arith, h)))
     ∙ ap (λ y. map f (below k) ++ y ∷ []) (each k (omega (arith, h))) ∙ sym next
 
 -- a list whose items are told by their places
-pub by_number : {A : Type 0} (xs : List A) (f : ℕ → A) (n : ℕ) (d : A) → length xs ≡ n → ((i : ℕ) → i < n → get_or xs i d ≡ f i)
+pub by_number : {A : Type 0} (xs : List A) (f : ℕ → A) (n : ℕ) (d : A) → length xs ≡ n
+    → ((i : ℕ) → i < n → get_or xs i d ≡ f i)
     → xs ≡ map f (below n)
 by_number xs f n d size each =
-    sym (take_all n xs (omega (arith, size))) ∙ front-by_number xs f d (λ i lt. each i (omega (arith, lt, size))) n (omega (arith, size))
+    sym (take_all n xs (omega (arith, size))) ∙ front-by_number xs f d
+    (λ i lt. each i (omega (arith, lt, size))) n (omega (arith, size))
 
 -- the same of a list that was seen to grow
-pub count-pushed : {A : Type 0} (ys now : List A) (y : A) (k : ℕ) → now ≡ ys ++ y ∷ [] → length ys ≡ k → length now ≡ k + 1
-count-pushed ys now y k more size = ap length more ∙ length-append ys (y ∷ []) ∙ (let e : length ys + 1 ≡ k + 1 = omega (arith, size) in e)
+pub count-pushed : {A : Type 0} (ys now : List A) (y : A) (k : ℕ) → now ≡ ys ++ y ∷ []
+    → length ys ≡ k → length now ≡ k + 1
+count-pushed ys now y k more size = ap length more ∙ length-append ys (y ∷ [])
+    ∙ (let e : length ys + 1 ≡ k + 1 = omega (arith, size) in e)
 
-pub each-pushed : {A B : Type 0} (R : A → B → Type 0) (xs : List A) (ys now : List B) (x : A) (y : B) (k : ℕ) → now ≡ ys ++ y ∷ []
+pub each-pushed : {A B : Type 0} (R : A → B → Type 0) (xs : List A) (ys now : List B) (x : A)
+    (y : B) (k : ℕ) → now ≡ ys ++ y ∷ []
     → length ys ≡ k → slice_get xs k ≡ Some x → R x y → EachAt R xs ys → EachAt R xs now
 each-pushed R xs ys now x y k more size at r each =
-    subst (EachAt R xs) (sym more) (each-push R xs ys x y each (subst (λ (n : ℕ). slice_get xs n ≡ Some x) (sym size) at) r)
+    subst (EachAt R xs) (sym more) (each-push R xs ys x y each
+    (subst (λ (n : ℕ). slice_get xs n ≡ Some x) (sym size) at) r)
 
 -- an item that was read by its place
-pub read-at : {A : Type 0} (xs : List A) (i : ℕ) (x : A) → i < length xs → x ≡ get_or xs i x → slice_get xs i ≡ Some x
+pub read-at : {A : Type 0} (xs : List A) (i : ℕ) (x : A) → i < length xs → x ≡ get_or xs i x
+    → slice_get xs i ≡ Some x
 read-at xs i x lt read = slice_get_read xs (length xs) i x refl lt read
 
 last_or_before : (i k : ℕ) → i < k + 1 → (i < k) ⊎ (k ≡ i)
 last_or_before i k h = grind arith
 
 -- what holds of each item before the k-th, and of the k-th
-pub rules-more : {A : Type 0} (P : A → Type 0) (xs : List A) (k : ℕ) (x : A) → slice_get xs k ≡ Some x → P x
-    → ((i : ℕ) (y : A) → i < k → slice_get xs i ≡ Some y → P y) → (i : ℕ) (y : A) → i < k + 1 → slice_get xs i ≡ Some y → P y
+pub rules-more : {A : Type 0} (P : A → Type 0) (xs : List A) (k : ℕ) (x : A)
+    → slice_get xs k ≡ Some x → P x
+    → ((i : ℕ) (y : A) → i < k → slice_get xs i ≡ Some y → P y) → (i : ℕ) (y : A) → i < k + 1
+    → slice_get xs i ≡ Some y → P y
 rules-more P xs k x at p before i y lt here = elim (last_or_before i k lt) [
   | inl less ↦ before i y less here
-  | inr same ↦ subst P (same-item (slice_get xs i) x y (subst (λ (n : ℕ). slice_get xs n ≡ Some x) same at) here) p
+  | inr same ↦ subst P
+      (same-item (slice_get xs i) x y (subst (λ (n : ℕ). slice_get xs n ≡ Some x) same at) here) p
 ]

@@ -24,173 +24,231 @@ use Rattle.mc_forward.proofs.DomainLemmas.{net-of_domain, place-found, placed-li
 -- ---- one vif more
 
 vifs_on-more : (places : List (Option ℕ)) (router lan k : ℕ)
-    → vifs_on places router lan (below (k + 1)) ≡ vifs_on places router lan (below k) ++ vifs_on places router lan (k ∷ [])
+    → vifs_on places router lan (below (k + 1)) ≡ vifs_on places router lan
+    (below k) ++ vifs_on places router lan (k ∷ [])
 vifs_on-more places router lan k =
     let test : ℕ → Bool = λ vif. is_lan (slice_index_or places vif None) lan in
     let pair : ℕ → Interface = λ vif. (router, vif) in
-    ap (vifs_on places router lan) (below-more k) ∙ ap (map pair) (filter-append test (below k) (k ∷ []))
+    ap (vifs_on places router lan) (below-more k)
+    ∙ ap (map pair) (filter-append test (below k) (k ∷ []))
     ∙ map-append pair (filter test (below k)) (filter test (k ∷ []))
 
-one-on : (router k : ℕ) (b : Bool) → map {B = Interface} (λ (vif : ℕ). (router, vif)) (cond b (k ∷ []) []) ≡ cond b ((router, k) ∷ []) []
+one-on : (router k : ℕ) (b : Bool) → map {B = Interface} (λ (vif : ℕ). (router, vif))
+    (cond b (k ∷ []) []) ≡ cond b ((router, k) ∷ []) []
 one-on router k true = refl
 one-on router k false = refl
 
-vifs_on-one : (places : List (Option ℕ)) (router lan k : ℕ) (b : Bool) → is_lan (slice_index_or places k None) lan ≡ b
+vifs_on-one : (places : List (Option ℕ)) (router lan k : ℕ) (b : Bool)
+    → is_lan (slice_index_or places k None) lan ≡ b
     → vifs_on places router lan (k ∷ []) ≡ cond b ((router, k) ∷ []) []
 vifs_on-one places router lan k b e =
-    ap (λ (t : Bool). map {B = Interface} (λ (vif : ℕ). (router, vif)) (cond t (k ∷ []) [])) e ∙ one-on router k b
+    ap (λ (t : Bool). map {B = Interface} (λ (vif : ℕ). (router, vif)) (cond t (k ∷ []) [])) e
+    ∙ one-on router k b
 
 -- the lists have what stood in them at first, and a router's vifs so far
-abbrev pub HaveVifs : List (List Interface) → List (List Interface) → List (Option ℕ) → ℕ → ℕ → Type 0
+abbrev pub HaveVifs : List (List Interface) → List (List Interface) → List (Option ℕ) → ℕ → ℕ
+    → Type 0
 HaveVifs start lists places router k =
-    (lan : ℕ) → lan < length start → slice_index_or lists lan [] ≡ slice_index_or start lan [] ++ vifs_on places router lan (below k)
+    (lan : ℕ) → lan < length start → slice_index_or lists lan []
+    ≡ slice_index_or start lan [] ++ vifs_on places router lan (below k)
 
 -- nothing of this vif on this LAN
-not-on : (places : List (Option ℕ)) (router lan k : ℕ) (old now : List Interface) → is_lan (slice_index_or places k None) lan ≡ false
-    → now ≡ old ++ vifs_on places router lan (below k) → now ≡ old ++ vifs_on places router lan (below (k + 1))
+not-on : (places : List (Option ℕ)) (router lan k : ℕ) (old now : List Interface)
+    → is_lan (slice_index_or places k None) lan ≡ false
+    → now ≡ old ++ vifs_on places router lan (below k)
+    → now ≡ old ++ vifs_on places router lan (below (k + 1))
 not-on places router lan k old now e h =
     h ∙ ap (λ is. old ++ is) (sym (append-nil (vifs_on places router lan (below k)))
-    ∙ ap (λ is. vifs_on places router lan (below k) ++ is) (sym (vifs_on-one places router lan k false e))
+    ∙ ap (λ is. vifs_on places router lan (below k) ++ is)
+    (sym (vifs_on-one places router lan k false e))
     ∙ sym (vifs_on-more places router lan k))
 
-is-on : (places : List (Option ℕ)) (router lan k : ℕ) (old now : List Interface) → is_lan (slice_index_or places k None) lan ≡ true
-    → now ≡ old ++ vifs_on places router lan (below k) → now ++ (router, k) ∷ [] ≡ old ++ vifs_on places router lan (below (k + 1))
+is-on : (places : List (Option ℕ)) (router lan k : ℕ) (old now : List Interface)
+    → is_lan (slice_index_or places k None) lan ≡ true
+    → now ≡ old ++ vifs_on places router lan (below k)
+    → now ++ (router, k) ∷ [] ≡ old ++ vifs_on places router lan (below (k + 1))
 is-on places router lan k old now e h =
-    ap (λ is. is ++ (router, k) ∷ []) h ∙ append_assoc old (vifs_on places router lan (below k)) ((router, k) ∷ [])
-    ∙ ap (λ is. old ++ is) (ap (λ is. vifs_on places router lan (below k) ++ is) (sym (vifs_on-one places router lan k true e)) ∙ sym (vifs_on-more places router lan k))
+    ap (λ is. is ++ (router, k) ∷ []) h ∙ append_assoc old (vifs_on places router lan (below k))
+    ((router, k) ∷ [])
+    ∙ ap (λ is. old ++ is) (ap (λ is. vifs_on places router lan (below k) ++ is)
+    (sym (vifs_on-one places router lan k true e)) ∙ sym (vifs_on-more places router lan k))
 
 -- the next vif is placed on no LAN
-pub have-none : (start lists : List (List Interface)) (places : List (Option ℕ)) (router k : ℕ) → slice_index_or places k None ≡ None
+pub have-none : (start lists : List (List Interface)) (places : List (Option ℕ)) (router k : ℕ)
+    → slice_index_or places k None ≡ None
     → HaveVifs start lists places router k → HaveVifs start lists places router (k + 1)
 have-none start lists places router k none have lan lt =
-    not-on places router lan k (slice_index_or start lan []) (slice_index_or lists lan []) (ap (λ (o : Option ℕ). is_lan o lan) none) (have lan lt)
+    not-on places router lan k (slice_index_or start lan []) (slice_index_or lists lan [])
+    (ap (λ (o : Option ℕ). is_lan o lan) none) (have lan lt)
 
 -- the next vif is placed on the LAN q, to whose list it was added
-pub have-one : (start lists : List (List Interface)) (places : List (Option ℕ)) (router k q : ℕ) (own next : List Interface)
-    → q < length lists → own ≡ get_or lists q own → next ≡ own ++ (router, k) ∷ [] → slice_index_or places k None ≡ Some q
+pub have-one : (start lists : List (List Interface)) (places : List (Option ℕ)) (router k q : ℕ)
+    (own next : List Interface)
+    → q < length lists → own ≡ get_or lists q own → next ≡ own ++ (router, k) ∷ []
+    → slice_index_or places k None ≡ Some q
     → HaveVifs start lists places router k → HaveVifs start (set lists q next) places router (k + 1)
-have-one start lists places router k q own next within read is at have lan lt = elim (cases_eq lan q) [
-  | inl same ↦ (
-      let here : get_or (set lists q next) lan [] ≡ next = ap (λ (n : ℕ). get_or (set lists q next) n []) same ∙ get_or-set_same lists q next [] within in
-      let was : own ≡ get_or lists lan [] = read ∙ get_or_default lists q own [] within ∙ ap (λ (n : ℕ). get_or lists n []) (sym same) in
-      here ∙ is ∙ is-on places router lan k (slice_index_or start lan []) own (ap (λ (o : Option ℕ). is_lan o lan) at ∙ eq-eqb q lan (sym same)) (was ∙ have lan lt))
-  | inr other ↦ (
-      get_or-set_other lists q lan next [] other
-      ∙ not-on places router lan k (slice_index_or start lan []) (get_or lists lan []) (ap (λ (o : Option ℕ). is_lan o lan) at ∙ ne_eqb q lan (λ e. other (sym e))) (have lan lt))
-]
+have-one start lists places router k q own next within read is at have lan lt =
+    elim (cases_eq lan q) [
+      | inl same ↦ (
+          let here : get_or (set lists q next) lan [] ≡ next =
+          ap (λ (n : ℕ). get_or (set lists q next) n []) same
+          ∙ get_or-set_same lists q next [] within in
+          let was : own ≡ get_or lists lan [] = read ∙ get_or_default lists q own [] within
+          ∙ ap (λ (n : ℕ). get_or lists n []) (sym same) in
+          here ∙ is ∙ is-on places router lan k (slice_index_or start lan []) own
+          (ap (λ (o : Option ℕ). is_lan o lan) at ∙ eq-eqb q lan (sym same)) (was ∙ have lan lt))
+      | inr other ↦ (
+          get_or-set_other lists q lan next [] other
+          ∙ not-on places router lan k (slice_index_or start lan []) (get_or lists lan [])
+          (ap (λ (o : Option ℕ). is_lan o lan) at ∙ ne_eqb q lan (λ e. other (sym e)))
+          (have lan lt))
+    ]
 
 -- ---- one router more
 
-filter-map : {A B : Type 0} (p : B → Bool) (f : A → B) (xs : List A) → filter p (map f xs) ≡ map f (filter (λ x. p (f x)) xs)
+filter-map : {A B : Type 0} (p : B → Bool) (f : A → B) (xs : List A)
+    → filter p (map f xs) ≡ map f (filter (λ x. p (f x)) xs)
 filter-map p f [] = refl
 filter-map p f (x ∷ xs) = step p f x xs (p (f x)) (filter-map p f xs)
   where
-    step : {A B : Type 0} (p : B → Bool) (f : A → B) (x : A) (xs : List A) (b : Bool) → filter p (map f xs) ≡ map f (filter (λ x. p (f x)) xs)
-        → cond b (f x ∷ filter p (map f xs)) (filter p (map f xs)) ≡ map f (cond b (x ∷ filter (λ x. p (f x)) xs) (filter (λ x. p (f x)) xs))
+    step : {A B : Type 0} (p : B → Bool) (f : A → B) (x : A) (xs : List A) (b : Bool)
+        → filter p (map f xs) ≡ map f (filter (λ x. p (f x)) xs)
+        → cond b (f x ∷ filter p (map f xs)) (filter p (map f xs))
+        ≡ map f (cond b (x ∷ filter (λ x. p (f x)) xs) (filter (λ x. p (f x)) xs))
     step p f x xs true e = ap (λ ys. f x ∷ ys) e
     step p f x xs false e = e
 
-slots-more : (r : ℕ) → slots 32 (r + 1) ≡ slots 32 r ++ map {B = Interface} (λ (v : ℕ). (r, v)) (below 32)
+slots-more : (r : ℕ) → slots 32 (r + 1) ≡ slots 32 r ++ map {B = Interface} (λ (v : ℕ). (r, v))
+    (below 32)
 slots-more r =
     ap (flat_map (λ (n : ℕ). map {B = Interface} (λ (v : ℕ). (n, v)) (below 32))) (below-more r)
-    ∙ flat_map-append (λ (n : ℕ). map {B = Interface} (λ (v : ℕ). (n, v)) (below 32)) (below r) (r ∷ [])
+    ∙ flat_map-append (λ (n : ℕ). map {B = Interface} (λ (v : ℕ). (n, v)) (below 32)) (below r)
+    (r ∷ [])
     ∙ ap (λ is. slots 32 r ++ is) (append-nil (map {B = Interface} (λ (v : ℕ). (r, v)) (below 32)))
 
 pub interfaces-more : (places : List (List (Option ℕ))) (r lan : ℕ)
-    → interfaces_by places (r + 1) lan ≡ interfaces_by places r lan ++ vifs_on (slice_index_or places r []) r lan (below 32)
+    → interfaces_by places (r + 1) lan ≡ interfaces_by places r lan ++ vifs_on
+    (slice_index_or places r []) r lan (below 32)
 interfaces-more places r lan =
     let test : Interface → Bool = λ i. is_lan (place_in places i.0 i.1) lan in
-    ap (filter test) (slots-more r) ∙ filter-append test (slots 32 r) (map {B = Interface} (λ (v : ℕ). (r, v)) (below 32))
-    ∙ ap (λ is. interfaces_by places r lan ++ is) (filter-map {B = Interface} test (λ (v : ℕ). (r, v)) (below 32))
+    ap (filter test) (slots-more r) ∙ filter-append test (slots 32 r)
+    (map {B = Interface} (λ (v : ℕ). (r, v)) (below 32))
+    ∙ ap (λ is. interfaces_by places r lan ++ is)
+    (filter-map {B = Interface} test (λ (v : ℕ). (r, v)) (below 32))
 
 -- ---- the table of a domain
 
-unplaced-router : (d : DomainValue) (router vif : ℕ) → IsDomain d → length d.topology.routers ≤ router → (o : Option ℕ)
+unplaced-router : (d : DomainValue) (router vif : ℕ) → IsDomain d
+    → length d.topology.routers ≤ router → (o : Option ℕ)
     → placed_of d router vif ≡ o → None ≡ o
 unplaced-router d router vif ok past None e = refl
 unplaced-router d router vif ok past (Some lan) e =
     let lt = (net-of_domain d 0 ok).router router vif lan e in absurd (omega (arith, lt, past))
 
-place-same : (d : DomainValue) (places : List (List (Option ℕ))) → IsDomain d → places ≡ places_of d → (router vif : ℕ)
+place-same : (d : DomainValue) (places : List (List (Option ℕ))) → IsDomain d → places ≡ places_of d
+    → (router vif : ℕ)
     → place_in places router vif ≡ placed_of d router vif
 place-same d places ok e router vif = elim (cases_lt router (length d.topology.routers)) [
   | inl lt ↦ (
       let own = get_or places router [] in
       let size : length places ≡ length d.topology.routers = ap length e ∙ length-places d in
       sym (unwrap_or-slice_get own vif None)
-      ∙ place-found d places own router vif ok e lt (get_or_default places router [] own (omega (arith, size, lt))))
+      ∙ place-found d places own router vif ok e lt
+      (get_or_default places router [] own (omega (arith, size, lt))))
   | inr past ↦ (
       let size : length places ≡ length d.topology.routers = ap length e ∙ length-places d in
-      ap (λ (row : List (Option ℕ)). get_or row vif None) (get_or_past places router [] (omega (arith, size, past)))
+      ap (λ (row : List (Option ℕ)). get_or row vif None)
+      (get_or_past places router [] (omega (arith, size, past)))
       ∙ unplaced-router d router vif ok past (placed_of d router vif) refl)
 ]
 
-pub place-listed : (d : DomainValue) (places : List (List (Option ℕ))) → IsDomain d → places ≡ places_of d → (router vif lan : ℕ)
+pub place-listed : (d : DomainValue) (places : List (List (Option ℕ))) → IsDomain d
+    → places ≡ places_of d → (router vif lan : ℕ)
     → place_in places router vif ≡ Some lan → lan < length d.topology.lans
 place-listed d places ok e router vif lan at =
     placed-listed d router vif ok (Some lan) (sym (place-same d places ok e router vif) ∙ at)
 
-by-places : (d : DomainValue) (place : ℕ → ℕ → Option ℕ) (routers : ℕ) → place ≡ placed_of d → routers ≡ length d.topology.routers
-    → map (λ lan. filter (λ (i : Interface). is_lan (place i.0 i.1) lan) (slots 32 routers)) (below (length d.topology.lans)) ≡ interfaces_of d
+by-places : (d : DomainValue) (place : ℕ → ℕ → Option ℕ) (routers : ℕ) → place ≡ placed_of d
+    → routers ≡ length d.topology.routers
+    → map (λ lan. filter (λ (i : Interface). is_lan (place i.0 i.1) lan) (slots 32 routers))
+    (below (length d.topology.lans)) ≡ interfaces_of d
 unfolding interfaces
 by-places d place routers e size =
     let lans = below (length d.topology.lans) in
-    ap (λ (p : ℕ → ℕ → Option ℕ). map (λ lan. filter (λ (i : Interface). is_lan (p i.0 i.1) lan) (slots 32 routers)) lans) e
-    ∙ ap (λ (n : ℕ). map (λ lan. filter (λ (i : Interface). is_lan (placed_of d i.0 i.1) lan) (slots 32 n)) lans) size
+    ap (λ (p : ℕ → ℕ → Option ℕ). map (λ lan. filter (λ (i : Interface). is_lan (p i.0 i.1) lan)
+    (slots 32 routers)) lans) e
+    ∙ ap (λ (n : ℕ). map (λ lan. filter (λ (i : Interface). is_lan (placed_of d i.0 i.1) lan)
+    (slots 32 n)) lans) size
 
-pub interfaces-worked_out : (d : DomainValue) (places : List (List (Option ℕ))) → IsDomain d → places ≡ places_of d
+pub interfaces-worked_out : (d : DomainValue) (places : List (List (Option ℕ))) → IsDomain d
+    → places ≡ places_of d
     → map (interfaces_by places (length places)) (below (length d.topology.lans)) ≡ interfaces_of d
 interfaces-worked_out d places ok e =
-    let same : place_in places ≡ placed_of d = λ i router vif. place-same d places ok e router vif i in
+    let same : place_in places ≡ placed_of d = λ i router vif. place-same d places ok e router vif
+    i in
     by-places d (place_in places) (length places) same (ap length e ∙ length-places d)
 
 -- ---- loops
 
 -- one vif's place more
-pub place-more : (f : ℕ → Option ℕ) (places : List (Option ℕ)) (k : ℕ) (o : Option ℕ) → k < length places → take k places ≡ map f (below k)
+pub place-more : (f : ℕ → Option ℕ) (places : List (Option ℕ)) (k : ℕ) (o : Option ℕ)
+    → k < length places → take k places ≡ map f (below k)
     → o ≡ f k → take (k + 1) (set places k o) ≡ map f (below (k + 1))
 place-more f places k o lt done is =
-    take_more_set places k o lt ∙ ap (λ os. os ++ o ∷ []) done ∙ ap (λ p. map f (below k) ++ p ∷ []) is ∙ sym (by_number-more f k)
+    take_more_set places k o lt ∙ ap (λ os. os ++ o ∷ []) done
+    ∙ ap (λ p. map f (below k) ++ p ∷ []) is ∙ sym (by_number-more f k)
 
 -- one item more of a list by numbers
-pub number-more : {A : Type 0} (f : ℕ → A) (xs ys : List A) (k : ℕ) (x : A) → xs ≡ map f (below k) → ys ≡ xs ++ x ∷ [] → x ≡ f k
+pub number-more : {A : Type 0} (f : ℕ → A) (xs ys : List A) (k : ℕ) (x : A) → xs ≡ map f (below k)
+    → ys ≡ xs ++ x ∷ [] → x ≡ f k
     → ys ≡ map f (below (k + 1))
 number-more f xs ys k x done more is =
-    more ∙ ap (λ zs. zs ++ x ∷ []) done ∙ ap (λ y. map f (below k) ++ y ∷ []) is ∙ sym (by_number-more f k)
+    more ∙ ap (λ zs. zs ++ x ∷ []) done ∙ ap (λ y. map f (below k) ++ y ∷ []) is
+    ∙ sym (by_number-more f k)
 
 pub number-none : {A : Type 0} (f : ℕ → A) (xs : List A) → xs ≡ [] → xs ≡ map f (below 0)
 unfolding below
 number-none f xs e = e
 
 -- the places by a router's own tables are those by all tables
-pub places-own : (t : TopologyValue) (ts : List TablesValue) (router : ℕ) (own : TablesValue) → slice_get ts router ≡ Some own
+pub places-own : (t : TopologyValue) (ts : List TablesValue) (router : ℕ) (own : TablesValue)
+    → slice_get ts router ≡ Some own
     → places_by t router own ≡ map (placed_in t ts router) (below 32)
 places-own t ts router own at =
-    ap (λ (o : Option TablesValue). map (λ vif. option_and_then (lan_of_vif t router) (option_and_then (λ x. finite.get x.vifs vif) o)) (below 32)) (sym at)
+    ap (λ (o : Option TablesValue). map (λ vif. option_and_then (lan_of_vif t router)
+    (option_and_then (λ x. finite.get x.vifs vif) o)) (below 32)) (sym at)
 
 -- no vif of a router was added yet
-pub have-start : (lists : List (List Interface)) (places : List (Option ℕ)) (router : ℕ) → HaveVifs lists lists places router 0
+pub have-start : (lists : List (List Interface)) (places : List (Option ℕ)) (router : ℕ)
+    → HaveVifs lists lists places router 0
 unfolding below
 have-start lists places router lan lt = sym (append-nil (slice_index_or lists lan []))
 
 -- the lists before the first router
-pub lists-start : (lists : List (List Interface)) (places : List (List (Option ℕ))) (lans : ℕ) → lists ≡ map (λ lan. []) (below lans)
+pub lists-start : (lists : List (List Interface)) (places : List (List (Option ℕ))) (lans : ℕ)
+    → lists ≡ map (λ lan. []) (below lans)
     → (lan : ℕ) → lan < lans → slice_index_or lists lan [] ≡ interfaces_by places 0 lan
 unfolding below
 lists-start lists places lans e lan lt =
-    get_or_from_slice_get lists lan [] [] (ap (λ (xs : List (List Interface)). slice_get xs lan) e ∙ slice_get-by_number (λ n. []) lans lan lt)
+    get_or_from_slice_get lists lan [] [] (ap (λ (xs : List (List Interface)). slice_get xs lan) e
+    ∙ slice_get-by_number (λ n. []) lans lan lt)
 
 -- the lists after one router more
-pub lists-more : (old now : List (List Interface)) (places : List (List (Option ℕ))) (own : List (Option ℕ)) (lans r : ℕ) → length old ≡ lans
+pub lists-more : (old now : List (List Interface)) (places : List (List (Option ℕ)))
+    (own : List (Option ℕ)) (lans r : ℕ) → length old ≡ lans
     → r < length places → own ≡ get_or places r own
     → ((lan : ℕ) → lan < lans → slice_index_or old lan [] ≡ interfaces_by places r lan)
-    → ((lan : ℕ) → lan < length old → slice_index_or now lan [] ≡ slice_index_or old lan [] ++ vifs_on own r lan (below 32))
+    → ((lan : ℕ) → lan < length old → slice_index_or now lan []
+    ≡ slice_index_or old lan [] ++ vifs_on own r lan (below 32))
     → (lan : ℕ) → lan < lans → slice_index_or now lan [] ≡ interfaces_by places (r + 1) lan
 lists-more old now places own lans r size within read before added lan lt =
     let row : own ≡ slice_index_or places r [] = read ∙ get_or_default places r own [] within in
-    added lan (omega (arith, size, lt)) ∙ ap (λ is. is ++ vifs_on own r lan (below 32)) (before lan lt)
-    ∙ ap (λ (o : List (Option ℕ)). interfaces_by places r lan ++ vifs_on o r lan (below 32)) row ∙ sym (interfaces-more places r lan)
+    added lan (omega (arith, size, lt)) ∙ ap (λ is. is ++ vifs_on own r lan (below 32))
+    (before lan lt)
+    ∙ ap (λ (o : List (Option ℕ)). interfaces_by places r lan ++ vifs_on o r lan (below 32)) row
+    ∙ sym (interfaces-more places r lan)
 
 -- a place that was read, whatever stands for one past the end
-pub place-read : (places : List (Option ℕ)) (k : ℕ) (d o : Option ℕ) → k < length places → get_or places k d ≡ o → slice_index_or places k None ≡ o
+pub place-read : (places : List (Option ℕ)) (k : ℕ) (d o : Option ℕ) → k < length places
+    → get_or places k d ≡ o → slice_index_or places k None ≡ o
 place-read places k d o lt read = get_or_default places k None d lt ∙ read

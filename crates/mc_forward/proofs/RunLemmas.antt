@@ -3,7 +3,8 @@ use Rattle.std.proofs.Common.{◌≡◌, ◌<◌, ◌↔◌, List, [], ◌∷◌
 use Rattle.mc_theory.specs.Nets.{Net}
 use Rattle.mc_theory.specs.Flights.{Flight, Pick, InRange, happens, place_of, run}
 
-pub run-more : (n : Net) (ps : List Pick) (p : Pick) (f : Flight) → run n (ps ++ p ∷ []) f ≡ happens n p (run n ps f)
+pub run-more : (n : Net) (ps : List Pick) (p : Pick) (f : Flight)
+    → run n (ps ++ p ∷ []) f ≡ happens n p (run n ps f)
 run-more n [] p f = refl
 run-more n (q ∷ ps) p f = run-more n ps p (happens n q f)
 

@@ -1,5 +1,6 @@
 -- The contents of the parts, read one after the other.
-use Rattle.std.specs.Prelude.{◌≡◌, ℕ, zero, suc, ◌+◌, ◌≤◌, List, [], ◌∷◌, ◌++◌, length, drop, slice_get, option_map, Some, Result, Ok, Err, refl}
+use Rattle.std.specs.Prelude.{◌≡◌, ℕ, zero, suc, ◌+◌, ◌≤◌, List, [], ◌∷◌, ◌++◌, length, drop}
+use Rattle.std.specs.Prelude.{slice_get, option_map, Some, Result, Ok, Err, refl}
 use Rattle.std.proofs.Common.{ap, sym, append_assoc, append-nil}
 use Rattle.std.proofs.lemmas.List.{drop_all}
 use Rattle.mc_text.specs.Steps.{◌>>=◌}
@@ -73,7 +74,8 @@ reports_from-refused parts place lans i lan front fault at refused =
 
 -- they are read, and the LANs after it are
 pub reports_from-next : (parts : List PartText) (place : ℕ) (lans : List (List ℕ)) (i : ℕ)
-    (lan : List ℕ) (front : List (List Record)) (records : List Record) → slice_get lans i ≡ Some lan
+    (lan : List ℕ) (front : List (List Record)) (records : List Record)
+    → slice_get lans i ≡ Some lan
     → reports_of (part_at parts place) ≡ Ok records
     → with_front front (reports_from parts place (drop i lans))
     ≡ with_front (front ++ records ∷ []) (reports_from parts (place + 1) (drop (i + 1) lans))
@@ -87,7 +89,8 @@ pub reports_from-end : (parts : List PartText) (place : ℕ) (lans : List (List 
     (front : List (List Record)) → length lans ≤ i
     → with_front front (reports_from parts place (drop i lans)) ≡ Ok front
 unfolding reports_from
-reports_from-end parts place lans i front past = rw (drop_all i lans past) (ap Ok (append-nil front))
+reports_from-end parts place lans i front past =
+    rw (drop_all i lans past) (ap Ok (append-nil front))
 
 -- the part that stands at a place
 pub part_at-found : (parts : List PartText) (place : ℕ) (part : PartText)

@@ -1,5 +1,6 @@
 -- What a folder's files are read as, one after another.
-use Rattle.std.specs.Prelude.{◌≡◌, ◌≢◌, ℕ, zero, suc, ◌+◌, ◌≤◌, List, [], ◌∷◌, ◌++◌, length, drop, slice_get, option_map, Some, Result, Ok, Err, refl}
+use Rattle.std.specs.Prelude.{◌≡◌, ◌≢◌, ℕ, zero, suc, ◌+◌, ◌≤◌, List, [], ◌∷◌, ◌++◌, length, drop}
+use Rattle.std.specs.Prelude.{slice_get, option_map, Some, Result, Ok, Err, refl}
 use Rattle.std.proofs.Common.{ap, ◌∙◌, sym, append_assoc, append-nil}
 use Rattle.std.proofs.lemmas.List.{drop_all}
 use Rattle.mc_text.specs.Steps.{◌>>=◌}
@@ -12,7 +13,8 @@ use Rattle.mc_forward.specs.Domains.{TablesValue}
 use Rattle.mc_files.specs.Files.{FileText}
 use Rattle.mc_input.specs.InputView.{files_value}
 use Rattle.mc_input.specs.FilesFault.{Gives, failed_files}
-use Rattle.mc_input.specs.FilesReading.{topology_of, router_tables, all_tables, lan_reports, all_reports, files_of}
+use Rattle.mc_input.specs.FilesReading.{topology_of, router_tables, all_tables, lan_reports}
+use Rattle.mc_input.specs.FilesReading.{all_reports, files_of}
 use Rattle.mc_input.specs.declared.fault.InputFault.TheVariants.{Memory}
 use Rattle.mc_input.specs.declared.files.FilesInput.{FilesInput}
 use Rattle.mc_input.specs.declared.files_fault.FilesFault.{FilesFault}
@@ -99,11 +101,13 @@ unfolding all_reports
 reports_next files front after lans i lan records at left read pushed =
     let here : with_front front (all_reports (drop i lans) files)
     ≡ with_front (front ++ records ∷ []) (all_reports (drop (i + 1) lans) files)
-    = rw (drop-at lans i lan at, read) (front-one front records (all_reports (drop (i + 1) lans) files)) in
+    = rw (drop-at lans i lan at, read) (front-one front records
+    (all_reports (drop (i + 1) lans) files)) in
     rw (pushed) (sym here ∙ left)
 
 -- no LAN is left
-pub reports_end : (files : List FileText) (front : List (List Record)) (lans : List (List ℕ)) (i : ℕ)
+pub reports_end : (files : List FileText) (front : List (List Record)) (lans : List (List ℕ))
+    (i : ℕ)
     → length lans ≤ i → with_front front (all_reports (drop i lans) files) ≡ all_reports lans files
     → all_reports lans files ≡ Ok front
 unfolding all_reports
@@ -113,14 +117,16 @@ reports_end files front lans i past left =
 -- ---- all files
 
 -- where a step is refused, the input is refused for that
-pub topology_refused : (files : List FileText) (r : Result FilesInput FilesFault) (fault : FilesFault)
+pub topology_refused : (files : List FileText) (r : Result FilesInput FilesFault)
+    (fault : FilesFault)
     → (fault ≢ Read → fault ≢ Input Memory → topology_of files ≡ Err fault)
     → r ≡ Err fault → Gives files_value r (files_of files)
 unfolding files_of
 topology_refused files r fault given is =
     rw (is) (λ read memory. rw (given read memory) refl)
 
-pub tables_refused_in : (files : List FileText) (t : TopologyValue) (r : Result FilesInput FilesFault)
+pub tables_refused_in : (files : List FileText) (t : TopologyValue)
+    (r : Result FilesInput FilesFault)
     (fault : FilesFault) → topology_of files ≡ Ok t
     → (fault ≢ Read → fault ≢ Input Memory → all_tables t.routers files ≡ Err fault)
     → r ≡ Err fault → Gives files_value r (files_of files)

@@ -1,5 +1,6 @@
 -- What a folder's files are read as is what they stand for.
-use Rattle.std.specs.Prelude.{◌≡◌, ℕ, ◌≤◌, false, nat_le, List, [], ◌∷◌, ◌++◌, codes, length, flat_map, Option, Some, None, Result, Ok, Err, IfOk, IfSome, refl}
+use Rattle.std.specs.Prelude.{◌≡◌, ℕ, ◌≤◌, false, nat_le, List, [], ◌∷◌, ◌++◌, codes, length}
+use Rattle.std.specs.Prelude.{flat_map, Option, Some, None, Result, Ok, Err, IfOk, IfSome, refl}
 use Rattle.std.specs.List.{AllByRecursion}
 use Rattle.std.proofs.Common.{ap, subst}
 use Rattle.std.proofs.lemmas.Bool.{leb-true, le-leb}
@@ -16,13 +17,16 @@ use Rattle.mc_topology.specs.Rows.{RouterRow}
 use Rattle.mc_topology.proofs.Whole.{reading_takes, reading_again}
 use Rattle.mc_forward.specs.Domains.{TablesValue}
 use Rattle.mc_files.specs.Files.{FileText, file_named}
-use Rattle.mc_files.specs.Packing.{PackedName, ArePacked, topology_packed, router_packed, lan_packed, others_packed}
+use Rattle.mc_files.specs.Packing.{PackedName, ArePacked, topology_packed, router_packed}
+use Rattle.mc_files.specs.Packing.{lan_packed, others_packed}
 use Rattle.mc_input.specs.Input.{InputValue, TellTables, TellReports, TellsTables}
 use Rattle.mc_input.specs.InputReading.{refused_as, vifs_of, cache_of, reports_of}
 use Rattle.mc_input.specs.InputView.{files_value}
 use Rattle.mc_input.specs.FilesFault.{Gives}
 use Rattle.mc_input.specs.FilesInput.{FilesStand}
-use Rattle.mc_input.specs.FilesReading.{packed_of, part_bytes, part_of, judged, topology_of, router_vifs, router_cache, router_tables, all_tables, lan_reports, all_reports, files_of}
+use Rattle.mc_input.specs.FilesReading.{packed_of, part_bytes, part_of, judged, topology_of}
+use Rattle.mc_input.specs.FilesReading.{router_vifs, router_cache, router_tables, all_tables}
+use Rattle.mc_input.specs.FilesReading.{lan_reports, all_reports, files_of}
 use Rattle.mc_input.specs.declared.fault.InputFault.{InputFault}
 use Rattle.mc_input.specs.declared.fault.InputFault.TheVariants.{Topology, Vif, Cache, Reports}
 use Rattle.mc_input.specs.declared.files.FilesInput.{FilesInput}
@@ -58,7 +62,8 @@ part_take name files part e =
     let one = bind_ok (part_bytes (file_named files name.file)) _ part e in
     let read = bytes_ok (file_named files name.file) one.0 one.1 in
     let is : record { name = name.part; bytes = one.0 } ≡ part = cc in
-    subst (λ (p : PartText). (p.name ≡ name.part) × (file_named files name.file ≡ Some p.bytes) × IsSmall p) is
+    subst (λ (p : PartText). (p.name ≡ name.part) × (file_named files name.file ≡ Some p.bytes)
+    × IsSmall p) is
     (refl, read.0, read.1)
 
 -- and what is packed of a file is read of it
@@ -76,7 +81,8 @@ packed_append : (files : List FileText) (ns : List PackedName) (ps : List PartTe
 packed_append files [] [] ms qs p q = q
 packed_append files [] (part ∷ ps) ms qs p q = absurd p
 packed_append files (n ∷ ns) [] ms qs p q = absurd p
-packed_append files (n ∷ ns) (part ∷ ps) ms qs p q = (p.0, p.1, packed_append files ns ps ms qs p.2 q)
+packed_append files (n ∷ ns) (part ∷ ps) ms qs p q =
+    (p.0, p.1, packed_append files ns ps ms qs p.2 q)
 
 small_append : (ps qs : List PartText) → AllByRecursion IsSmall ps → AllByRecursion IsSmall qs
     → AllByRecursion IsSmall (ps ++ qs)
@@ -105,14 +111,17 @@ tables_take files (r ∷ rs) ts rest e =
     let v = bind_ok (router_vifs r.name files) _ t.0 t.1 in
     let w = bind_ok (router_cache r.name r.order files) _ t.0 v.2 in
     let is : (record { vifs = v.0; cache = w.0 }) ≡ t.0 = cc in
-    let p = bind_ok (part_of (packed_of (codes "vif") r.name) files) (λ part. judged (vifs_of part)) v.0 v.1 in
+    let p = bind_ok (part_of (packed_of (codes "vif") r.name) files)
+    (λ part. judged (vifs_of part)) v.0 v.1 in
     let q = bind_ok (part_of (packed_of (codes "cache") r.name) files)
     (λ part. judged (cache_of r.order part)) w.0 w.1 in
     let vif = part_take (packed_of (codes "vif") r.name) files p.0 p.1 in
     let cache = part_take (packed_of (codes "cache") r.name) files q.0 q.1 in
-    let vifs = (vifs_read p.0.bytes v.0).0 (read_ok (Vif p.0.name) (vifs_in p.0.bytes) v.0 (judged_ok (vifs_of p.0) v.0 p.2)) in
+    let vifs = (vifs_read p.0.bytes v.0).0 (read_ok (Vif p.0.name) (vifs_in p.0.bytes) v.0
+    (judged_ok (vifs_of p.0) v.0 p.2)) in
     let entries = (cache_read r.order q.0.bytes w.0).0
-    (read_ok (Cache q.0.name) (cache_in r.order q.0.bytes) w.0 (judged_ok (cache_of r.order q.0) w.0 q.2)) in
+    (read_ok (Cache q.0.name) (cache_in r.order q.0.bytes) w.0
+    (judged_ok (cache_of r.order q.0) w.0 q.2)) in
     let more = tables_take files rs u.0 rest u.1 in
     let tells : TellsTables r p.0 q.0 t.0 = subst (TellsTables r p.0 q.0) is
     (record { vif_named = vif.0; vifs = vifs; cache_named = cache.0; entries = entries }) in
@@ -138,8 +147,15 @@ tables_again files (r ∷ rs) names (vif ∷ cache ∷ here) [] rest h packed si
 tables_again files (r ∷ rs) names (vif ∷ cache ∷ here) (t ∷ ts) rest h packed sizes =
     let more = tables_again files rs names here ts rest h.1 packed.2.2 sizes.1.1 in
     let first = part_again (packed_of (codes "vif") r.name) files vif packed.0 packed.1 sizes.0 in
-    let second = part_again (packed_of (codes "cache") r.name) files cache packed.2.0 packed.2.1 sizes.1.0 in (
-      rw (first, (vifs_read vif.bytes t.vifs).1 h.0.vifs, second, (cache_read r.order cache.bytes t.cache).1 h.0.entries, more.0) refl,
+    let second = part_again (packed_of (codes "cache") r.name) files cache packed.2.0 packed.2.1
+    sizes.1.0 in (
+      rw (
+        first,
+        (vifs_read vif.bytes t.vifs).1 h.0.vifs,
+        second,
+        (cache_read r.order cache.bytes t.cache).1 h.0.entries,
+        more.0,
+      ) refl,
       more.1,
       more.2,
     )
@@ -162,7 +178,8 @@ reports_take files (lan ∷ lans) all rest e =
     let t = bind_ok (lan_reports lan files) _ all e in
     let u = bind_ok (all_reports lans files) _ all t.2 in
     let is : t.0 ∷ u.0 ≡ all = cc in
-    let p = bind_ok (part_of (packed_of (codes "igmp") lan) files) (λ part. judged (reports_of part)) t.0 t.1 in
+    let p = bind_ok (part_of (packed_of (codes "igmp") lan) files)
+    (λ part. judged (reports_of part)) t.0 t.1 in
     let part = part_take (packed_of (codes "igmp") lan) files p.0 p.1 in
     let stands = read_list-found p.0.bytes t.0
     (read_ok (Reports p.0.name) (read_list p.0.bytes) t.0 (judged_ok (reports_of p.0) t.0 p.2)) in
@@ -191,7 +208,8 @@ reports_again files (lan ∷ lans) names (part ∷ here) (records ∷ all) rest 
 -- ---- all files
 
 -- what the files are read as, they stand for
-pub files_take : (files : List FileText) (v : InputValue) → files_of files ≡ Ok v → FilesStand files v
+pub files_take : (files : List FileText) (v : InputValue) → files_of files ≡ Ok v
+    → FilesStand files v
 unfolding files_of
 files_take files v e =
     let a = bind_ok (topology_of files) _ v e in
@@ -232,17 +250,21 @@ files_take files v e =
     })
 
 -- and files that stand for an input are read as it
-pub files_again : (files : List FileText) (v : InputValue) → FilesStand files v → files_of files ≡ Ok v
+pub files_again : (files : List FileText) (v : InputValue) → FilesStand files v
+    → files_of files ≡ Ok v
 unfolding files_of
 files_again files v h =
     let t = v.topology in
     let top : PartText = record { name = topology_packed.part; bytes = h.stand.topology } in
     let P : List PartText → Type 0
-    = λ ps. ArePacked files (topology_packed ∷ others_packed false t) ps × AllByRecursion IsSmall ps in
+    = λ ps. ArePacked files (topology_packed ∷ others_packed false t) ps
+    × AllByRecursion IsSmall ps in
     let here : P (top ∷ h.stand.of_routers) = subst P h.stand.in_order (h.packed, h.sizes) in
-    let tables = tables_again files t.routers (flat_map lan_packed t.lans ++ []) h.stand.of_routers v.tables
+    let tables = tables_again files t.routers (flat_map lan_packed t.lans ++ []) h.stand.of_routers
+    v.tables
     h.stand.of_lans h.stand.tables here.0.2 here.1.1 in
-    let reports = reports_again files t.lans [] h.stand.of_lans v.reports h.stand.last h.stand.reports
+    let reports = reports_again files t.lans [] h.stand.of_lans v.reports h.stand.last
+    h.stand.reports
     tables.1 tables.2 in
     let first = part_again topology_packed files top here.0.0 here.0.1 here.1.0 in
     let read = reading_again h.stand.topology t h.stand.topology_stands in
@@ -257,7 +279,8 @@ pub read_stands : (told : Option (List FileText)) (r : Result FilesInput FilesFa
 read_stands None r given = none r
   where
     none : (r : Result FilesInput FilesFault)
-        → IfOk r (λ input. IfSome None (λ (files : List FileText). FilesStand files (files_value input)))
+        → IfOk r (λ input. IfSome None (λ (files : List FileText). FilesStand files
+        (files_value input)))
     none (Ok input) = tt
     none (Err fault) = tt
 read_stands (Some files) (Ok input) given = files_take files (files_value input) (given files refl)

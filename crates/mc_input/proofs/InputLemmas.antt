@@ -1,5 +1,7 @@
 -- What a bundle is read as is what it stands for.
-use Rattle.std.specs.Prelude.{◌≡◌, ℕ, zero, suc, ◌+◌, ◌≤◌, Bool, true, false, ◌==◌, List, [], ◌∷◌, length, drop, slice_get, Option, Some, None, is_some, Result, Ok, Err, refl}
+use Rattle.std.specs.Prelude.{◌≡◌, ℕ, zero, suc, ◌+◌, ◌≤◌, Bool, true, false, ◌==◌, List, [], ◌∷◌}
+use Rattle.std.specs.Prelude.{length, drop, slice_get, Option, Some, None, is_some, Result, Ok, Err}
+use Rattle.std.specs.Prelude.{refl}
 use Rattle.std.proofs.Common.{ap, ◌∙◌, sym, arith, subst}
 use Rattle.std.proofs.lemmas.List.{drop_all, length-drop}
 use Rattle.std.proofs.lemmas.Option.{slice_get_within}
@@ -22,12 +24,18 @@ use Rattle.mc_topology.specs.Topology.{TopologyValue}
 use Rattle.mc_topology.proofs.Whole.{reading_takes, reading_again}
 use Rattle.mc_forward.specs.Domains.{TablesValue}
 use Rattle.mc_input.specs.declared.fault.InputFault.{InputFault}
-use Rattle.mc_input.specs.declared.fault.InputFault.TheVariants.{Bundle, Parts, Topology, Vif, Cache, Reports}
-use Rattle.mc_input.specs.Names.{topology_name, certificate_name, vif_name, cache_name, reports_name}
-use Rattle.mc_input.specs.Input.{InputValue, InputStands, PartsStand, TellTables, TellReports, TellsTables, TellCertificate}
-use Rattle.mc_input.specs.InputReading.{refused_as, part_at, named, is_named, routers_named, lans_named, ended, last_named}
-use Rattle.mc_input.specs.InputReading.{lans_place, last_place, names_in, vifs_of, cache_of, tables_of, tables_from}
-use Rattle.mc_input.specs.InputReading.{reports_of, reports_from, topology_in, input_in, input_of, certificate_in}
+use Rattle.mc_input.specs.declared.fault.InputFault.TheVariants.{Bundle, Parts, Topology, Vif}
+use Rattle.mc_input.specs.declared.fault.InputFault.TheVariants.{Cache, Reports}
+use Rattle.mc_input.specs.Names.{topology_name, certificate_name, vif_name, cache_name}
+use Rattle.mc_input.specs.Names.{reports_name}
+use Rattle.mc_input.specs.Input.{InputValue, InputStands, PartsStand, TellTables, TellReports}
+use Rattle.mc_input.specs.Input.{TellsTables, TellCertificate}
+use Rattle.mc_input.specs.InputReading.{refused_as, part_at, named, is_named, routers_named}
+use Rattle.mc_input.specs.InputReading.{lans_named, ended, last_named}
+use Rattle.mc_input.specs.InputReading.{lans_place, last_place, names_in, vifs_of, cache_of}
+use Rattle.mc_input.specs.InputReading.{tables_of, tables_from}
+use Rattle.mc_input.specs.InputReading.{reports_of, reports_from, topology_in, input_in, input_of}
+use Rattle.mc_input.specs.InputReading.{certificate_in}
 use Rattle.mc_input.proofs.NameLemmas.{drop-at}
 use Rattle.mc_input.proofs.ContentLemmas.{part_at-found}
 
@@ -83,7 +91,8 @@ tables_tell r vif cache t vif_named cache_named e =
     let b = bind_ok (cache_of r.order cache) _ t a.2 in
     let is : (record { vifs = a.0; cache = b.0 }) ≡ t = cc in
     let vifs = (vifs_read vif.bytes a.0).0 (read_ok (Vif vif.name) (vifs_in vif.bytes) a.0 a.1) in
-    let entries = (cache_read r.order cache.bytes b.0).0 (read_ok (Cache cache.name) (cache_in r.order cache.bytes) b.0 b.1) in
+    let entries = (cache_read r.order cache.bytes b.0).0
+    (read_ok (Cache cache.name) (cache_in r.order cache.bytes) b.0 b.1) in
     subst (TellsTables r vif cache) is
     (record { vif_named = vif_named; vifs = vifs; cache_named = cache_named; entries = entries })
 
@@ -92,7 +101,8 @@ pub tables_again : (r : RouterRow) (vif cache : PartText) (t : TablesValue)
     → TellsTables r vif cache t → tables_of r.order vif cache ≡ Ok t
 unfolding tables_of
 tables_again r vif cache t h =
-    rw ((vifs_read vif.bytes t.vifs).1 h.vifs, (cache_read r.order cache.bytes t.cache).1 h.entries) refl
+    rw ((vifs_read vif.bytes t.vifs).1 h.vifs, (cache_read r.order cache.bytes t.cache).1 h.entries)
+    refl
 
 -- what is read of the parts at a place is read of those that stand there
 pub tables_of-found : (parts : List PartText) (place : ℕ) (order : Order) (vif cache : PartText)
@@ -121,7 +131,12 @@ pub tables_joined : (parts : List PartText) (place : ℕ) (r : RouterRow) (rs : 
     (drop (place + (suc (length rs) + suc (length rs))) parts)
 tables_joined parts place r rs vif cache t ts at next tells rest =
     let two : place + 1 + 1 ≡ place + 2 = omega arith in
-    rw (drop-at parts place vif at, drop-at parts (place + 1) cache next, two, after_two place (length rs))
+    rw (
+      drop-at parts place vif at,
+      drop-at parts (place + 1) cache next,
+      two,
+      after_two place (length rs),
+    )
     (tells, rest)
 
 pub tables_take : (parts : List PartText) (place : ℕ) (rs : List RouterRow) (ts : List TablesValue)
@@ -142,12 +157,15 @@ tables_take parts place (r ∷ rs) ts x n e =
     let read = tables_of-found parts place r.order p.0 q.0 t.0 p.1 q.1 t.1 in
     let rest = tables_take parts (place + 2) rs u.0 x b.2 u.1 in
     let P : List TablesValue → Type 0
-    = λ all. TellTables (r ∷ rs) (drop place parts) all (drop (place + (suc (length rs) + suc (length rs))) parts) in
+    = λ all. TellTables (r ∷ rs) (drop place parts) all
+    (drop (place + (suc (length rs) + suc (length rs))) parts) in
     subst P is
-    (tables_joined parts place r rs p.0 q.0 t.0 u.0 p.1 q.1 (tables_tell r p.0 q.0 t.0 p.2 q.2 read) rest)
+    (tables_joined parts place r rs p.0 q.0 t.0 u.0 p.1 q.1 (tables_tell r p.0 q.0 t.0 p.2 q.2 read)
+    rest)
 
 pub tables_told : (parts : List PartText) (place : ℕ) (rs : List RouterRow) (here : List PartText)
-    (ts : List TablesValue) (rest : List PartText) → drop place parts ≡ here → TellTables rs here ts rest
+    (ts : List TablesValue) (rest : List PartText) → drop place parts ≡ here
+    → TellTables rs here ts rest
     → (routers_named parts place rs ≡ Ok tt) × (tables_from parts place rs ≡ Ok ts)
     × (drop (place + (length rs + length rs)) parts ≡ rest)
 unfolding routers_named tables_from
@@ -166,10 +184,16 @@ tables_told parts place (r ∷ rs) (vif ∷ cache ∷ here) (t ∷ ts) rest e h 
     let left = rw two at (drop-more parts (place + 1) cache here next) in
     let more = tables_told parts (place + 2) rs here ts rest left h.1 in
     let vif_taken = named-again parts place (vif_name r.name) vif vif_at h.0.vif_named in
-    let cache_taken = named-again parts (place + 1) (cache_name r.name) cache cache_at h.0.cache_named in
+    let cache_taken = named-again parts (place + 1) (cache_name r.name) cache cache_at
+    h.0.cache_named in
     let read = tables_again r vif cache t h.0 in (
       rw (vif_taken, cache_taken) more.0,
-      rw (part_at-found parts place vif vif_at, part_at-found parts (place + 1) cache cache_at, read, more.1) refl,
+      rw (
+        part_at-found parts place vif vif_at,
+        part_at-found parts (place + 1) cache cache_at,
+        read,
+        more.1,
+      ) refl,
       rw (after_two place (length rs)) more.2,
     )
 
@@ -193,10 +217,12 @@ reports_take parts place (lan ∷ lans) all x n e =
     let u = bind_ok (reports_from parts (place + 1) lans) _ all t.2 in
     let is : t.0 ∷ u.0 ≡ all = cc in
     let read = reports_of-found parts place p.0 t.0 p.1 t.1 in
-    let stands = read_list-found p.0.bytes t.0 (read_ok (Reports p.0.name) (read_list p.0.bytes) t.0 read) in
+    let stands = read_list-found p.0.bytes t.0 (read_ok (Reports p.0.name)
+    (read_list p.0.bytes) t.0 read) in
     let rest = reports_take parts (place + 1) lans u.0 x a.2 u.1 in
     let P : List (List Record) → Type 0
-    = λ every. TellReports (lan ∷ lans) (drop place parts) every (drop (place + suc (length lans)) parts) in
+    = λ every. TellReports (lan ∷ lans) (drop place parts) every
+    (drop (place + suc (length lans)) parts) in
     subst P is
     (rw (drop-at parts place p.0 p.1, after_one place (length lans))
     (record { named = p.2; stands = stands }, rest))
@@ -215,7 +241,8 @@ reports_told parts place (lan ∷ lans) [] all rest e h = absurd h
 reports_told parts place (lan ∷ lans) (part ∷ here) [] rest e h = absurd h
 reports_told parts place (lan ∷ lans) (part ∷ here) (records ∷ all) rest e h =
     let at = at-drop parts place part here e in
-    let more = reports_told parts (place + 1) lans here all rest (drop-more parts place part here e) h.1 in
+    let more = reports_told parts (place + 1) lans here all rest
+    (drop-more parts place part here e) h.1 in
     let taken = named-again parts place (reports_name lan) part at h.0.named in
     let read = read_list-again part.bytes records h.0.stands in (
       rw taken more.0,
@@ -234,7 +261,8 @@ ended_is parts place x e =
     drop_all place parts (omega arith)
 
 -- and where the list ends at a place, none stands there
-pub ended_again : (parts : List PartText) (place : ℕ) → length parts ≡ place → ended parts place ≡ Ok tt
+pub ended_again : (parts : List PartText) (place : ℕ) → length parts ≡ place
+    → ended parts place ≡ Ok tt
 ended_again parts place is = rw ((Decides-eqb (length parts) place).1 is) refl
 
 pub last_take : (certified : Bool) (parts : List PartText) (t : TopologyValue) (x : Unit {0})
@@ -252,7 +280,8 @@ last_take true parts t x e =
 
 -- parts that are read as an input tell it
 pub parts_take : (certified : Bool) (parts : List PartText) (v : InputValue)
-    → input_in certified parts ≡ Ok v → PartsStand parts v (certificate_in certified parts v.topology)
+    → input_in certified parts ≡ Ok v → PartsStand parts v
+    (certificate_in certified parts v.topology)
 unfolding input_in topology_in names_in
 parts_take certified parts v e =
     let a = bind_ok (topology_in parts) _ v e in
@@ -269,7 +298,8 @@ parts_take certified parts v e =
     let first : p.0 ≡ record { name = topology_name; bytes = p.0.bytes }
     = ap (λ (x : List ℕ). let q : PartText = record { name = x; bytes = p.0.bytes } in q) p.2 in
     let whole : parts ≡ p.0 ∷ drop 1 parts = drop-at parts 0 p.0 p.1 in
-    let P : InputValue → Type 0 = λ w. PartsStand parts w (certificate_in certified parts w.topology) in
+    let P : InputValue → Type 0 = λ w. PartsStand parts w
+    (certificate_in certified parts w.topology) in
     subst P is (record {
       topology = p.0.bytes;
       of_routers = drop 1 parts;
@@ -290,7 +320,8 @@ none_left i xs within none =
     omega (arith, left, zero_left)
 
 -- what stands at a place is one of the list
-pub within_more : {A : Type 0} (xs : List A) (i : ℕ) (x : A) → slice_get xs i ≡ Some x → i + 1 ≤ length xs
+pub within_more : {A : Type 0} (xs : List A) (i : ℕ) (x : A) → slice_get xs i ≡ Some x
+    → i + 1 ≤ length xs
 within_more xs i x at = let below = slice_get_within xs i x at in omega (arith, below)
 
 -- the certificate's part stands at the place, or no part does
@@ -302,13 +333,15 @@ pub last_again : (certified : Bool) (parts : List PartText) (t : TopologyValue)
     × (certificate_in certified parts t ≡ certificate)
 last_again certified parts t None is within h =
     let plain : false ≡ certified = is in
-    let P : Bool → Type 0 = λ b. (last_named b parts (last_place t) ≡ Ok tt) × (certificate_in b parts t ≡ None) in
+    let P : Bool → Type 0 = λ b. (last_named b parts (last_place t) ≡ Ok tt)
+    × (certificate_in b parts t ≡ None) in
     let none : length parts ≡ last_place t = none_left (last_place t) parts within h in
     subst P plain (ended_again parts (last_place t) none, refl)
 last_again certified parts t (Some text) is within h =
     let certain : true ≡ certified = is in
     let part : PartText = record { name = certificate_name; bytes = text } in
-    let P : Bool → Type 0 = λ b. (last_named b parts (last_place t) ≡ Ok tt) × (certificate_in b parts t ≡ Some text) in
+    let P : Bool → Type 0 = λ b. (last_named b parts (last_place t) ≡ Ok tt)
+    × (certificate_in b parts t ≡ Some text) in
     let at = at-drop parts (last_place t) part [] h in
     let rest = drop-more parts (last_place t) part [] h in
     let more : last_place t + 1 ≤ length parts = within_more parts (last_place t) part at in
@@ -335,7 +368,8 @@ tables_length (r ∷ rs) (vif ∷ cache ∷ here) (t ∷ ts) rest h =
 
 -- a part a LAN
 pub reports_length : (lans : List (List ℕ)) (here : List PartText) (all : List (List Record))
-    (rest : List PartText) → TellReports lans here all rest → length here ≡ length lans + length rest
+    (rest : List PartText) → TellReports lans here all rest
+    → length here ≡ length lans + length rest
 reports_length [] here [] rest h = let same = ap length h in omega (arith, same)
 reports_length [] here (records ∷ all) rest h = absurd h
 reports_length (lan ∷ lans) [] all rest h = absurd h
@@ -356,22 +390,35 @@ parts_again certified parts v certificate is h =
     let at = at-drop parts 0 top h.of_routers front in
     let first = drop-more parts 0 top h.of_routers front in
     let tables = tables_told parts 1 t.routers h.of_routers v.tables h.of_lans first h.tables in
-    let reports = reports_told parts (lans_place t) t.lans h.of_lans v.reports h.last tables.2 h.reports in
+    let reports = reports_told parts (lans_place t) t.lans h.of_lans v.reports h.last tables.2
+    h.reports in
     let routers_count = tables_length t.routers h.of_routers v.tables h.of_lans h.tables in
     let lans_count = reports_length t.lans h.of_lans v.reports h.last h.reports in
     let count = ap length h.in_order in
     let within : last_place t ≤ length parts = omega (arith, count, routers_count, lans_count) in
     let Q : List PartText → Type 0 = λ rest. TellCertificate rest certificate in
-    let last = last_again certified parts t certificate is within (subst Q (sym reports.2) h.certificate_told) in
+    let last = last_again certified parts t certificate is within
+    (subst Q (sym reports.2) h.certificate_told) in
     let topology_named = named-again parts 0 topology_name top at refl in
     let read = reading_again h.topology t h.topology_stands in (
-      rw (topology_named, part_at-found parts 0 top at, read, tables.0, reports.0, last.0, tables.1, reports.1) refl,
+      rw (
+        topology_named,
+        part_at-found parts 0 top at,
+        read,
+        tables.0,
+        reports.0,
+        last.0,
+        tables.1,
+        reports.1,
+      ) refl,
       last.1,
     )
 
 -- a bundle that is read as an input stands for it
-pub input_takes : (certified : Bool) (text : List ℕ) (v : InputValue) → input_of certified text ≡ Ok v
-    → (certificate : Option (List ℕ)) × (is_some certificate ≡ certified) × InputStands text v certificate
+pub input_takes : (certified : Bool) (text : List ℕ) (v : InputValue)
+    → input_of certified text ≡ Ok v
+    → (certificate : Option (List ℕ)) × (is_some certificate ≡ certified)
+    × InputStands text v certificate
 unfolding input_of
 input_takes certified text v e =
     let a = bind_ok (refused_as Bundle (bundle_of text)) _ v e in
@@ -387,9 +434,11 @@ input_takes certified text v e =
     told false parts t = refl
 
 -- and a bundle that stands for an input is read as it
-pub input_again : (certified : Bool) (text : List ℕ) (v : InputValue) (certificate : Option (List ℕ))
+pub input_again : (certified : Bool) (text : List ℕ) (v : InputValue)
+    (certificate : Option (List ℕ))
     → is_some certificate ≡ certified → InputStands text v certificate
     → input_of certified text ≡ Ok v
 unfolding input_of
 input_again certified text v certificate is h =
-    rw (bundle_again text h.parts h.bundle) (parts_again certified h.parts v certificate is h.stand).0
+    rw (bundle_again text h.parts h.bundle) (parts_again certified h.parts v certificate is
+    h.stand).0

@@ -1,5 +1,7 @@
 -- Names that are compared in two pieces.
-use Rattle.std.specs.Prelude.{◌≡◌, ℕ, zero, suc, ◌+◌, ◌≤◌, Bool, true, false, ◌&&◌, nat_eq, List, [], ◌∷◌, ◌++◌, length, take, drop, slice_get, option_map, Some, Ok, Err, refl}
+use Rattle.std.specs.Prelude.{◌≡◌, ℕ, zero, suc, ◌+◌, ◌≤◌, Bool, true, false, ◌&&◌, nat_eq, List}
+use Rattle.std.specs.Prelude.{[], ◌∷◌, ◌++◌, length, take, drop, slice_get, option_map, Some, Ok}
+use Rattle.std.specs.Prelude.{Err, refl}
 use Rattle.std.proofs.Common.{ap, ◌∙◌, add-one}
 use Rattle.std.proofs.lemmas.List.{drop_all}
 use Rattle.std.specs.Str.{bytes_eq}
@@ -21,7 +23,8 @@ bytes_eq-joined [] bytes rest = refl
 bytes_eq-joined (y ∷ ys) [] rest = refl
 bytes_eq-joined (y ∷ ys) (x ∷ xs) rest =
     ap (λ b. nat_eq x y && b) (bytes_eq-joined ys xs rest)
-    ∙ and_assoc (nat_eq x y) (bytes_eq (take (length ys) xs) ys) (bytes_eq (drop (length ys) xs) rest)
+    ∙ and_assoc (nat_eq x y) (bytes_eq (take (length ys) xs) ys)
+    (bytes_eq (drop (length ys) xs) rest)
 
 -- a list from one of its places on begins with what stands there
 pub drop-suc : {A : Type 0} (xs : List A) (i : ℕ) (x : A) → slice_get xs i ≡ Some x
@@ -42,7 +45,8 @@ pub lans_named-refused : (parts : List PartText) (place : ℕ) (lans : List (Lis
     → named parts place (reports_name lan) ≡ Err fault
     → lans_named parts place (drop i lans) ≡ Err fault
 unfolding lans_named
-lans_named-refused parts place lans i lan fault at refused = rw (drop-at lans i lan at, refused) refl
+lans_named-refused parts place lans i lan fault at refused =
+    rw (drop-at lans i lan at, refused) refl
 
 -- the next LAN's part has its name, and the LANs after it are looked at
 pub lans_named-next : (parts : List PartText) (place : ℕ) (lans : List (List ℕ)) (i : ℕ)
@@ -82,7 +86,8 @@ vif-refused parts place rs i name fault at refused =
 pub cache-refused : (parts : List PartText) (place : ℕ) (rs : List RouterRow) (i : ℕ)
     (name : List ℕ) (x : Unit {0}) (fault : InputFault)
     → option_map (λ r. r.name) (slice_get rs i) ≡ Some name
-    → named parts place (vif_name name) ≡ Ok x → named parts (place + 1) (cache_name name) ≡ Err fault
+    → named parts place (vif_name name) ≡ Ok x → named parts (place + 1) (cache_name name)
+    ≡ Err fault
     → routers_named parts place (drop i rs) ≡ Err fault
 unfolding routers_named
 cache-refused parts place rs i name x fault at taken refused =

@@ -1,56 +1,74 @@
 -- The lowest LAN that was missed, in a loop over the LANs.
-use Rattle.std.proofs.Common.{◌≡◌, ℕ, zero, suc, ◌+◌, ◌-◌, ◌<◌, Bool, true, false, cond, List, [], ◌∷◌, ◌++◌, Some, None, is_some, refl, ap, ◌∙◌, subst, arith, add-one}
+use Rattle.std.proofs.Common.{◌≡◌, ℕ, zero, suc, ◌+◌, ◌-◌, ◌<◌, Bool, true, false, cond, List, []}
+use Rattle.std.proofs.Common.{◌∷◌, ◌++◌, Some, None, is_some, refl, ap, ◌∙◌, subst, arith, add-one}
 use Rattle.mc_theory.specs.Lists.{below}
 use Rattle.mc_theory.specs.Nets.{Net}
 use Rattle.mc_theory.specs.Flights.{Copy}
 use Rattle.mc_theory.specs.Findings.{copy_on, missed}
 use Rattle.mc_replay.proofs.FirstLemmas.{or_later}
 
-missed-push : (n : Net) (cs : List Copy) (xs : List ℕ) (x : ℕ) → missed n cs (xs ++ x ∷ []) ≡ or_later (missed n cs xs) (missed n cs (x ∷ []))
+missed-push : (n : Net) (cs : List Copy) (xs : List ℕ) (x : ℕ)
+    → missed n cs (xs ++ x ∷ []) ≡ or_later (missed n cs xs) (missed n cs (x ∷ []))
 missed-push n cs [] x = refl
 missed-push n cs (y ∷ xs) x = by (n.wants y) (is_some (copy_on cs y)) (missed-push n cs xs x)
   where
-    by : (w b : Bool) → missed n cs (xs ++ x ∷ []) ≡ or_later (missed n cs xs) (missed n cs (x ∷ []))
-        → cond w (cond b (missed n cs (xs ++ x ∷ [])) (Some y)) (missed n cs (xs ++ x ∷ [])) ≡ or_later (cond w (cond b (missed n cs xs) (Some y)) (missed n cs xs)) (missed n cs (x ∷ []))
+    by : (w b : Bool) → missed n cs (xs ++ x ∷ []) ≡ or_later (missed n cs xs)
+        (missed n cs (x ∷ []))
+        → cond w (cond b (missed n cs (xs ++ x ∷ [])) (Some y)) (missed n cs (xs ++ x ∷ []))
+        ≡ or_later (cond w (cond b (missed n cs xs) (Some y)) (missed n cs xs))
+        (missed n cs (x ∷ []))
     by true true e = e
     by true false e = refl
     by false b e = e
 
-missed-next : (n : Net) (cs : List Copy) (k : ℕ) → missed n cs (below k) ≡ None → missed n cs (below (k + 1)) ≡ missed n cs (k ∷ [])
+missed-next : (n : Net) (cs : List Copy) (k : ℕ) → missed n cs (below k) ≡ None
+    → missed n cs (below (k + 1)) ≡ missed n cs (k ∷ [])
 unfolding below
-missed-next n cs k h = ap (λ m. missed n cs (below m)) (add-one k) ∙ (missed-push n cs (below k) k ∙ ap (λ o. or_later o (missed n cs (k ∷ []))) h)
+missed-next n cs k h = ap (λ m. missed n cs (below m)) (add-one k)
+    ∙ (missed-push n cs (below k) k ∙ ap (λ o. or_later o (missed n cs (k ∷ []))) h)
 
 pub missed-start : (n : Net) (cs : List Copy) → missed n cs (below 0) ≡ None
 unfolding below
 missed-start n cs = refl
 
-one-missed : (n : Net) (cs : List Copy) (k : ℕ) → n.wants k ≡ true → is_some (copy_on cs k) ≡ false → missed n cs (k ∷ []) ≡ Some k
-one-missed n cs k w b = ap (λ x. cond x (cond (is_some (copy_on cs k)) None (Some k)) None) w ∙ ap (λ x. cond x None (Some k)) b
+one-missed : (n : Net) (cs : List Copy) (k : ℕ) → n.wants k ≡ true → is_some (copy_on cs k) ≡ false
+    → missed n cs (k ∷ []) ≡ Some k
+one-missed n cs k w b = ap (λ x. cond x (cond (is_some (copy_on cs k)) None (Some k)) None) w
+    ∙ ap (λ x. cond x None (Some k)) b
 
 one-unwanted : (n : Net) (cs : List Copy) (k : ℕ) → n.wants k ≡ false → missed n cs (k ∷ []) ≡ None
 one-unwanted n cs k w = ap (λ x. cond x (cond (is_some (copy_on cs k)) None (Some k)) None) w
 
-one-there : (n : Net) (cs : List Copy) (k : ℕ) (w : Bool) → is_some (copy_on cs k) ≡ true → n.wants k ≡ w → missed n cs (k ∷ []) ≡ None
-one-there n cs k true b e = ap (λ x. cond x (cond (is_some (copy_on cs k)) None (Some k)) None) e ∙ ap (λ x. cond x None (Some k)) b
+one-there : (n : Net) (cs : List Copy) (k : ℕ) (w : Bool) → is_some (copy_on cs k) ≡ true
+    → n.wants k ≡ w → missed n cs (k ∷ []) ≡ None
+one-there n cs k true b e = ap (λ x. cond x (cond (is_some (copy_on cs k)) None (Some k)) None) e
+    ∙ ap (λ x. cond x None (Some k)) b
 one-there n cs k false b e = one-unwanted n cs k e
 
 -- a LAN that doesn't want the flow isn't missed
-pub missed-unwanted : (n : Net) (cs : List Copy) (k : ℕ) → missed n cs (below k) ≡ None → n.wants k ≡ false → missed n cs (below (k + 1)) ≡ None
+pub missed-unwanted : (n : Net) (cs : List Copy) (k : ℕ) → missed n cs (below k) ≡ None
+    → n.wants k ≡ false → missed n cs (below (k + 1)) ≡ None
 missed-unwanted n cs k h w = missed-next n cs k h ∙ one-unwanted n cs k w
 
 -- nor is one that carried a copy
-pub missed-there : (n : Net) (cs : List Copy) (k : ℕ) → missed n cs (below k) ≡ None → is_some (copy_on cs k) ≡ true → missed n cs (below (k + 1)) ≡ None
+pub missed-there : (n : Net) (cs : List Copy) (k : ℕ) → missed n cs (below k) ≡ None
+    → is_some (copy_on cs k) ≡ true → missed n cs (below (k + 1)) ≡ None
 missed-there n cs k h b = missed-next n cs k h ∙ one-there n cs k (n.wants k) b refl
 
-stays : (n : Net) (cs : List Copy) (k d l : ℕ) → missed n cs (below (k + 1)) ≡ Some l → missed n cs (below (k + 1 + d)) ≡ Some l
+stays : (n : Net) (cs : List Copy) (k d l : ℕ) → missed n cs (below (k + 1)) ≡ Some l
+    → missed n cs (below (k + 1 + d)) ≡ Some l
 unfolding below
-stays n cs k zero l h = let e : k + 1 ≡ k + 1 + zero = omega arith in subst (λ m. missed n cs (below m) ≡ Some l) e h
+stays n cs k zero l h = let e : k + 1 ≡ k + 1 + zero =
+    omega arith in subst (λ m. missed n cs (below m) ≡ Some l) e h
 stays n cs k (suc d) l h =
     let e : suc (k + 1 + d) ≡ k + 1 + suc d = omega arith in
-    subst (λ m. missed n cs (below m) ≡ Some l) e (missed-push n cs (below (k + 1 + d)) (k + 1 + d) ∙ ap (λ o. or_later o (missed n cs ((k + 1 + d) ∷ []))) (stays n cs k d l h))
+    subst (λ m. missed n cs (below m) ≡ Some l) e (missed-push n cs (below (k + 1 + d)) (k + 1 + d)
+    ∙ ap (λ o. or_later o (missed n cs ((k + 1 + d) ∷ []))) (stays n cs k d l h))
 
 -- the first that wants the flow and carried none is the one that was missed
-pub missed-found : (n : Net) (cs : List Copy) (k m : ℕ) → missed n cs (below k) ≡ None → n.wants k ≡ true → is_some (copy_on cs k) ≡ false → k < m → missed n cs (below m) ≡ Some k
+pub missed-found : (n : Net) (cs : List Copy) (k m : ℕ) → missed n cs (below k) ≡ None
+    → n.wants k ≡ true → is_some (copy_on cs k) ≡ false → k < m → missed n cs (below m) ≡ Some k
 missed-found n cs k m h w b lt =
     let q : k + 1 + (m - (k + 1)) ≡ m = omega arith in
-    subst (λ x. missed n cs (below x) ≡ Some k) q (stays n cs k (m - (k + 1)) k (missed-next n cs k h ∙ one-missed n cs k w b))
+    subst (λ x. missed n cs (below x) ≡ Some k) q
+    (stays n cs k (m - (k + 1)) k (missed-next n cs k h ∙ one-missed n cs k w b))

@@ -55,7 +55,7 @@ fn certificate_of(alloc: Global, topology: &Topology, trees: [u8; 2]) -> Result<
     Ok(Certificate::read(alloc, text.as_bytes(), topology)?)
 }
 
-/// The verdicts on all flows, each on a line.
+/// The verdicts on all flows of the domain, each on a line.
 fn verdicts_on(alloc: Global, domain: &Domain, trees: [u8; 2]) -> Result<String, Fail> {
     let certificate = certificate_of(alloc, domain.topology(), trees)?;
     let mut lines = String::new(alloc);
@@ -67,13 +67,18 @@ fn verdicts_on(alloc: Global, domain: &Domain, trees: [u8; 2]) -> Result<String,
     Ok(lines)
 }
 
+/// The verdicts on all flows of the topology, whose routers forward the first.
+fn verdicts_of(alloc: Global, trees: [u8; 2]) -> Result<String, Fail> {
+    let topology = Topology::read(alloc, TOPOLOGY.as_bytes())?;
+    let domain = domain_over(alloc, topology, &[FORWARDS, FORWARDS], &[2])?;
+    verdicts_on(alloc, &domain, trees)
+}
+
 #[test]
 fn one_verdict_for_each_flow(rt: HostRuntime) -> Result<(), Fail> {
     let alloc = rt.alloc();
-    let topology = Topology::read(alloc, TOPOLOGY.as_bytes())?;
-    let domain = domain_over(alloc, topology, &[FORWARDS, FORWARDS], &[2])?;
     for (trees, [first, second]) in CASES {
-        let lines = verdicts_on(alloc, &domain, *trees)?;
+        let lines = verdicts_of(alloc, *trees)?;
         let wanted = format!(in alloc; "{first}\n{second}\n")?;
         assert_eq!(rt; lines, wanted, "at {trees:?}");
     }

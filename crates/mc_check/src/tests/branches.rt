@@ -1,6 +1,6 @@
 //! Two branches from the source's LAN: the verdict, and each order of handling the copies.
 
-use super::network::{CHAIN, FORWARDS, Network, SECOND, SOURCE, THIRD, domain_of, verdict_on};
+use super::network::{CHAIN, FORWARDS, Network, SECOND, SOURCE, THIRD, domain_of, verdict_of};
 use super::served::BRANCHES;
 use mc_forward::{Domain, Flight};
 use mc_topology::LanNo;
@@ -19,23 +19,18 @@ const NETWORK: Network<'static> = Network {
 #[test]
 fn both_branches_are_certified(rt: HostRuntime) -> Result<(), Fail> {
     let alloc = rt.alloc();
-    let domain = domain_of(alloc, &NETWORK)?;
     let entries = [SOURCE, SECOND, THIRD, (3, 1, 2, Some((2, 1)))];
-    let verdict = verdict_on(&rt, alloc, &domain, &entries)?;
+    let verdict = verdict_of(&rt, alloc, &NETWORK, &entries)?;
     assert_eq!(rt; verdict.as_str(), "yes copies 4");
     Ok(())
 }
 
-/// What l0 to l3 carried of a packet once its copies were handled by these picks, and none waits.
-fn carried_by(
+/// Handles the flight's copies by these picks, and then none waits. What l0 to l3 carried.
+fn handled_by(
     rt: &impl Abort,
-    alloc: Global,
-    domain: &Domain,
-    ttl: u8,
+    flight: &mut Flight<'_>,
     picks: [usize; 3],
 ) -> Result<[u32; 4], Fail> {
-    assert!(rt; domain.topology().flows() > 0);
-    let mut flight = Flight::start(alloc, domain, 0, ttl)?;
     for pick in picks {
         assert!(rt; pick < flight.waiting());
         let _event = flight.handle(pick)?;
@@ -50,15 +45,38 @@ fn carried_by(
     ])
 }
 
+/// What the LANs of a domain carried of a packet once its copies were handled by these picks.
+fn carried_on(
+    rt: &impl Abort,
+    alloc: Global,
+    domain: &Domain,
+    ttl: u8,
+    picks: [usize; 3],
+) -> Result<[u32; 4], Fail> {
+    assert!(rt; domain.topology().flows() > 0);
+    let mut flight = Flight::start(alloc, domain, 0, ttl)?;
+    handled_by(rt, &mut flight, picks)
+}
+
+/// What the LANs of the network carried of a packet once its copies were handled by these picks.
+fn carried_by(
+    rt: &impl Abort,
+    alloc: Global,
+    ttl: u8,
+    picks: [usize; 3],
+) -> Result<[u32; 4], Fail> {
+    let domain = domain_of(alloc, &NETWORK)?;
+    carried_on(rt, alloc, &domain, ttl, picks)
+}
+
 #[test]
 fn each_order_carries_what_is_certified(rt: HostRuntime) -> Result<(), Fail> {
     let alloc = rt.alloc();
-    let domain = domain_of(alloc, &NETWORK)?;
     for picks in [[0, 0, 0], [0, 1, 0], [1, 0, 0]] {
-        let carried = carried_by(&rt, alloc, &domain, 3, picks)?;
+        let carried = carried_by(&rt, alloc, 3, picks)?;
         assert_eq!(rt; carried, [1, 1, 1, 1], "by {picks:?}");
         // A TTL of 2 is below the need of l2.
-        let low = carried_by(&rt, alloc, &domain, 2, picks)?;
+        let low = carried_by(&rt, alloc, 2, picks)?;
         assert_eq!(rt; low, [1, 1, 0, 1], "by {picks:?}");
     }
     Ok(())

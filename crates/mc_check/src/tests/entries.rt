@@ -1,6 +1,6 @@
 //! Lists of entries for the chain, whose tables stay as they are.
 
-use super::network::{CHAIN, ENTRIES, EntryRow, SECOND, SOURCE, THIRD, domain_of, verdict_on};
+use super::network::{CHAIN, ENTRIES, EntryRow, SECOND, SOURCE, THIRD, verdict_of};
 use std::test::Fail;
 
 const CASES: &[(&[EntryRow], &str)] = &[
@@ -99,9 +99,8 @@ const CASES: &[(&[EntryRow], &str)] = &[
 #[test]
 fn lists_for_the_chain(rt: HostRuntime) -> Result<(), Fail> {
     let alloc = rt.alloc();
-    let domain = domain_of(alloc, &CHAIN)?;
     for (number, (rows, wanted)) in CASES.iter().enumerate() {
-        let verdict = verdict_on(&rt, alloc, &domain, rows)?;
+        let verdict = verdict_of(&rt, alloc, &CHAIN, rows)?;
         assert_eq!(rt; verdict.as_str(), *wanted, "at case {number}");
     }
     Ok(())

@@ -67,7 +67,8 @@ pub(super) const ENTRIES: &[EntryRow] = &[SOURCE, SECOND, THIRD];
 /// A report that wants all sources of 239.1.2.3.
 const WANTED: &str = "2200eaf90000000102000000ef010203\n";
 
-fn topology_of(alloc: Global, network: &Network<'_>) -> Result<Topology, Fail> {
+/// The topology of the texts.
+pub(super) fn topology_of(alloc: Global, network: &Network<'_>) -> Result<Topology, Fail> {
     let (topology, ttl) = (network.topology, network.ttl);
     let text = format!(in alloc;
         "version = 1\n{topology}source = [{{address = \"10.0.0.5\", lan = \"l0\"}}]\n\
@@ -147,7 +148,7 @@ fn entries_of(alloc: Global, rows: &[EntryRow]) -> Result<Vec<Reached>, AllocErr
 }
 
 /// The verdict on a list of entries for the domain's flow, as it is written.
-pub(super) fn verdict_on(
+fn verdict_on(
     rt: &impl Abort,
     alloc: Global,
     domain: &Domain,
@@ -161,11 +162,21 @@ pub(super) fn verdict_on(
     Ok(verdict.shown(domain.topology()).to_string(alloc)?)
 }
 
+/// The verdict on a list of entries for the flow of the network, as it is written.
+pub(super) fn verdict_of(
+    rt: &impl Abort,
+    alloc: Global,
+    network: &Network<'_>,
+    rows: &[EntryRow],
+) -> Result<String, Fail> {
+    let domain = domain_of(alloc, network)?;
+    verdict_on(rt, alloc, &domain, rows)
+}
+
 /// Each case has its verdict.
 pub(super) fn judges(rt: &impl Abort, alloc: Global, cases: &[Case]) -> Result<(), Fail> {
     for (number, (network, rows, wanted)) in cases.iter().enumerate() {
-        let domain = domain_of(alloc, network)?;
-        let verdict = verdict_on(rt, alloc, &domain, rows)?;
+        let verdict = verdict_of(rt, alloc, network, rows)?;
         assert_eq!(rt; verdict.as_str(), *wanted, "at case {number}");
     }
     Ok(())

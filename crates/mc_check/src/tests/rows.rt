@@ -1,7 +1,7 @@
 //! The chain's entries, and others, where the rows of its routers are other ones.
 
 use super::network::{
-    CHAIN, ENTRIES, EntryRow, Network, ROW, SECOND, SOURCE, THIRD, VIFS, domain_of, verdict_on,
+    CHAIN, ENTRIES, EntryRow, Network, ROW, SECOND, SOURCE, THIRD, VIFS, verdict_of,
 };
 use std::test::Fail;
 
@@ -144,8 +144,7 @@ fn other_rows_in_the_chain(rt: HostRuntime) -> Result<(), Fail> {
             routers: &routers,
             ..CHAIN
         };
-        let domain = domain_of(alloc, &network)?;
-        let verdict = verdict_on(&rt, alloc, &domain, rows)?;
+        let verdict = verdict_of(&rt, alloc, &network, rows)?;
         assert_eq!(rt; verdict.as_str(), *wanted, "at case {number}");
     }
     Ok(())

@@ -1,6 +1,6 @@
 //! Reasons and verdicts as they are written.
 
-use super::network::{CHAIN, domain_of};
+use super::network::{CHAIN, topology_of};
 use crate::{Reason, Verdict};
 use mc_topology::{LanNo, RouterNo};
 use std::test::Fail;
@@ -17,7 +17,7 @@ const L3: LanNo = LanNo(3);
 
 #[test]
 fn reasons(rt: HostRuntime) -> Result<(), Fail> {
-    let domain = domain_of(rt.alloc(), &CHAIN)?;
+    let topology = topology_of(rt.alloc(), &CHAIN)?;
     for (reason, text) in [
         (Reason::TwoEntries(L2), "TwoEntries l2"),
         (Reason::BadSource, "BadSource"),
@@ -35,7 +35,7 @@ fn reasons(rt: HostRuntime) -> Result<(), Fail> {
         (Reason::Extra(ROUTER_PAST_THE_LAST, 1, L3), "Extra  1 "),
         (Reason::Low(LanNo(u32::MAX)), "Low "),
     ] {
-        let shown = reason.shown(domain.topology()).to_string(rt.alloc())?;
+        let shown = reason.shown(&topology).to_string(rt.alloc())?;
         assert_eq!(rt; shown.as_str(), text);
     }
     Ok(())
@@ -43,7 +43,7 @@ fn reasons(rt: HostRuntime) -> Result<(), Fail> {
 
 #[test]
 fn verdicts(rt: HostRuntime) -> Result<(), Fail> {
-    let domain = domain_of(rt.alloc(), &CHAIN)?;
+    let topology = topology_of(rt.alloc(), &CHAIN)?;
     for (verdict, text) in [
         (Verdict::Yes { copies: 1 }, "yes copies 1"),
         (Verdict::Yes { copies: 1024 }, "yes copies 1024"),
@@ -53,7 +53,7 @@ fn verdicts(rt: HostRuntime) -> Result<(), Fail> {
             "no Extra r2 1 l0",
         ),
     ] {
-        let shown = verdict.shown(domain.topology()).to_string(rt.alloc())?;
+        let shown = verdict.shown(&topology).to_string(rt.alloc())?;
         assert_eq!(rt; shown.as_str(), text);
     }
     Ok(())

@@ -1,6 +1,6 @@
 //! Thresholds: what a LAN needs, and pairs that send nothing of the greatest TTL.
 
-use super::network::{EntryRow, Network, ROW, SECOND, SOURCE, THIRD, VIFS, domain_of, verdict_on};
+use super::network::{EntryRow, Network, ROW, SECOND, SOURCE, THIRD, VIFS, verdict_of};
 use std::test::Fail;
 
 /// A chain of three routers from l0 to l3, of whose LANs l2 wants the flow.
@@ -208,8 +208,7 @@ fn thresholds_along_a_chain(rt: HostRuntime) -> Result<(), Fail> {
             routers: &routers,
             wanting,
         };
-        let domain = domain_of(alloc, &network)?;
-        let verdict = verdict_on(&rt, alloc, &domain, entries)?;
+        let verdict = verdict_of(&rt, alloc, &network, entries)?;
         assert_eq!(rt; verdict.as_str(), *wanted, "at case {number}");
     }
     Ok(())

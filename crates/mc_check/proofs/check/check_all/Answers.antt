@@ -10,14 +10,19 @@ loop-flow-preserved c =
     let k = c.loop-flow.flow in
     let es = c.flow.result.reached.now in
     let v = c.verdict_by.result in
-    let within : k < length d.topology.flows = omega (arith, c.loop-flow-test.true, c.flows-flow-end.ensures, c.requires.flows) in
-    let new : c.push.new.self.items ≡ c.loop-flow.verdicts.items ++ v ∷ [] = c.in_ok-push.ensures.items in
+    let within : k < length d.topology.flows = omega
+    (arith, c.loop-flow-test.true, c.flows-flow-end.ensures, c.requires.flows) in
+    let new : c.push.new.self.items ≡ c.loop-flow.verdicts.items ++ v ∷ [] =
+    c.in_ok-push.ensures.items in
     subst (λ vs. Judged d lists (k + 1) vs) (sym new)
-    (judged-next d lists k c.loop-flow.verdicts.items es v c.loop-flow.invariant c.flow.ensures.reached
-    (says d k es c.in_ok-reason.reason v c.topology-topology.ensures.rules within c.in_ok-reason.ensures c.verdict_by.ensures))
+    (judged-next d lists k c.loop-flow.verdicts.items es v c.loop-flow.invariant
+    c.flow.ensures.reached
+    (says d k es c.in_ok-reason.reason v c.topology-topology.ensures.rules within
+    c.in_ok-reason.ensures c.verdict_by.ensures))
 
 pub returns-clause-accepted : goal.returns-clause-accepted
-returns-clause-accepted c = λ flow es v at got. (c.loop-flow.invariant.each flow es v at got).accepted
+returns-clause-accepted c =
+    λ flow es v at got. (c.loop-flow.invariant.each flow es v at got).accepted
 
 pub returns-clause-copies : goal.returns-clause-copies
 returns-clause-copies c = λ flow es v at got. (c.loop-flow.invariant.each flow es v at got).copies
@@ -29,10 +34,12 @@ pub returns-clause-safe : goal.returns-clause-safe
 returns-clause-safe c = λ flow es v at got. (c.loop-flow.invariant.each flow es v at got).safe
 
 pub returns-clause-delivered : goal.returns-clause-delivered
-returns-clause-delivered c = λ flow es v at got. (c.loop-flow.invariant.each flow es v at got).delivered
+returns-clause-delivered c = λ flow es v at got.
+    (c.loop-flow.invariant.each flow es v at got).delivered
 
 pub returns-clause-right : goal.returns-clause-right
 returns-clause-right c = λ flow es v at got. (c.loop-flow.invariant.each flow es v at got).right
 
 pub returns-clause-headline : goal.returns-clause-headline
-returns-clause-headline c = λ flow es v at got. (c.loop-flow.invariant.each flow es v at got).headline
+returns-clause-headline c =
+    λ flow es v at got. (c.loop-flow.invariant.each flow es v at got).headline

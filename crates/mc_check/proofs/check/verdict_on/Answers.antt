@@ -8,7 +8,8 @@ verdict_by-requires c =
     let d = c.args.domain.now in
     let ok = c.topology-rules.ensures.rules in
     few d c.args.flow c.args.entries.now c.in_ok-reason.reason ok
-    (judge d c.args.flow c.args.entries.now c.in_ok-reason.reason ok c.requires.flow c.in_ok-reason.ensures) c.requires.lans
+    (judge d c.args.flow c.args.entries.now c.in_ok-reason.reason ok c.requires.flow
+    c.in_ok-reason.ensures) c.requires.lans
 
 pub returns : goal.returns
 returns c =

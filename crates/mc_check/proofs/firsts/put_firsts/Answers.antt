@@ -14,5 +14,6 @@ loop-entry-preserved c =
     let within : e.lan < length old =
     subst (λ (x : Entry). x.lan < length old) (sym c.entry-item.is) (c.requires.lans k e more) in
     let put = c.if-not-is_put.false in
-    taken-next firsts c.is_put.new.firsts old es k e c.loop-entry.invariant more c.entry-item.is within
+    taken-next firsts c.is_put.new.firsts old es k e c.loop-entry.invariant more c.entry-item.is
+    within
     (c.is_put.ensures.free put) (c.is_put.ensures.put put)

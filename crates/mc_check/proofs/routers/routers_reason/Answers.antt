@@ -11,7 +11,8 @@ pub returns-in-Some : goal.returns-in-Some
 returns-in-Some c =
     let n = flow_net c.args.tables.now in
     let f : ℕ → Option Reason = λ r. row_reason n c.args.named.now r (n.row r) in
-    sym (some-found f c.loop-number.number _ _ c.loop-number.invariant (sym c.in-Some.ensures) (omega (arith, c.routers-number-end.ensures)))
+    sym (some-found f c.loop-number.number _ _ c.loop-number.invariant (sym c.in-Some.ensures)
+    (omega (arith, c.routers-number-end.ensures)))
 
 pub loop-number-preserved : goal.loop-number-preserved
 loop-number-preserved c =

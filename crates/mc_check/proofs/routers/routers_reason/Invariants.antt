@@ -6,4 +6,5 @@ use Rattle.mc_check.proofs.routers.routers_reason.Given as goal
 
 abbrev pub invariant-loop-number : goal.invariant-loop-number
 invariant-loop-number l =
-    first_of (λ router. row_reason (flow_net l.fn.tables) l.fn.named router ((flow_net l.fn.tables).row router)) (below l.number) ≡ None
+    first_of (λ router. row_reason (flow_net l.fn.tables) l.fn.named router
+    ((flow_net l.fn.tables).row router)) (below l.number) ≡ None

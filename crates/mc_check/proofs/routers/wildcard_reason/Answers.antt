@@ -11,11 +11,17 @@ loop-vif-init c = none-start _
 pub returns-then-is_some : goal.returns-then-is_some
 returns-then-is_some c =
     let n = flow_net c.args.tables.now in
-    let e : is_some (entry_at c.args.named.now (n.placed c.args.router c.loop-vif.vif)) ≡ true = cc in
-    sym (some-found (wild_at n c.args.named.now c.args.router) c.loop-vif.vif 32 _ c.loop-vif.invariant (ap (λ (b : Bool). unless (not b) (Wildcard c.args.router c.loop-vif.vif)) e) c.loop-vif-test.true)
+    let e : is_some (entry_at c.args.named.now (n.placed c.args.router c.loop-vif.vif)) ≡ true =
+    cc in
+    sym (some-found (wild_at n c.args.named.now c.args.router) c.loop-vif.vif 32 _
+    c.loop-vif.invariant
+    (ap (λ (b : Bool). unless (not b) (Wildcard c.args.router c.loop-vif.vif)) e)
+    c.loop-vif-test.true)
 
 pub loop-vif-preserved : goal.loop-vif-preserved
 loop-vif-preserved c =
     let n = flow_net c.args.tables.now in
-    let e : is_some (entry_at c.args.named.now (n.placed c.args.router c.loop-vif.vif)) ≡ false = cc in
-    none-more (wild_at n c.args.named.now c.args.router) c.loop-vif.vif c.loop-vif.invariant (ap (λ (b : Bool). unless (not b) (Wildcard c.args.router c.loop-vif.vif)) e)
+    let e : is_some (entry_at c.args.named.now (n.placed c.args.router c.loop-vif.vif)) ≡ false =
+    cc in
+    none-more (wild_at n c.args.named.now c.args.router) c.loop-vif.vif c.loop-vif.invariant
+    (ap (λ (b : Bool). unless (not b) (Wildcard c.args.router c.loop-vif.vif)) e)

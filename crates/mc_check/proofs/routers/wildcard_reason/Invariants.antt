@@ -5,4 +5,5 @@ use Rattle.mc_check.specs.FlowNet.{flow_net}
 use Rattle.mc_check.proofs.routers.wildcard_reason.Given as goal
 
 abbrev pub invariant-loop-vif : goal.invariant-loop-vif
-invariant-loop-vif l = first_of (wild_at (flow_net l.fn.tables) l.fn.named l.fn.router) (below l.vif) ≡ None
+invariant-loop-vif l = first_of (wild_at (flow_net l.fn.tables) l.fn.named l.fn.router)
+    (below l.vif) ≡ None

@@ -8,7 +8,10 @@ pub loop-number-init : goal.loop-number-init
 loop-number-init c = none-start _
 
 pub returns-in-Some : goal.returns-in-Some
-returns-in-Some c = sym (some-found (lan_reason (flow_net c.args.tables.now) c.args.named.now) c.loop-number.number _ _ c.loop-number.invariant (sym c.in-Some.ensures) (omega (arith, c.lans-number-end.ensures)))
+returns-in-Some c = sym (some-found (lan_reason (flow_net c.args.tables.now) c.args.named.now)
+    c.loop-number.number _ _ c.loop-number.invariant (sym c.in-Some.ensures)
+    (omega (arith, c.lans-number-end.ensures)))
 
 pub loop-number-preserved : goal.loop-number-preserved
-loop-number-preserved c = none-more (lan_reason (flow_net c.args.tables.now) c.args.named.now) c.loop-number.number c.loop-number.invariant (sym c.in_default.ensures)
+loop-number-preserved c = none-more (lan_reason (flow_net c.args.tables.now) c.args.named.now)
+    c.loop-number.number c.loop-number.invariant (sym c.in_default.ensures)

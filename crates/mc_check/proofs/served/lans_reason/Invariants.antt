@@ -5,4 +5,5 @@ use Rattle.mc_check.specs.FlowNet.{flow_net}
 use Rattle.mc_check.proofs.served.lans_reason.Given as goal
 
 abbrev pub invariant-loop-number : goal.invariant-loop-number
-invariant-loop-number l = first_of (lan_reason (flow_net l.fn.tables) l.fn.named) (below l.number) ≡ None
+invariant-loop-number l = first_of (lan_reason (flow_net l.fn.tables) l.fn.named) (below l.number)
+    ≡ None

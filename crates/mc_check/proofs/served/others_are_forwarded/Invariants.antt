@@ -5,5 +5,6 @@ use Rattle.mc_check.proofs.served.others_are_forwarded.Given as goal
 
 abbrev pub invariant-loop-entry : goal.invariant-loop-entry
 invariant-loop-entry l =
-    all_pass (λ (e : Entry). (e.lan == l.fn.lan) || is_some e.forwarder) (drop l.entry-index l.fn.entries)
+    all_pass (λ (e : Entry). (e.lan == l.fn.lan) || is_some e.forwarder)
+    (drop l.entry-index l.fn.entries)
     ≡ all_pass (λ (e : Entry). (e.lan == l.fn.lan) || is_some e.forwarder) l.fn.entries

@@ -5,7 +5,8 @@ use Rattle.mc_files.proofs.packed_name.add_lans.Goals as goal
 
 pub name_of-requires : goal.name_of-requires
 name_of-requires c =
-    part_name (codes "igmp/") c.lan_name-name.result.now refl (lit≤ tt) c.lan_name-name.ensures.named
+    part_name (codes "igmp/") c.lan_name-name.result.now refl
+    (lit≤ tt) c.lan_name-name.ensures.named
 
 pub loop-lan-preserved : goal.loop-lan-preserved
 loop-lan-preserved c = record {

@@ -18,7 +18,8 @@ loop-router-preserved c = record {
   count = c.loop-router.invariant.count;
   added = router_pushed c.args.names.now.items c.loop-router.names.items c.push.new.self.items
       c.push-in-loop-router.new.self.items c.args.topology.now.routers c.loop-router.router
-      c.router_name-name.result.now _ _ c.loop-router.invariant.added c.router_name-name.ensures.name
+      c.router_name-name.result.now _ _ c.loop-router.invariant.added
+      c.router_name-name.ensures.name
       c.in_ok-name_of.ensures c.in_ok-name_of-2.ensures c.in_ok-push.ensures.items
       c.in_ok-push-2.ensures.items;
 }

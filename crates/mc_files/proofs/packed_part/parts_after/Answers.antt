@@ -9,7 +9,8 @@ returns-in_err-part_of-clause-parts g c =
     c.from_residual-in_err-part_of.ensures.1 in
     λ told is. left_refused told c.loop-name.parts.items c.args.names.now c.loop-name.name-index
     c.name-item.result _ (λ parts. parts.items) c.from_residual-in_err-part_of.result
-    c.in_err-part_of.field-0.0 c.loop-name-test.true c.name-item.is (c.loop-name.invariant.left told is)
+    c.in_err-part_of.field-0.0 c.loop-name-test.true c.name-item.is
+    (c.loop-name.invariant.left told is)
     (c.in_err-part_of.ensures.part told (c.loop-name.invariant.kept ∙ is))
     (p.1 ∙ ap (λ f. Err f) p.2)
 

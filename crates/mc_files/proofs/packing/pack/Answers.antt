@@ -2,20 +2,23 @@ use Rattle.std.proofs.Common.{ap, ◌∙◌, Err, List}
 use Rattle.std.proofs.lemmas.Result.{err_from_is_err_and}
 use Rattle.mc_text.specs.Bundle.{PartText}
 use Rattle.mc_text.specs.PartView.{part_texts}
-use Rattle.mc_files.proofs.RunLemmas.{refused_answer, refused_only, written_answer, written_only, written_part, written_whole}
+use Rattle.mc_files.proofs.RunLemmas.{refused_answer, refused_only, written_answer, written_only}
+use Rattle.mc_files.proofs.RunLemmas.{written_part, written_whole}
 use Rattle.mc_files.proofs.packing.pack.Goals as goal
 
 pub returns-in_err-files-clause-answer : goal.returns-in_err-files-clause-answer
 returns-in_err-files-clause-answer g c =
     let p = err_from_is_err_and c.from_residual.result c.from_residual.ensures.1 in
-    refused_answer {X = List PartText} (λ parts. parts) (g.F.FileSource.told c.args.files.now) c.args.certified
+    refused_answer {X = List PartText} (λ parts. parts) (g.F.FileSource.told c.args.files.now)
+    c.args.certified
     c.from_residual.result c.in_err-files.field-0.0 c.in_err-files.ensures.parts
     (p.1 ∙ ap (λ f. Err f) p.2)
 
 pub returns-in_err-files-clause-only : goal.returns-in_err-files-clause-only
 returns-in_err-files-clause-only g c =
     let p = err_from_is_err_and c.from_residual.result c.from_residual.ensures.1 in
-    λ told parts is packed. refused_only {X = List PartText} (λ parts. parts) c.args.certified told parts
+    λ told parts is packed. refused_only {X = List PartText}
+    (λ parts. parts) c.args.certified told parts
     c.from_residual.result c.in_err-files.field-0.0 (c.in_err-files.ensures.parts told is)
     (p.1 ∙ ap (λ f. Err f) p.2) packed
 
@@ -33,7 +36,8 @@ returns-clause-only g c =
     let same = ap part_texts c.deref-2.ensures.value ∙ c.in_ok-parts.ensures
     ∙ c.deref.ensures.value in
     λ told parts is packed. written_only told c.args.certified c.in_ok-files.files.items
-    (part_texts c.deref-2.result.now) parts c.write_parts.result (c.in_ok-files.ensures.parts told is)
+    (part_texts c.deref-2.result.now) parts c.write_parts.result
+    (c.in_ok-files.ensures.parts told is)
     same c.write_parts.ensures.faults c.write_parts.ensures.too_large packed
 
 pub returns-clause-written : goal.returns-clause-written

@@ -18,22 +18,27 @@ pub interfaces_of_lans-requires-clause-listed : goal.interfaces_of_lans-requires
 interfaces_of_lans-requires-clause-listed c = λ router vif lan at.
     let d = domain_with c.args.topology.now c.args.tables.now c.in_ok-wants.wants.items in
     let size = sym c.in_ok-wants.wants.ok.0 ∙ c.in_ok-wants.ensures.count in
-    let ok = domain-of c.args.topology.now c.args.tables.now c.args.reports.now c.in_ok-wants.wants.items c.lans.ensures.rules c.requires
+    let ok = domain-of c.args.topology.now c.args.tables.now c.args.reports.now
+    c.in_ok-wants.wants.items c.lans.ensures.rules c.requires
     c.in_ok-places.ensures.rules size c.in_ok-wants.ensures.each in
-    let lt = place-listed d c.deref.result.now ok (c.deref.ensures.value ∙ c.in_ok-places.ensures.places) router vif lan at in
+    let lt = place-listed d c.deref.result.now ok (c.deref.ensures.value
+    ∙ c.in_ok-places.ensures.places) router vif lan at in
     omega (arith, lt, c.lans.ensures.count)
 
 pub returns-clause-worked_out : goal.returns-clause-worked_out
 returns-clause-worked_out c =
     let d = domain_with c.args.topology.now c.args.tables.now c.in_ok-wants.wants.items in
     let size = sym c.in_ok-wants.wants.ok.0 ∙ c.in_ok-wants.ensures.count in
-    let ok = domain-of c.args.topology.now c.args.tables.now c.args.reports.now c.in_ok-wants.wants.items c.lans.ensures.rules c.requires
+    let ok = domain-of c.args.topology.now c.args.tables.now c.args.reports.now
+    c.in_ok-wants.wants.items c.lans.ensures.rules c.requires
     c.in_ok-places.ensures.rules size c.in_ok-wants.ensures.each in
-    let by : List (List (Option ℕ)) → ℕ → List (List (ℕ × ℕ)) = λ ps lans. map (interfaces_by ps (length ps)) (below lans) in
+    let by : List (List (Option ℕ)) → ℕ → List (List (ℕ × ℕ)) =
+    λ ps lans. map (interfaces_by ps (length ps)) (below lans) in
     record {
       domain = ok;
       places = c.in_ok-places.ensures.places;
-      interfaces = c.in_ok-interfaces.ensures ∙ ap (λ ps. by ps c.lans.result) c.deref.ensures.value ∙ ap (by c.in_ok-places.places.items) c.lans.ensures.count
+      interfaces = c.in_ok-interfaces.ensures ∙ ap (λ ps. by ps c.lans.result) c.deref.ensures.value
+          ∙ ap (by c.in_ok-places.places.items) c.lans.ensures.count
           ∙ interfaces-worked_out d c.in_ok-places.places.items ok c.in_ok-places.ensures.places;
     }
 

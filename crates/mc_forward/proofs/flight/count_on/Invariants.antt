@@ -5,5 +5,6 @@ use Rattle.mc_forward.proofs.flight.count_on.Given as goal
 abbrev pub invariant-loop-copy : goal.invariant-loop-copy
 invariant-loop-copy l = record {
   fits : l.count ≤ 4294967295;
-  counted : min (l.count + copies_on (drop l.copy-index l.fn.carried) l.fn.lan) 4294967295 ≡ min (copies_on l.fn.carried l.fn.lan) 4294967295;
+  counted : min (l.count + copies_on (drop l.copy-index l.fn.carried) l.fn.lan) 4294967295
+      ≡ min (copies_on l.fn.carried l.fn.lan) 4294967295;
 }

@@ -5,4 +5,5 @@ use Rattle.mc_forward.proofs.flow_laws.a_finding_shows_that_a_flow_is_wrong.Goal
 pub returns : goal.returns
 returns c = λ d flow t numbers last is x ok low high travel other.
     c.a_finding_shows.ensures (net_of d flow) (length d.topology.lans) t numbers last is x
-    (c.domains_are_nets.ensures.net d flow ok) (c.domains_are_nets.ensures.wanting d flow ok) low high travel other
+    (c.domains_are_nets.ensures.net d flow ok) (c.domains_are_nets.ensures.wanting d flow ok) low
+    high travel other

@@ -2,4 +2,5 @@ use Rattle.mc_forward.specs.Domains.{net_of}
 use Rattle.mc_forward.proofs.flow_laws.every_run_of_a_flow_is_safe.Goals as goal
 
 pub returns : goal.returns
-returns c = λ d flow es ok tree. c.every_run_is_safe.ensures (net_of d flow) es (c.domains_are_nets.ensures.net d flow ok) tree
+returns c = λ d flow es ok tree. c.every_run_is_safe.ensures (net_of d flow) es
+    (c.domains_are_nets.ensures.net d flow ok) tree

@@ -4,4 +4,5 @@ use Rattle.mc_forward.proofs.flow_laws.no_reason_accepts_the_list.Goals as goal
 
 pub returns : goal.returns
 returns c = λ d flow es ok.
-    c.no_reason_is_acceptance.ensures (net_of d flow) (length d.topology.lans) es (c.domains_are_nets.ensures.net d flow ok) (c.domains_are_nets.ensures.wanting d flow ok)
+    c.no_reason_is_acceptance.ensures (net_of d flow) (length d.topology.lans) es
+    (c.domains_are_nets.ensures.net d flow ok) (c.domains_are_nets.ensures.wanting d flow ok)

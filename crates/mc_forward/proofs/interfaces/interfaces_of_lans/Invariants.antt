@@ -6,5 +6,6 @@ use Rattle.mc_forward.proofs.interfaces.interfaces_of_lans.Given as goal
 abbrev pub invariant-loop-number : goal.invariant-loop-number
 invariant-loop-number l = record {
   count : length l.lists.items ≡ l.fn.lans;
-  each : (lan : ℕ) → lan < l.fn.lans → slice_index_or l.lists.items lan [] ≡ interfaces_by l.fn.places l.number lan;
+  each : (lan : ℕ) → lan < l.fn.lans → slice_index_or l.lists.items lan []
+      ≡ interfaces_by l.fn.places l.number lan;
 }

@@ -11,5 +11,6 @@ loop-vif-init c = record { size = refl; done = refl }
 pub loop-vif-preserved : goal.loop-vif-preserved
 loop-vif-preserved c = record {
   size = length-set c.loop-vif.places c.loop-vif.vif c.lan_at.result ∙ c.loop-vif.invariant.size;
-  done = place-more _ c.loop-vif.places c.loop-vif.vif c.lan_at.result (omega (arith, c.loop-vif.invariant.size)) c.loop-vif.invariant.done c.lan_at.ensures;
+  done = place-more _ c.loop-vif.places c.loop-vif.vif c.lan_at.result
+      (omega (arith, c.loop-vif.invariant.size)) c.loop-vif.invariant.done c.lan_at.ensures;
 }

@@ -8,5 +8,6 @@ use Rattle.mc_forward.proofs.places.places_of_router.Given as goal
 abbrev pub invariant-loop-vif : goal.invariant-loop-vif
 invariant-loop-vif l = record {
   size : length l.places ≡ 32;
-  done : take l.vif l.places ≡ map (λ vif. option_and_then (lan_of_vif l.fn.topology l.fn.router) (get l.fn.tables.vifs vif)) (below l.vif);
+  done : take l.vif l.places ≡ map (λ vif. option_and_then (lan_of_vif l.fn.topology l.fn.router)
+      (get l.fn.tables.vifs vif)) (below l.vif);
 }

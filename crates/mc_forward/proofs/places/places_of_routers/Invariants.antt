@@ -5,6 +5,8 @@ use Rattle.mc_forward.proofs.places.places_of_routers.Given as goal
 
 abbrev pub invariant-loop-number : goal.invariant-loop-number
 invariant-loop-number l = record {
-  done : l.places.items ≡ map (λ router. map (placed_in l.fn.topology l.fn.tables router) (below 32)) (below l.number);
-  rules : (router : ℕ) (t : TablesValue) → router < l.number → slice_get l.fn.tables router ≡ Some t → AreTables t;
+  done : l.places.items ≡ map (λ router. map (placed_in l.fn.topology l.fn.tables router)
+      (below 32)) (below l.number);
+  rules : (router : ℕ) (t : TablesValue) → router < l.number → slice_get l.fn.tables router ≡ Some t
+      → AreTables t;
 }

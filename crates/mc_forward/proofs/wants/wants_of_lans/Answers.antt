@@ -4,9 +4,15 @@ use Rattle.mc_forward.proofs.wants.wants_of_lans.Goals as goal
 
 pub loop-list-preserved : goal.loop-list-preserved
 loop-list-preserved c =
-    let found = read-at c.args.reports.now c.loop-list.list-index c.list-item.result c.loop-list-test.true c.list-item.is in
+    let found = read-at c.args.reports.now c.loop-list.list-index c.list-item.result
+    c.loop-list-test.true c.list-item.is in
     record {
-      count = count-pushed c.loop-list.wants.items c.push.new.self.items c.in_ok-wanted_flows.field-0 c.loop-list.list-index c.in_ok-push.ensures.items c.loop-list.invariant.count;
-      each = each-pushed (AreWanted c.args.topology.now.flows) c.args.reports.now c.loop-list.wants.items c.push.new.self.items c.list-item.result
-          c.in_ok-wanted_flows.field-0 c.loop-list.list-index c.in_ok-push.ensures.items c.loop-list.invariant.count found c.in_ok-wanted_flows.ensures c.loop-list.invariant.each;
+      count = count-pushed c.loop-list.wants.items c.push.new.self.items
+          c.in_ok-wanted_flows.field-0 c.loop-list.list-index c.in_ok-push.ensures.items
+          c.loop-list.invariant.count;
+      each = each-pushed (AreWanted c.args.topology.now.flows) c.args.reports.now
+          c.loop-list.wants.items c.push.new.self.items c.list-item.result
+          c.in_ok-wanted_flows.field-0 c.loop-list.list-index c.in_ok-push.ensures.items
+          c.loop-list.invariant.count found c.in_ok-wanted_flows.ensures
+          c.loop-list.invariant.each;
     }

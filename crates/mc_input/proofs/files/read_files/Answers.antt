@@ -1,6 +1,7 @@
 use Rattle.std.proofs.Common.{◌∙◌, ap, Ok, Err}
 use Rattle.std.proofs.lemmas.Result.{err_from_is_err_and}
-use Rattle.mc_input.proofs.FilesLemmas.{topology_refused, tables_refused_in, reports_refused_in, input_read, failed_as}
+use Rattle.mc_input.proofs.FilesLemmas.{topology_refused, tables_refused_in, reports_refused_in}
+use Rattle.mc_input.proofs.FilesLemmas.{input_read, failed_as}
 use Rattle.mc_input.proofs.FilesStand.{read_stands, read_again}
 use Rattle.mc_input.proofs.files.read_files.Goals as goal
 
@@ -21,7 +22,8 @@ returns-in_err-tables-clause-fault g c =
     c.from_residual-in_err-tables.ensures.1 in
     λ told is. tables_refused_in told c.in_ok-topology.topology c.from_residual-in_err-tables.result
     c.in_err-tables.field-0.0 (c.in_ok-topology.ensures.topology told is)
-    (c.in_err-tables.ensures.tables told (c.in_ok-topology.ensures.kept ∙ is)) (p.1 ∙ ap (λ f. Err f) p.2)
+    (c.in_err-tables.ensures.tables told (c.in_ok-topology.ensures.kept ∙ is))
+    (p.1 ∙ ap (λ f. Err f) p.2)
 
 pub returns-in_err-tables-clause-only : goal.returns-in_err-tables-clause-only
 returns-in_err-tables-clause-only g c =
@@ -58,7 +60,8 @@ returns-in_err-reports-clause-failures g c =
     c.from_residual-in_err-reports.ensures.1 in
     failed_as c.in_err-reports.field-0.0 c.from_residual-in_err-reports.result
     c.reports_of_lans.result _ _ _ (p.1 ∙ ap (λ f. Err f) p.2) c.in_err-reports.was
-    c.reports_of_lans.ensures.failures (c.in_ok-tables.ensures.failures ∙ c.in_ok-topology.ensures.failures)
+    c.reports_of_lans.ensures.failures (c.in_ok-tables.ensures.failures
+    ∙ c.in_ok-topology.ensures.failures)
 
 pub returns-clause-fault : goal.returns-clause-fault
 returns-clause-fault g c =

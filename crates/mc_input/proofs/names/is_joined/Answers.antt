@@ -4,7 +4,14 @@ use Rattle.mc_input.proofs.names.is_joined.Goals as goal
 
 pub returns-in-Some : goal.returns-in-Some
 returns-in-Some c =
-    rw (bytes_eq-joined c.args.front.now c.args.bytes.now c.args.rest.now, c.in-Some.ensures.cases.0, ← c.in-Some.ensures.cases.1) c.eq.ensures
+    rw (
+      bytes_eq-joined c.args.front.now c.args.bytes.now c.args.rest.now,
+      c.in-Some.ensures.cases.0,
+      ← c.in-Some.ensures.cases.1,
+    ) c.eq.ensures
 
 pub returns-in-None : goal.returns-in-None
-returns-in-None c = rw (bytes_eq-joined c.args.front.now c.args.bytes.now c.args.rest.now, c.in-None.ensures.cases) refl
+returns-in-None c = rw (
+  bytes_eq-joined c.args.front.now c.args.bytes.now c.args.rest.now,
+  c.in-None.ensures.cases,
+) refl

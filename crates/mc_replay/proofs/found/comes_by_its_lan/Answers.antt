@@ -1,5 +1,6 @@
 -- One LAN after the other.
-use Rattle.std.proofs.Common.{◌≡◌, ◌+◌, ◌<◌, ◌==◌, false, length, drop, Option, Some, ap, sym, subst, ◌∙◌}
+use Rattle.std.proofs.Common.{◌≡◌, ◌+◌, ◌<◌, ◌==◌, false, length, drop, Option, Some, ap, sym}
+use Rattle.std.proofs.Common.{subst, ◌∙◌}
 use Rattle.std.specs.Prelude.{IfSome, option_and_then}
 use Rattle.mc_theory.specs.Nets.{Interface}
 use Rattle.mc_theory.specs.Flights.{Copy}
@@ -19,13 +20,18 @@ loop-step-preserved c =
     let fewer = one-fewer cs i c._step-item.result c.loop-step-test.true in
     let from : from_lan n c.loop-step.sender ≡ Some p = sym c.from_lan.ensures ∙ c.in-Some.is in
     let own : c.copy.inside.lan ≡ l = ap (λ (x : Copy). x.lan) c.copy.view_is in
-    let other : (p == l) ≡ false = ap (λ q. p == q) (sym own) ∙ (sym c.eq.ensures ∙ c.if-eq.false) in
+    let other : (p == l) ≡ false = ap (λ q. p == q) (sym own)
+    ∙ (sym c.eq.ensures ∙ c.if-eq.false) in
     let next : c.sender_on-sender.result ≡ sender_on cs p =
-    c.sender_on-sender.ensures ∙ (ap (option_and_then (λ (x : Copy). x.sender)) (c.requires.firsts p) ∙ sender-first cs p) in
+    c.sender_on-sender.ensures
+    ∙ (ap (option_and_then (λ (x : Copy). x.sender)) (c.requires.firsts p)
+    ∙ sender-first cs p) in
     record {
       rest = ap (λ (x : Option Interface). meets n cs l k x) next
           ∙ (sym (meets-turn n cs l k c.loop-step.sender p from other)
           ∙ (ap (λ m. meets n cs l m c.loop-step.sender) (sym fewer) ∙ c.loop-step.invariant.rest));
-      listed = subst (λ (x : Option Interface). IfSome x (λ i. i.0 < length c.args.followed.now.domain.now.topology.routers)) (sym next)
-          (sender-among (λ i. i.0 < length c.args.followed.now.domain.now.topology.routers) cs p c.requires.senders);
+      listed = subst (λ (x : Option Interface). IfSome x
+          (λ i. i.0 < length c.args.followed.now.domain.now.topology.routers)) (sym next)
+          (sender-among (λ i. i.0 < length c.args.followed.now.domain.now.topology.routers) cs p
+          c.requires.senders);
     }

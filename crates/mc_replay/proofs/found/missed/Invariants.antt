@@ -7,4 +7,5 @@ use Rattle.mc_replay.specs.FlowNet.{flow_net}
 use Rattle.mc_replay.proofs.found.missed.Given as goal
 
 abbrev pub invariant-loop-number : goal.invariant-loop-number
-invariant-loop-number l = (copies : List Copy) → AreFirsts l.fn.firsts copies → missed (flow_net l.fn.followed) copies (below l.number) ≡ None
+invariant-loop-number l = (copies : List Copy) → AreFirsts l.fn.firsts copies
+    → missed (flow_net l.fn.followed) copies (below l.number) ≡ None

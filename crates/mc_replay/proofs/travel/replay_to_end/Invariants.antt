@@ -10,7 +10,8 @@ invariant-travel g l = record {
   domain : l.flight.domain ≡ l.fn.domain;
   flow : l.flight.flow ≡ l.fn.flow;
   looked : Looked l.firsts.items (length l.fn.domain.topology.lans) l.seen l.flight.flight.carried;
-  way : IsOnItsWay (net_of l.fn.domain l.fn.flow) (length l.fn.domain.topology.lans) (g.P.Picker.choices l.fn.picker) (start (net_of l.fn.domain l.fn.flow) l.fn.ttl)
+  way : IsOnItsWay (net_of l.fn.domain l.fn.flow) (length l.fn.domain.topology.lans)
+      (g.P.Picker.choices l.fn.picker) (start (net_of l.fn.domain l.fn.flow) l.fn.ttl)
       (g.P.Picker.choices l.picker) l.flight.flight l.events.items;
 }
 

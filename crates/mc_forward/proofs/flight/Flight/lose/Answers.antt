@@ -8,6 +8,8 @@ invariant_of-self c =
     let routers = length c.self.inside.net.domain.topology.routers in
     record {
       flow = c.self.invariant.flow;
-      routers = subst (AtRouters routers) (sym c.lose.ensures) (at-without routers c.args.index c.self.inside.copies c.self.invariant.routers);
-      listed = subst (AreListed (length c.self.inside.net.domain.topology.lans) routers) (sym c.lose.ensures) c.self.invariant.listed;
+      routers = subst (AtRouters routers) (sym c.lose.ensures)
+          (at-without routers c.args.index c.self.inside.copies c.self.invariant.routers);
+      listed = subst (AreListed (length c.self.inside.net.domain.topology.lans) routers)
+          (sym c.lose.ensures) c.self.invariant.listed;
     }

@@ -15,7 +15,11 @@ invariant_of-result c =
     let first : Copy = record { lan = c.source.result; ttl = c.args.ttl; sender = None } in
     record {
       flow = c.in_ok-net.ensures.rules;
-      routers = subst (AtRouters routers) (sym c.in_ok-put.ensures.ok) (at-put (net_in n) net first c.new-copies.result (at-none routers c.new-copies.result c.new-copies.ensures));
+      routers = subst (AtRouters routers) (sym c.in_ok-put.ensures.ok)
+          (at-put (net_in n) net first c.new-copies.result
+          (at-none routers c.new-copies.result c.new-copies.ensures));
       listed = subst (AreListed lans routers) (sym c.in_ok-put.ensures.ok)
-          (listed-put (net_in n) lans routers first c.new-copies.result (record { lan = c.source.ensures.listed; sender = tt }) (listed-none lans routers c.new-copies.result c.new-copies.ensures));
+          (listed-put (net_in n) lans routers first c.new-copies.result
+          (record { lan = c.source.ensures.listed; sender = tt })
+          (listed-none lans routers c.new-copies.result c.new-copies.ensures));
     }

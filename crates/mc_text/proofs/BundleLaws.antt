@@ -1,11 +1,12 @@
--- A bundle as a whole: what is read is written so, and what is written so is read.
-use Rattle.std.proofs.Common.{arith, ◌≡◌, ◌≢◌, ℕ, zero, suc, ◌+◌, ◌-◌, ◌≤◌, Bool, true, false, cond}
-use Rattle.std.proofs.Common.{List, [], ◌∷◌, ◌++◌, length, take, drop, Option, Some, None, Result}
-use Rattle.std.proofs.Common.{Ok, Err, refl, sym, ap, subst, ◌∙◌, append_assoc}
+-- A bundle as a whole: what is read is written so, and what is written so is read; and what a loop
+-- that reads part after part has read so far.
+use Rattle.std.proofs.Common.{arith, ◌≡◌, ◌≢◌, ℕ, zero, suc, ◌+◌, ◌-◌, ◌<◌, ◌≤◌, Bool, true, cond}
+use Rattle.std.proofs.Common.{false, List, [], ◌∷◌, ◌++◌, length, take, drop, Option, Some, None}
+use Rattle.std.proofs.Common.{Result, Ok, Err, refl, sym, ap, subst, ◌∙◌, append_assoc}
 use Rattle.std.specs.Prelude.{codes, IfOk}
 use Rattle.std.specs.List.{AllByRecursion, flat_map}
 use Rattle.std.specs.Str.{bytes_eq}
-use Rattle.std.proofs.lemmas.List.{take-append-drop, length-append}
+use Rattle.std.proofs.lemmas.List.{append-nil, take-append-drop, length-append}
 use Rattle.std.proofs.lemmas.Slice.Eq.{bytes_eq-Decides}
 use Rattle.mc_text.specs.declared.bundle_fault.BundleFault.{BundleFault}
 use Rattle.mc_text.specs.declared.bundle_fault.BundleFault.TheVariants as faults
@@ -14,185 +15,170 @@ use Rattle.mc_text.specs.Bundle.{IsBundle, max_part, max_bundle, max_parts}
 use Rattle.mc_text.specs.BundleReading.{Fails, Gives, Place, place_of, with_next, parts_from}
 use Rattle.mc_text.specs.BundleReading.{bundle_of}
 use Rattle.mc_text.specs.Steps.{◌>>=◌}
-use Rattle.mc_text.proofs.StepLemmas.{bind_ok, ok_is}
+use Rattle.mc_text.proofs.StepLemmas.{bind_ok, ok_is, test_ok, with_front, with_front-more}
 use Rattle.mc_text.proofs.BundlePlaces.{HasPart, IsEnd, IsFound, place_takes, end_again, part_again}
 
--- these parts and the line `end` stand here, within what may still come
-pub record AreParts (n room : ℕ) (rest : List ℕ) (parts : List PartText) : Type 0 where
-  pub names : AllByRecursion (λ part. IsPartName part.name) parts
-  pub sizes : AllByRecursion (λ part. length part.bytes ≤ max_part) parts
-  pub count : length parts ≤ n
-  pub size : length (flat_map part_spelling parts ++ codes "end\n") ≤ room
-  pub spelled : rest ≡ flat_map part_spelling parts ++ codes "end\n"
+-- the parts from a place on
+abbrev pub parts_at : Place → Result (List PartText) BundleFault
+parts_at place = parts_from place.parts place.room place.rest
 
--- no part stands where the end does
-ends : (n room : ℕ) (rest : List ℕ) → IsEnd (record { parts = n; room = room; rest = rest })
-    → AreParts n room rest []
-ends n room rest h =
-    record { names = tt; sizes = tt; count = omega arith; size = h.room; spelled = h.rest }
-
--- a part and the parts after it stand where the part does
-goes_on : (n room : ℕ) (rest : List ℕ) (part : PartText) (next : Place) (parts : List PartText)
-    → HasPart (record { parts = suc n; room = room; rest = rest }) part next
-    → AreParts n next.room next.rest parts → AreParts (suc n) room rest (part ∷ parts)
-goes_on n room rest part next parts h more = record {
-  names = (h.named, more.names);
-  sizes = (h.small, more.sizes);
-  count = omega (arith, more.count);
-  size = omega (
-    arith,
-    h.room,
-    more.size,
-    length-append (part_spelling part ++ flat_map part_spelling parts) (codes "end\n"),
-    length-append (part_spelling part) (flat_map part_spelling parts),
-    length-append (flat_map part_spelling parts) (codes "end\n"),
-  );
-  spelled = h.rest ∙ ap (λ (l : List ℕ). part_spelling part ++ l) more.spelled
-      ∙ sym (append_assoc (part_spelling part) (flat_map part_spelling parts) (codes "end\n"));
-}
-
--- where no part may come, what was found is the end
-none_left : (room : ℕ) (rest : List ℕ) (found : Option (PartText × Place))
-    → IsFound (record { parts = 0; room = room; rest = rest }) found
-    → IsEnd (record { parts = 0; room = room; rest = rest })
-none_left room rest None h = h
-none_left room rest (Some found) h = absurd (omega (arith, h.counted))
-
--- what with_next does, where the parts after the first are known to be read right
-next_takes : (n room : ℕ) (rest : List ℕ) (read : Place → Result (List PartText) BundleFault)
-    → ((next : Place) (parts : List PartText) → read next ≡ Ok parts
-    → AreParts n next.room next.rest parts)
-    → (found : Option (PartText × Place)) (parts : List PartText)
-    → IsFound (record { parts = suc n; room = room; rest = rest }) found
-    → with_next found read ≡ Ok parts → AreParts (suc n) room rest parts
-next_takes n room rest read more None parts h e =
-    subst (AreParts (suc n) room rest) (ok_is [] parts e) (ends (suc n) room rest h)
-next_takes n room rest read more (Some found) parts h e =
-    let others = bind_ok (read found.1) (λ ps. Ok (found.0 ∷ ps)) parts e in
-    subst (AreParts (suc n) room rest) (ok_is (found.0 ∷ others.0) parts others.2)
-    (goes_on n room rest found.0 found.1 others.0 h (more found.1 others.0 others.1))
-
--- what is read as parts stands there
-pub parts_take : (n room : ℕ) (rest : List ℕ) (parts : List PartText)
-    → parts_from n room rest ≡ Ok parts → AreParts n room rest parts
+-- they are the part there and those after it
+one_step : (n room : ℕ) (rest : List ℕ) (found : Result (Option (PartText × Place)) BundleFault)
+    → place_of (record { parts = n; room = room; rest = rest }) ≡ found
+    → parts_from n room rest ≡ (found >>= λ f. with_next f parts_at)
 unfolding parts_from
-parts_take zero room rest parts e =
-    let found = bind_ok (place_of (record { parts = 0; room = room; rest = rest })) (λ _. Ok [])
-    parts e in
-    let ended = none_left room rest found.0
-    (place_takes (record { parts = 0; room = room; rest = rest }) found.0 found.1) in
-    subst (AreParts 0 room rest) (ok_is [] parts found.2) (ends 0 room rest ended)
-parts_take (suc n) room rest parts e =
-    let found = bind_ok (place_of (record { parts = suc n; room = room; rest = rest }))
-    (λ found. with_next found (λ place. parts_from n place.room place.rest)) parts e in
-    next_takes n room rest (λ place. parts_from n place.room place.rest)
-    (λ next ps read. parts_take n next.room next.rest ps read) found.0 parts
-    (place_takes (record { parts = suc n; room = room; rest = rest }) found.0 found.1) found.2
+one_step zero room rest (Ok None) at = rw at refl
+one_step zero room rest (Ok (Some found)) at =
+    let h = place_takes (record { parts = 0; room = room; rest = rest }) (Some found) at in
+    absurd (omega (arith, h.counted))
+one_step zero room rest (Err fault) at = rw at refl
+one_step (suc n) room rest (Ok None) at = rw at refl
+one_step (suc n) room rest (Ok (Some found)) at =
+    let h = place_takes (record { parts = suc n; room = room; rest = rest }) (Some found) at in
+    let left : found.1.parts ≡ n = omega (arith, h.counted) in rw (at, left) refl
+one_step (suc n) room rest (Err fault) at = rw at refl
 
--- the parts that stand there are read
-pub parts_again : (n room : ℕ) (rest : List ℕ) (parts : List PartText) → AreParts n room rest parts
-    → parts_from n room rest ≡ Ok parts
-unfolding parts_from
-parts_again zero room rest [] h =
-    ap (λ (r : Result (Option (PartText × Place)) BundleFault). r >>= λ _. Ok [])
-    (end_again (record { parts = 0; room = room; rest = rest })
-    (record { room = h.size; rest = h.spelled }))
-parts_again zero room rest (part ∷ parts) h = absurd (omega (arith, h.count))
-parts_again (suc n) room rest [] h =
-    ap (λ (r : Result (Option (PartText × Place)) BundleFault). r >>= λ found. with_next found
-    (λ place. parts_from n place.room place.rest))
-    (end_again (record { parts = suc n; room = room; rest = rest })
-    (record { room = h.size; rest = h.spelled }))
-parts_again (suc n) room rest (part ∷ parts) h =
-    let left = flat_map part_spelling parts ++ codes "end\n" in
-    let next : Place =
-    record { parts = n; room = room - length (part_spelling part); rest = left } in
-    let whole : length (flat_map part_spelling (part ∷ parts) ++ codes "end\n")
-    ≡ length (part_spelling part) + length left =
-    omega (
-      arith,
-      length-append (part_spelling part ++ flat_map part_spelling parts)
-          (codes "end\n"),
-      length-append (part_spelling part) (flat_map part_spelling parts),
-      length-append (flat_map part_spelling parts) (codes "end\n"),
-    ) in
-    let first : HasPart (record { parts = suc n; room = room; rest = rest }) part next = record {
+-- ---- a loop over the parts
+
+-- each part leaves fewer that may come
+pub fewer : (place : Place) (part : PartText) (next : Place)
+    → place_of place ≡ Ok (Some (part, next)) → next.parts < place.parts
+fewer place part next e = omega (arith, (place_takes place (Some (part, next)) e).counted)
+
+module _ (front : List PartText) (place : Place) (total : Result (List PartText) BundleFault) where
+  -- a part that is read moves from what comes to what was read
+  pub goes_on : (part : PartText) (next : Place) → place_of place ≡ Ok (Some (part, next))
+      → with_front front (parts_at place) ≡ total
+      → with_front (front ++ part ∷ []) (parts_at next) ≡ total
+  goes_on part next e so_far =
+      sym (with_front-more front (part ∷ []) (parts_at next))
+      ∙ ap (with_front front) (sym (one_step place.parts place.room place.rest _ e)) ∙ so_far
+
+  -- at the end what was read is the whole
+  pub ends : place_of place ≡ Ok None → with_front front (parts_at place) ≡ total
+      → total ≡ Ok front
+  ends e so_far =
+      sym so_far ∙ ap (with_front front) (one_step place.parts place.room place.rest _ e)
+      ∙ ap (λ (ps : List PartText). Ok ps) (append-nil front)
+
+  -- a fault at a place is one of reading the whole
+  pub fails : (fault : BundleFault) → Fails fault (place_of place)
+      → with_front front (parts_at place) ≡ total → Fails fault total
+  fails faults.Memory h so_far = tt
+  fails fault h so_far =
+      sym so_far ∙ ap (with_front front) (one_step place.parts place.room place.rest _ h)
+
+-- ---- the parts of a place
+
+-- these parts and the line `end` stand at the place, within what may still come
+record AreParts (place : Place) (parts : List PartText) : Type 0 where
+  names : AllByRecursion (λ part. IsPartName part.name) parts
+  sizes : AllByRecursion (λ part. length part.bytes ≤ max_part) parts
+  count : length parts ≤ place.parts
+  size : length (flat_map part_spelling parts ++ codes "end\n") ≤ place.room
+  spelled : place.rest ≡ flat_map part_spelling parts ++ codes "end\n"
+
+-- how much a part and those after it take
+length-part_first : (part : PartText) (parts : List PartText)
+    → length (flat_map part_spelling (part ∷ parts) ++ codes "end\n")
+    ≡ length (part_spelling part) + length (flat_map part_spelling parts ++ codes "end\n")
+length-part_first part parts = simp length-append (omega arith)
+
+-- what is read at a place and after it stands there
+parts_take : (n : ℕ) (place : Place) (found : Option (PartText × Place)) (parts : List PartText)
+    → place.parts ≡ n → place_of place ≡ Ok found → with_next found parts_at ≡ Ok parts
+    → AreParts place parts
+parts_take n place None parts is at e =
+    let h : IsEnd place = place_takes place None at in
+    subst (AreParts place) (ok_is [] parts e) (record {
+      names = tt;
+      sizes = tt;
+      count = omega arith;
+      size = h.room;
+      spelled = h.rest;
+    })
+parts_take zero place (Some found) parts is at e =
+    absurd (omega (arith, (place_takes place (Some found) at).counted))
+parts_take (suc n) place (Some (part, next)) parts is at e =
+    let h = place_takes place (Some (part, next)) at in
+    let others = bind_ok (parts_at next) _ parts e in
+    let found = bind_ok (place_of next) _ others.0
+    (sym (one_step next.parts next.room next.rest _ refl) ∙ others.1) in
+    let more = parts_take n next found.0 others.0 (omega (arith, h.counted)) found.1 found.2 in
+    subst (AreParts place) (ok_is (part ∷ others.0) parts others.2) (record {
+      names = (h.named, more.names);
+      sizes = (h.small, more.sizes);
+      count = omega (arith, h.counted, more.count);
+      size = omega (arith, h.room, more.size, length-part_first part others.0);
+      spelled = h.rest ∙ ap (λ (l : List ℕ). part_spelling part ++ l) more.spelled
+          ∙ sym (append_assoc (part_spelling part) (flat_map part_spelling others.0) _);
+    })
+
+-- the parts that stand at a place are read
+parts_again : (place : Place) (parts : List PartText) → AreParts place parts
+    → parts_at place ≡ Ok parts
+parts_again place [] h = one_step place.parts place.room place.rest _
+    (end_again place (record { room = h.size; rest = h.spelled }))
+parts_again place (part ∷ parts) h =
+    let taken = length-part_first part parts in
+    let next : Place = record {
+      parts = place.parts - 1;
+      room = place.room - length (part_spelling part);
+      rest = flat_map part_spelling parts ++ codes "end\n";
+    } in
+    let first : HasPart place part next = record {
       named = h.names.0;
       small = h.sizes.0;
-      counted = refl;
-      room = omega (arith, whole, h.size);
-      rest = h.spelled
-          ∙ append_assoc (part_spelling part) (flat_map part_spelling parts) (codes "end\n");
+      counted = omega (arith, h.count);
+      room = omega (arith, taken, h.size);
+      rest = h.spelled ∙ simp append_assoc;
     } in
-    let more : AreParts n next.room left parts =
-    record {
+    let more = parts_again next parts (record {
       names = h.names.1;
       sizes = h.sizes.1;
       count = omega (arith, h.count);
-      size = omega (arith, whole, h.size);
+      size = omega (arith, taken, h.size);
       spelled = refl;
-    } in
-    ap (λ (r : Result (Option (PartText × Place)) BundleFault). r >>= λ found. with_next found
-    (λ place. parts_from n place.room place.rest))
-    (part_again (record { parts = suc n; room = room; rest = rest }) part next first)
-    ∙ ap (λ (r : Result (List PartText) BundleFault). r >>= λ ps. Ok (part ∷ ps))
-    (parts_again n next.room left parts more)
+    }) in
+    one_step place.parts place.room place.rest _ (part_again place part next first)
+    ∙ rw more refl
 
 -- ---- the whole text
-
--- a step behind a test that was met
-let_through : {A : Type 0} (b : Bool) (r : Result A BundleFault) (d : BundleFault) (y : A)
-    → cond b r (Err d) ≡ Ok y → (b ≡ true) × (r ≡ Ok y)
-let_through true r d y e = (refl, e)
-let_through false r d y e = absurd cc
 
 -- what is read as a bundle is one of these parts
 pub bundle_takes : (text : List ℕ) (parts : List PartText) → bundle_of text ≡ Ok parts
     → IsBundle text parts
 unfolding bundle_of
 bundle_takes text parts e =
-    let magic = let_through (bytes_eq (take 17 text) (codes "mcaudit bundle 1\n"))
-    (parts_from max_parts (max_bundle - 17) (drop 17 text)) faults.NoMagic parts e in
-    let front : take 17 text ≡ codes "mcaudit bundle 1\n" =
-    (bytes_eq-Decides (take 17 text) (codes "mcaudit bundle 1\n")).0 magic.0 in
-    let all = parts_take max_parts (max_bundle - 17) (drop 17 text) parts magic.1 in
+    let magic = test_ok (bytes_eq (take 17 text) (codes "mcaudit bundle 1\n")) _ _ parts e in
+    let front = (bytes_eq-Decides (take 17 text) (codes "mcaudit bundle 1\n")).0 magic.0 in
+    let found = bind_ok (place_of _) _ parts (sym (one_step _ _ _ _ refl) ∙ magic.1) in
+    let all = parts_take max_parts _ found.0 parts refl found.1 found.2 in
     record {
       names = all.names;
       limits = record {
         sizes = all.sizes;
         count = all.count;
-        size = omega (
-          arith,
-          all.size,
-          length-append (codes "mcaudit bundle 1\n")
-              (flat_map part_spelling parts ++ codes "end\n"),
-        );
+        size = omega (arith, all.size);
       };
-      spelled = sym (take-append-drop 17 text) ∙ ap (λ (l : List ℕ). l ++ drop 17 text) front
-          ∙ ap (λ (l : List ℕ). codes "mcaudit bundle 1\n" ++ l) all.spelled;
+      spelled = sym (take-append-drop 17 text) ∙ rw (front, all.spelled) refl;
     }
 
 -- a bundle of these parts is read as them
 pub bundle_again : (text : List ℕ) (parts : List PartText) → IsBundle text parts
     → bundle_of text ≡ Ok parts
 unfolding bundle_of
-bundle_again text parts h =
-    let all : AreParts max_parts (max_bundle - 17) (flat_map part_spelling parts ++ codes "end\n")
-    parts = record {
-      names = h.names;
-      sizes = h.limits.sizes;
-      count = h.limits.count;
-      size = omega (
-        arith,
-        h.limits.size,
-        length-append (codes "mcaudit bundle 1\n")
-            (flat_map part_spelling parts ++ codes "end\n"),
-      );
-      spelled = refl;
-    } in
-    ap bundle_of h.spelled
-    ∙ parts_again max_parts (max_bundle - 17) (flat_map part_spelling parts ++ codes "end\n") parts
-    all
+bundle_again text parts h = rw h.spelled (parts_again (record {
+  parts = max_parts;
+  room = max_bundle - 17;
+  rest = flat_map part_spelling parts ++ codes "end\n";
+}) parts (record {
+  names = h.names;
+  sizes = h.limits.sizes;
+  count = h.limits.count;
+  size = omega (arith, h.limits.size);
+  spelled = refl;
+}))
 
 -- a text is the bundle of one list of parts at most
 pub same_parts : (text : List ℕ) (ps qs : List PartText) → IsBundle text ps → IsBundle text qs
@@ -205,18 +191,12 @@ pub found_bundle : (text : List ℕ) (r : Result (List PartText) BundleFault)
 found_bundle text (Ok parts) h = bundle_takes text parts h
 found_bundle text (Err fault) h = tt
 
--- what is given is the very result, unless memory ran out
-failed_is : (fault : BundleFault) (read : Result (List PartText) BundleFault) → Fails fault read
-    → fault ≢ faults.Memory → Err fault ≡ read
-failed_is faults.Memory read h other = absurd (other refl)
-failed_is fault read h other = sym h
-
 -- an answer that is not want of memory is what reading gives
-pub given_is : (r read : Result (List PartText) BundleFault) → Gives (λ parts. parts) r read
+given_is : (r read : Result (List PartText) BundleFault) → Gives (λ parts. parts) r read
     → r ≢ Err faults.Memory → r ≡ read
 given_is (Ok parts) read h other = sym h
-given_is (Err fault) read h other =
-    failed_is fault read h (λ e. other (ap (λ (f : BundleFault). Err f) e))
+given_is (Err faults.Memory) read h other = absurd (other refl)
+given_is (Err fault) read h other = sym h
 
 -- a bundle's parts are what such a reader answers
 pub only_bundle : (text : List ℕ) (r : Result (List PartText) BundleFault)

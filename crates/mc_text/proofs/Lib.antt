@@ -1,6 +1,4 @@
-pub mod LawLemmas
 pub mod LineLemmas
-pub mod WordLemmas
 pub mod ResultLemmas
 pub mod StepLemmas
 pub mod AddrLemmas
@@ -12,8 +10,6 @@ pub mod BundleWords
 pub mod BundleLines
 pub mod BundlePlaces
 pub mod BundleLaws
-pub mod BundleCode
-pub mod BundleLoop
 pub mod Pieces
 pub mod BundleLimits
 pub mod ReadingOn

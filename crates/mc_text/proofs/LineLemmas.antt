@@ -1,19 +1,45 @@
--- The first line of a text, and the lines after it.
-use Rattle.std.proofs.Common.{◌≡◌, ℕ, ◌+◌, ◌<◌, ◌≤◌, Bool, true, false, eqb, List, [], ◌∷◌}
-use Rattle.std.proofs.Common.{length, take, drop, All, Some, None, refl, ap, subst, ◌∙◌, arith}
+-- The lines of a text and the words of a line: what stands between line feeds, and between spaces.
+use Rattle.std.proofs.Common.{◌≡◌, ◌≢◌, ℕ, ◌+◌, ◌<◌, Bool, true, false, not, eqb, cond, List, []}
+use Rattle.std.proofs.Common.{◌∷◌, ◌++◌, length, take, drop, get_or, Option, Some, None, unwrap_or}
+use Rattle.std.proofs.Common.{refl, sym, ap, ◌∙◌, arith, append_assoc, length-take, one-add}
 use Rattle.std.specs.Prelude.{position}
-use Rattle.std.specs.List.{slice_split, position_or_len}
-use Rattle.std.proofs.lemmas.Bool.{ltb-true, ltb-false, ne_eqb}
+use Rattle.std.specs.List.{slice_split, onto_first, join_with_byte, position_or_len, AllByRecursion}
+use Rattle.std.proofs.lemmas.Bool.{ltb-true, ltb-false, eqb-false, ne_eqb, not-true}
+use Rattle.std.proofs.lemmas.Bool.Decides.{nat_tests}
 use Rattle.std.proofs.lemmas.Option.{cond_some}
+use Rattle.std.proofs.lemmas.List.{append-nil, take_all, drop_all, drop_more}
+use Rattle.std.proofs.lemmas.List.Concat.{flat_map-cons}
 use Rattle.std.proofs.lemmas.List.Elements.{All-from_get_or}
+use Rattle.std.proofs.lemmas.List.Quantifiers.{position-Some}
 use Rattle.std.proofs.lemmas.List.Splits.{slice_split_first, slice_split_none, length-slice_split}
+use Rattle.std.proofs.lemmas.List.Splits.{join_with_byte-slice_split}
 use Rattle.std.proofs.lemmas.List.Sums.{fails_before_first}
-use Rattle.mc_text.specs.Lines.{numbered, lines_from}
+use Rattle.mc_text.specs.Lines.{numbered, lines_from, lines_of, joined, HasNoLineFeed}
+use Rattle.mc_text.specs.Lines.{OnlyLastMayBeUnended}
+use Rattle.mc_text.specs.Words.{words_of}
 use Rattle.mc_text.proofs.StepLemmas.{none_chosen}
 
--- whether a byte is a line feed
-abbrev is_line_feed : ℕ → Bool
-is_line_feed b = eqb b 10
+-- a text with a byte is not empty
+nonempty : (text : List ℕ) → 0 < length text → eqb (length text) 0 ≡ false
+nonempty text some = ne_eqb (length text) 0 (λ e. omega (arith, e))
+
+-- where the byte is found, the first part ends there
+cut_first : (c : ℕ) (text : List ℕ) (end : ℕ) → position (λ b. eqb b c) text ≡ Some end
+    → slice_split (λ b. eqb b c) text ≡ take end text
+    ∷ slice_split (λ b. eqb b c) (drop (end + 1) text)
+cut_first c text end found =
+    let at = cond_some _ _ _ found in
+    rw (← at.1) (slice_split_first (λ b. eqb b c) text 0 (ltb-true _ _ at.0))
+
+-- where it is not found, the text is one part
+one_part : (c : ℕ) (text : List ℕ) → position (λ b. eqb b c) text ≡ None
+    → slice_split (λ b. eqb b c) text ≡ text ∷ []
+one_part c text none =
+    let past = ltb-false _ _ (none_chosen _ _ none) in
+    slice_split_none _ text (All-from_get_or (λ b. eqb b c ≡ false) text 0
+    (λ k lt. fails_before_first (λ b. eqb b c) text k 0 (omega (arith, past))))
+
+-- ---- lines
 
 -- a part with parts after it is an ended line
 numbered_more : (n : ℕ) (part : List ℕ) (parts : List (List ℕ)) → 0 < length parts
@@ -27,24 +53,129 @@ pub lines_from_ended : (n : ℕ) (text : List ℕ) (end : ℕ) → position (λ 
     → lines_from n text ≡ record { number = n; bytes = take end text; ended = true }
     ∷ lines_from (n + 1) (drop (end + 1) text)
 lines_from_ended n text end found =
-    let at = cond_some _ _ _ found in
-    let within : position_or_len is_line_feed text < length text = ltb-true _ _ at.0 in
-    let rest = drop (position_or_len is_line_feed text + 1) text in
-    let first = slice_split_first is_line_feed text 0 within in
-    let some : 0 < length (slice_split is_line_feed rest) =
-    omega (arith, length-slice_split is_line_feed rest) in
-    let whole = ap (numbered n) first ∙ numbered_more n _ _ some in
-    subst (λ (e : ℕ). lines_from n text ≡ record { number = n; bytes = take e text; ended = true }
-    ∷ lines_from (n + 1) (drop (e + 1) text)) at.1 whole
+    let more = length-slice_split (λ b. eqb b 10) (drop (end + 1) text) in
+    ap (numbered n) (cut_first 10 text end found)
+    ∙ numbered_more n (take end text) _ (omega (arith, more))
 
 -- where there is no line feed the text is one line that none ends
 pub lines_from_unended : (n : ℕ) (text : List ℕ) → position (λ b. eqb b 10) text ≡ None
     → 0 < length text → lines_from n text ≡ record { number = n; bytes = text; ended = false } ∷ []
-lines_from_unended n text none some =
-    let past : length text ≤ position_or_len is_line_feed text =
-    ltb-false _ _ (none_chosen _ _ none) in
-    let each : All (λ b. is_line_feed b ≡ false) text =
-    All-from_get_or (λ b. is_line_feed b ≡ false) text 0
-    (λ k lt. fails_before_first is_line_feed text k 0 (omega arith)) in
-    ap (numbered n) (slice_split_none is_line_feed text each)
-    ∙ rw (ne_eqb (length text) 0 (λ e. omega (arith, e)))
+lines_from_unended n text none some = rw (one_part 10 text none, nonempty text some) refl
+
+-- a last part with a byte is a line that none ends
+last_line : (n b : ℕ) (part : List ℕ) → numbered n ((b ∷ part) ∷ [])
+    ≡ record { number = n; bytes = b ∷ part; ended = false } ∷ []
+last_line n b part = rw (nonempty (b ∷ part) (omega arith)) refl
+
+-- the lines of parts make their text
+joined-numbered : (n : ℕ) (parts : List (List ℕ))
+    → joined (numbered n parts) ≡ join_with_byte 10 parts
+joined-numbered n [] = refl
+joined-numbered n ([] ∷ []) = refl
+joined-numbered n ((b ∷ part) ∷ []) = simp (last_line, append-nil)
+joined-numbered n (part ∷ next ∷ more) =
+    let rest = joined-numbered (n + 1) (next ∷ more) in simp (flat_map-cons, append_assoc, rest)
+
+-- the lines of a text make it
+pub joined-lines_of : (text : List ℕ) → joined (lines_of text) ≡ text
+joined-lines_of text =
+    joined-numbered 1 (slice_split (λ b. eqb b 10) text) ∙ join_with_byte-slice_split 10 text
+
+-- a part between line feeds has none
+abbrev IsWhole : List ℕ → Type 0
+IsWhole part = AllByRecursion (λ b. b ≢ 10) part
+
+-- a byte before the first part, or a line feed before it, leaves the parts whole
+split_whole : (b : ℕ) (parts : List (List ℕ)) (t : Bool) → eqb b 10 ≡ t
+    → AllByRecursion IsWhole parts → AllByRecursion IsWhole (cond t ([] ∷ parts) (onto_first b parts))
+split_whole b parts true e whole = (tt, whole)
+split_whole b [] false e whole = ((eqb-false b 10 e, tt), tt)
+split_whole b (part ∷ parts) false e whole = ((eqb-false b 10 e, whole.0), whole.1)
+
+-- the parts between line feeds have none
+parts_whole : (text : List ℕ) → AllByRecursion IsWhole (slice_split (λ b. eqb b 10) text)
+parts_whole [] = (tt, tt)
+parts_whole (b ∷ text) = split_whole b _ (eqb b 10) refl (parts_whole text)
+
+-- the lines of parts have no line feed within
+numbered_whole : (n : ℕ) (parts : List (List ℕ)) → AllByRecursion IsWhole parts
+    → AllByRecursion HasNoLineFeed (numbered n parts)
+numbered_whole n [] whole = tt
+numbered_whole n ([] ∷ []) whole = tt
+numbered_whole n ((b ∷ part) ∷ []) whole = rw (last_line n b part) whole
+numbered_whole n (part ∷ next ∷ more) whole =
+    (whole.0, numbered_whole (n + 1) (next ∷ more) whole.1)
+
+-- nor have those of a text
+pub lines_whole : (text : List ℕ) → AllByRecursion HasNoLineFeed (lines_of text)
+lines_whole text = numbered_whole 1 _ (parts_whole text)
+
+-- only the last line of parts may be unended
+numbered_ended : (n : ℕ) (parts : List (List ℕ)) → OnlyLastMayBeUnended (numbered n parts)
+numbered_ended n [] = tt
+numbered_ended n ([] ∷ []) = tt
+numbered_ended n ((b ∷ part) ∷ []) = rw (last_line n b part) (omega arith)
+numbered_ended n (part ∷ [] ∷ []) = tt
+numbered_ended n (part ∷ (b ∷ next) ∷ []) = rw (last_line (n + 1) b next) (refl, omega arith)
+numbered_ended n (part ∷ next ∷ third ∷ more) = (refl, numbered_ended (n + 1) (next ∷ third ∷ more))
+
+-- and so it is of a text
+pub lines_ended : (text : List ℕ) → OnlyLastMayBeUnended (lines_of text)
+lines_ended text = numbered_ended 1 (slice_split (λ b. eqb b 10) text)
+
+-- ---- words
+
+-- whether a byte is none of a space
+abbrev is_in_word : ℕ → Bool
+is_in_word b = not (eqb b 32)
+
+-- a space before a line changes no word
+skips_one : (b : ℕ) (line : List ℕ) (t : Bool) → eqb b 32 ≡ t
+    → words_of (drop (position_or_len is_in_word line) line) ≡ words_of line
+    → words_of (drop (position_or_len is_in_word (b ∷ line)) (b ∷ line)) ≡ words_of (b ∷ line)
+skips_one b line true e later = rw (e, one-add) later
+skips_one b line false e later =
+    let none : position_or_len is_in_word (b ∷ line) ≡ 0 = rw e refl in rw none refl
+
+-- spaces before a word don't matter
+words_of-drop_spaces : (line : List ℕ)
+    → words_of (drop (position_or_len is_in_word line) line) ≡ words_of line
+words_of-drop_spaces [] = refl
+words_of-drop_spaces (b ∷ line) = skips_one b line (eqb b 32) refl (words_of-drop_spaces line)
+
+-- the first word of a line that begins with one: up to the next space, or to the end
+first_word : (line : List ℕ) (o : Option ℕ) → position (λ b. eqb b 32) line ≡ o → 0 < length line
+    → eqb (get_or line 0 0) 32 ≡ false
+    → words_of line ≡ take (unwrap_or o (length line)) line
+    ∷ words_of (drop (unwrap_or o (length line)) line)
+first_word line None none some begins =
+    let whole = take_all (length line) line (omega arith) in
+    let past = drop_all (length line) line (omega arith) in
+    rw (whole, past, one_part 32 line none, nonempty line some) refl
+first_word line (Some end) at some begins =
+    let space = position-Some (λ b. eqb b 32) line end 0 at in
+    let rest : words_of (drop end line) ≡ words_of (drop (end + 1) line) =
+    rw (drop_more line end 0 space.0, space.1) refl in
+    let within : 0 < end = grind (arith, nat_tests, space) in
+    let word = nonempty (take end line) (omega (arith, space.0, length-take end line)) in
+    rw (cut_first 32 line end at, rest, word) refl
+
+-- the first word of a line: from the first byte that is no space up to the next space, or the end
+pub words_of-word : (line from : List ℕ) (start end : ℕ)
+    → position (λ b. not (eqb b 32)) line ≡ Some start → from ≡ drop start line
+    → end ≡ unwrap_or (position (λ b. eqb b 32) from) (length from)
+    → words_of line ≡ take end from ∷ words_of (drop end from)
+words_of-word line from start end found from-is end-is =
+    let at = position-Some (λ b. not (eqb b 32)) line start 0 found in
+    let byte = from-is ∙ drop_more line start 0 at.0 in
+    let begins : eqb (get_or from 0 0) 32 ≡ false = rw byte (not-true _ at.1) in
+    let some : 0 < length from = rw byte (omega arith) in
+    let skipped = words_of-drop_spaces line in
+    rw (← skipped, (cond_some _ _ _ found).1, ← from-is, end-is)
+    (first_word from _ refl some begins)
+
+-- a line in which nothing but spaces stands has no word
+pub words_of-spaces : (line : List ℕ) → position (λ b. not (eqb b 32)) line ≡ None
+    → words_of line ≡ []
+words_of-spaces line none = sym (words_of-drop_spaces line)
+    ∙ ap words_of (drop_all _ line (ltb-false _ _ (none_chosen _ _ none)))

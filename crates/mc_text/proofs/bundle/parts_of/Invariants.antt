@@ -4,7 +4,7 @@ use Rattle.mc_text.specs.BundleReading.{parts_from}
 use Rattle.mc_text.specs.PartView.{part_texts}
 use Rattle.mc_text.specs.PlaceView.{place_text}
 use Rattle.mc_text.proofs.StepLemmas.{with_front}
-use Rattle.mc_text.proofs.BundleLoop.{parts_at}
+use Rattle.mc_text.proofs.BundleLaws.{parts_at}
 use Rattle.mc_text.proofs.bundle.parts_of.Given as goal
 
 abbrev pub invariant-places : goal.invariant-places

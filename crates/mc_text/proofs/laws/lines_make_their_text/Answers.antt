@@ -1,4 +1,4 @@
-use Rattle.mc_text.proofs.LawLemmas.{joined-lines_of}
+use Rattle.mc_text.proofs.LineLemmas.{joined-lines_of}
 use Rattle.mc_text.proofs.laws.lines_make_their_text.Goals as goal
 
 pub returns : goal.returns

@@ -1,25 +1,33 @@
-use Rattle.std.proofs.Common.{◌+◌, ◌∙◌, sym}
+use Rattle.std.proofs.Common.{◌+◌, refl, sym}
+use Rattle.std.proofs.lemmas.Bool.{and_right, and_from}
 use Rattle.std.proofs.lemmas.List.{take_rest}
-use Rattle.mc_text.proofs.BundleCode.{no_space_said, no_name_said, no_length_said, both_said}
+use Rattle.mc_text.specs.BundleReading.{words_said}
+use Rattle.mc_text.proofs.BundleWords.{not_named, test-from_IsPartName}
 use Rattle.mc_text.proofs.part_line.words_said.Goals as goal
 
 pub returns-in_err-space : goal.returns-in_err-space
-returns-in_err-space c = c.from_residual.ensures
-    ∙ no_space_said c.args.words.now c.in_err-space.ensures
+unfolding words_said
+returns-in_err-space c = rw (c.from_residual.ensures, ← c.in_err-space.ensures) refl
 
 pub returns-in_err-name : goal.returns-in_err-name
-returns-in_err-name c = c.from_residual-in_err-name.ensures
-    ∙ no_name_said c.args.words.now c.in_ok-space.space c.in_ok-space.ensures
-    c.in_err-name.ensures.only
+unfolding words_said
+returns-in_err-name c =
+    let refused = not_named _ c.in_err-name.ensures.only in
+    rw (c.from_residual-in_err-name.ensures, ← c.in_ok-space.ensures, refused) refl
 
 pub returns-then-not-is_length : goal.returns-then-not-is_length
+unfolding words_said
 returns-then-not-is_length c =
-    no_length_said c.args.words.now _ c.in_ok-space.space c.in_ok-space.ensures
-    (take_rest c.args.words.now (c.in_ok-space.space + 1)) (sym c.if-not-is_length.ensures)
+    let number = take_rest c.args.words.now (c.in_ok-space.space + 1) in
+    let refused = rw number at c.if-not-is_length.ensures in
+    rw (← c.in_ok-space.ensures, and_right _ _ (sym refused)) refl
 
 pub returns : goal.returns
+unfolding words_said
 returns c =
-    both_said c.args.words.now _ _ c.in_ok-space.space _ c.in_ok-space.ensures
-    c.in_ok-name.ensures.found c.in_ok-name.ensures.is_name
-    (take_rest c.args.words.now (c.in_ok-space.space + 1)) (sym c.if-not-is_length.ensures)
-    c.length_of.ensures
+    let number = take_rest c.args.words.now (c.in_ok-space.space + 1) in
+    let long = rw number at c.if-not-is_length.ensures in
+    let name = c.in_ok-name.ensures.found in
+    let named = rw name at (test-from_IsPartName c.in_ok-name.name c.in_ok-name.ensures.is_name) in
+    rw (c.length_of.ensures, number, ← c.in_ok-space.ensures, and_from _ _ named (sym long), name)
+    refl

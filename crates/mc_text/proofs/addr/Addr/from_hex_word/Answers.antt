@@ -1,8 +1,10 @@
-use Rattle.mc_text.proofs.AddressReading.{address_of_word-is}
+use Rattle.mc_text.proofs.StepLemmas.{one_answer}
+use Rattle.mc_text.proofs.AddressReading.{address_of_word-found, address_of_word-again}
 use Rattle.mc_text.proofs.addr.Addr.from_hex_word.Goals as goal
 
 pub returns-clause-value : goal.returns-clause-value
 returns-clause-value c =
     let read = c.address_shown.ensures in
-    address_of_word-is c.args.order c.args.word.now c.address_shown.result read.found read.in_range
-    read.only
+    one_answer _ _ _ _ read.in_range read.found read.only
+    (address_of_word-found c.args.order c.args.word.now)
+    (address_of_word-again c.args.order c.args.word.now)

@@ -1,4 +1,4 @@
-use Rattle.mc_text.proofs.BundleLaws.{found_bundle, only_bundle, given_is}
+use Rattle.mc_text.proofs.BundleLaws.{found_bundle, only_bundle}
 use Rattle.mc_text.proofs.bundle.Bundle.read.Goals as goal
 
 pub returns-clause-found : goal.returns-clause-found
@@ -6,6 +6,3 @@ returns-clause-found c = found_bundle c.args.text.now c.from_text.result c.from_
 
 pub returns-clause-only : goal.returns-clause-only
 returns-clause-only c = only_bundle c.args.text.now c.from_text.result c.from_text.ensures
-
-pub returns-clause-fault : goal.returns-clause-fault
-returns-clause-fault c = given_is c.from_text.result _ c.from_text.ensures

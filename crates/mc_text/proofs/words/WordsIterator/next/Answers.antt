@@ -1,7 +1,7 @@
 use Rattle.std.proofs.Common.{◌≡◌, ◌∷◌, length, sym, ap, ◌∙◌, arith}
 use Rattle.std.proofs.lemmas.Slice.{between_to_end}
 use Rattle.mc_text.specs.Words.{words_of}
-use Rattle.mc_text.proofs.WordLemmas.{words_of-word, words_of-spaces}
+use Rattle.mc_text.proofs.LineLemmas.{words_of-word, words_of-spaces}
 use Rattle.mc_text.proofs.words.WordsIterator.next.Goals as goal
 use Rattle.mc_text.proofs.words.WordsIterator.next.Goals.{After-split_at}
 

@@ -11,5 +11,7 @@ pub mod BundleLines
 pub mod BundlePlaces
 pub mod BundleLaws
 pub mod Pieces
+mod FirstPlace
+mod NumberSteps
 pub mod BundleLimits
 pub mod ReadingOn

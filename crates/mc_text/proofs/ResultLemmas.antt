@@ -1,20 +1,12 @@
--- What is known of a value, or of its lack, behind `ok()`; and that digits are text.
-use Rattle.std.proofs.Common.{◌≡◌, ℕ, List, Some, None, Result, Ok, Err, MatchResult, subst}
+-- What is known of a value, or of its lack, behind `ok()`.
+use Rattle.std.proofs.Common.{◌≡◌, Some, None, Result, Ok, Err, MatchResult, subst}
 use Rattle.std.specs.Result.{result_ok}
-use Rattle.std.specs.Str.{IsUtf8}
-use Rattle.std.specs.Str.Parse.{AllDigits}
-use Rattle.std.proofs.lemmas.Str.{IsUtf8-from_ascii}
-use Rattle.std.proofs.lemmas.Fmt.{IsAscii-from_digits}
 
 -- what an `Err` says, where the value is none
 pub at_err : {S E : Type 0} (P : S → Type 0) (Q : E → Type 0) (bad : Type 0) (r : Result S E)
     → result_ok r ≡ None → MatchResult r P (λ e. ¬ bad × Q e) → ¬ bad
 at_err P Q bad (Ok s) none h = absurd cc
 at_err P Q bad (Err e) none h = h.0
-
--- digits are text
-pub digits_are_text : (word : List ℕ) → AllDigits 10 word → IsUtf8 word
-digits_are_text word digits = IsUtf8-from_ascii word (IsAscii-from_digits word digits)
 
 -- what an `Ok` says, where the value is x
 pub at_ok : {S E : Type 0} (P : S → Type 0) (Q : E → Type 0) (r : Result S E) (x : S)

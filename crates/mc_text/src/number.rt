@@ -1,9 +1,9 @@
 //! Decimal numbers.
 
-ghost use Rattle.std.specs.Prelude.{◌≡◌, ℕ, ◌≤◌, IfSome, Some};
+ghost use Rattle.std.specs.Prelude.{◌≡◌, ℕ, ◌+◌, ◌*◌, ◌^◌, ◌<◌, ◌≤◌, IsTrue, IfSome, Some};
+ghost use Rattle.std.specs.Option.{SomeIff};
+ghost use Rattle.std.specs.Char.{digit_value, is_ascii_digit};
 ghost use Rattle.mc_text.specs.Number.{IsDecimal, number_up_to};
-
-use std::str;
 
 /// Reads one or more decimal digits whose number is at most `max`. Leading zeros are allowed, however
 /// many, and nothing else stands in the word.
@@ -22,10 +22,22 @@ fn number_written(word: &[u8], max: u64) -> Option<u64>
     ensures bound { IfSome result (λ n. n ≤ max) }
     ensures only { (n : ℕ) → IsDecimal word.now n → n ≤ max → result ≡ Some n }
 {
-    // `parse` would take a sign.
-    if !word.first()?.is_ascii_digit() {
+    if word.is_empty() {
         return None;
     }
-    let number: u64 = str::from_utf8(word).ok()?.parse().ok()?;
+    let mut number = 0;
+    for byte in word {
+        number = with_digit(number, *byte)?;
+    }
     (number <= max).then_some(number)
+}
+
+/// The number with one decimal digit more, if the byte is one and 64 bits hold it.
+fn with_digit(number: u64, byte: u8) -> Option<u64>
+    ensures { SomeIff result
+        (IsTrue (is_ascii_digit byte) × (number * 10 + digit_value byte < 2 ^ 64))
+        (number * 10 + digit_value byte) }
+{
+    let digit = char::from(byte).to_digit(10)?;
+    number.checked_mul(10)?.checked_add(u64::from(digit))
 }

@@ -7,6 +7,7 @@ mod file_part;
 mod files;
 mod files_fault;
 mod input;
+mod laws;
 mod names;
 mod reports;
 mod tables;
@@ -15,6 +16,9 @@ pub use fault::InputFault;
 pub use files::{FilesInput, read_files};
 pub use files_fault::FilesFault;
 pub use input::{BundleInput, read_input};
+pub use laws::{
+    files_stand_for_one_input, packed_files_stand_for_their_input, texts_stand_for_one_input,
+};
 
 #[cfg(test)]
 mod tests;

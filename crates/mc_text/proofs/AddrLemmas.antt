@@ -1,6 +1,6 @@
 -- Addresses and their octets, and the two calls that read them: of dotted texts and of digits.
-use Rattle.std.proofs.Common.{◌≡◌, ℕ, zero, suc, ◌<◌, List, [], ◌∷◌, length, get_or, None}
-use Rattle.std.proofs.Common.{Result, Ok, Err, MatchResult, refl, sym, ap, ◌∙◌, arith}
+use Rattle.std.proofs.Common.{◌≡◌, ℕ, zero, suc, ◌<◌, List, [], ◌∷◌, length, get_or, None, Result}
+use Rattle.std.proofs.Common.{Ok, Err, MatchResult, refl, sym, ap, ◌∙◌, arith}
 use Rattle.std.specs.Int.{w32, from_be_bytes}
 use Rattle.std.specs.Result.{result_ok}
 use Rattle.std.specs.Net.Text.{ipv4_text}
@@ -40,10 +40,6 @@ pub from_octets_fits : (octets : List ℕ) → ((k : ℕ) → get_or octets k 0 
     → IsAddr (from_be_bytes w32 octets)
 from_octets_fits octets fit = omega (arith, fit 0, fit 1, fit 2, fit 3)
 
--- the address of its own octets is the address
-pub from-octets_of : (a : ℕ) → IsAddr a → from_be_bytes w32 (octets_of a) ≡ a
-from-octets_of a fits = from_be_bytes-to_be_bytes_4 a fits
-
 -- a dotted text is that of the address of its octets
 pub dotted_from : (text octets : List ℕ) → IsDotted text octets
     → text ≡ dotted (from_be_bytes w32 octets)
@@ -63,7 +59,7 @@ dotted_once text octets a fits d e =
     let own : IsDotted text (octets_of a) = rw e (IsDotted-dotted a) in
     let same = IsIpv4Text_unique text (record { octets = octets })
     (record { octets = octets_of a }) d own in
-    ap (λ (x : Ipv4Addr). from_be_bytes w32 x.octets) same ∙ from-octets_of a fits
+    ap (λ (x : Ipv4Addr). from_be_bytes w32 x.octets) same ∙ from_be_bytes-to_be_bytes_4 a fits
 
 -- where decoding into room for four failed no four bytes are written
 pub not_decoded : (word bytes out : List ℕ) (r : Result (Unit {0}) FromHexError) → length bytes ≡ 4

@@ -1,8 +1,8 @@
 -- The function that reads an address finds what the relation says, and every address so written.
-use Rattle.std.proofs.Common.{◌≡◌, ℕ, zero, suc, ◌^◌, ◌-◌, ◌<◌, ◌==◌, true, ltb, List, [], ◌∷◌, ◌++◌}
-use Rattle.std.proofs.Common.{length, get_or, map, append_assoc, arith, Some, Result, Ok, Err, refl}
-use Rattle.std.proofs.Common.{sym, ap, subst, ◌∙◌, inl, inr}
-use Rattle.std.specs.Prelude.{reverse, codes}
+use Rattle.std.proofs.Common.{◌≡◌, ℕ, zero, suc, ◌^◌, ◌-◌, ◌<◌, ◌==◌, true, ltb, List, [], ◌∷◌}
+use Rattle.std.proofs.Common.{◌++◌, length, get_or, append_assoc, arith, Some, Result, Ok, Err}
+use Rattle.std.proofs.Common.{refl, sym, ap, subst, ◌∙◌, inl, inr}
+use Rattle.std.specs.Prelude.{reverse}
 use Rattle.std.specs.Fmt.{decimal}
 use Rattle.std.specs.Int.{w32, from_be_bytes}
 use Rattle.std.specs.List.{list_all, slice_split}
@@ -12,17 +12,18 @@ use Rattle.std.proofs.lemmas.Bool.{and_parts, eqb-true, ltb-true, cases_lt}
 use Rattle.std.proofs.lemmas.Bool.Decides.{nat_tests}
 use Rattle.std.proofs.lemmas.Fmt.{decimal_is_IsNumeral}
 use Rattle.std.proofs.lemmas.List.{reverse-reverse, length-reverse, get_or-reverse, get_or_past}
+use Rattle.std.proofs.lemmas.Nat.{from_be_bytes-to_be_bytes_4}
 use Rattle.std.proofs.lemmas.Option.{cond_some, same_Some}
 use Rattle.std.proofs.lemmas.Slice.Eq.{bytes_eq-Decides}
 use Rattle.mc_text.specs.declared.addr.Order.{Order}
 use Rattle.mc_text.specs.declared.addr.Order.TheVariants.{Little, Big}
 use Rattle.mc_text.specs.Hex.{decode_of}
 use Rattle.mc_text.specs.Addr.{IsAddr, octets_of, dotted}
-use Rattle.mc_text.specs.AddressReading.{numbers_between_dots, address_of_text}
-use Rattle.mc_text.specs.AddressReading.{octets_in_order, address_of_octets, address_of_word}
+use Rattle.mc_text.specs.AddressReading.{numbers_between_dots, address_of_text, octets_in_order}
+use Rattle.mc_text.specs.AddressReading.{address_of_octets, address_of_word}
 use Rattle.mc_text.specs.AddressWord.{printed_octets, IsAddressWord}
-use Rattle.mc_text.proofs.AddrLemmas.{octets_fit, octets_of-from, from_octets_fits, from-octets_of}
-use Rattle.mc_text.proofs.AddrLemmas.{decoded_fit, length-printed_octets}
+use Rattle.mc_text.proofs.AddrLemmas.{octets_fit, octets_of-from, from_octets_fits, decoded_fit}
+use Rattle.mc_text.proofs.AddrLemmas.{length-printed_octets}
 use Rattle.mc_text.proofs.BundleWords.{Without, Without-decimal}
 
 -- ---- dotted text
@@ -45,8 +46,8 @@ number_first : (n : ℕ) (rest : List ℕ) → n < 256
     → numbers_between_dots (decimal n ++ 46 ∷ rest) ≡ n ∷ numbers_between_dots rest
 number_first n rest small =
     let wide : n < 2 ^ 64 = omega (arith, small) in
-    rw (before_dot (decimal n) rest (Without-decimal 46 refl n wide), (decimal_is_IsNumeral n wide).1)
-    refl
+    let number = before_dot (decimal n) rest (Without-decimal 46 refl n wide) in
+    rw (number, (decimal_is_IsNumeral n wide).1) refl
 
 -- the numbers of a dotted text are those that it was written of
 numbers_of-dotted : (a b c d : ℕ) → a < 256 → b < 256 → c < 256 → d < 256
@@ -94,7 +95,7 @@ address_of_text-again text a fits e =
     numbers_of-dotted _ _ _ _ (octets_fit a 0) (octets_fit a 1) (octets_fit a 2) (octets_fit a 3) in
     let all : list_all (λ n. ltb n 256) (octets_of a) ≡ true = grind (arith, nat_tests) in
     let same = (bytes_eq-Decides (dotted a) (dotted a)).1 refl in
-    rw (e, numbers, all, same) (ap Some (from-octets_of a fits))
+    rw (e, numbers, all, same) (ap Some (from_be_bytes-to_be_bytes_4 a fits))
 
 -- two addresses with one text are one
 pub one_dotted : (a b : ℕ) → IsAddr a → IsAddr b → dotted a ≡ dotted b → a ≡ b
@@ -104,7 +105,8 @@ one_dotted a b fits-a fits-b e = same_Some a b (sym (address_of_text-again (dott
 -- ---- a kernel's words
 
 -- the octets in the address's order are those of the address
-in_order-printed : (order : Order) (a : ℕ) → octets_in_order order (printed_octets order a) ≡ octets_of a
+in_order-printed : (order : Order) (a : ℕ)
+    → octets_in_order order (printed_octets order a) ≡ octets_of a
 in_order-printed Big a = refl
 in_order-printed Little a = reverse-reverse (octets_of a)
 
@@ -155,11 +157,4 @@ pub address_of_word-again : (order : Order) (word : List ℕ) (a : ℕ) → IsAd
 unfolding address_of_word
 address_of_word-again order word a fits shown =
     rw (shown, length-printed_octets order a, in_order-printed order a)
-    (ap Some (from-octets_of a fits))
-
--- two addresses that one word shows are one
-pub one_shown : (order : Order) (word : List ℕ) (a b : ℕ) → IsAddr a → IsAddr b
-    → IsAddressWord order word a → IsAddressWord order word b → a ≡ b
-one_shown order word a b fits-a fits-b shown-a shown-b =
-    same_Some a b (sym (address_of_word-again order word a fits-a shown-a)
-    ∙ address_of_word-again order word b fits-b shown-b)
+    (ap Some (from_be_bytes-to_be_bytes_4 a fits))

@@ -1,8 +1,8 @@
 -- A bundle as a whole: what is read is written so, and what is written so is read; and what a loop
 -- that reads part after part has read so far.
-use Rattle.std.proofs.Common.{arith, ◌≡◌, ◌≢◌, ℕ, zero, suc, ◌+◌, ◌-◌, ◌<◌, ◌≤◌, Bool, true, cond}
-use Rattle.std.proofs.Common.{false, List, [], ◌∷◌, ◌++◌, length, take, drop, Option, Some, None}
-use Rattle.std.proofs.Common.{Result, Ok, Err, refl, sym, ap, subst, ◌∙◌, append_assoc}
+use Rattle.std.proofs.Common.{true, arith, ◌≡◌, ◌≢◌, ℕ, zero, suc, ◌+◌, ◌-◌, ◌<◌, ◌≤◌, List, []}
+use Rattle.std.proofs.Common.{◌∷◌, ◌++◌, length, take, Option, Some, None, Result, Ok, Err, refl}
+use Rattle.std.proofs.Common.{sym, ap, subst, ◌∙◌, append_assoc}
 use Rattle.std.specs.Prelude.{codes, IfOk}
 use Rattle.std.specs.List.{AllByRecursion, flat_map}
 use Rattle.std.specs.Str.{bytes_eq}
@@ -10,13 +10,13 @@ use Rattle.std.proofs.lemmas.List.{append-nil, take-append-drop, length-append}
 use Rattle.std.proofs.lemmas.Slice.Eq.{bytes_eq-Decides}
 use Rattle.mc_text.specs.declared.bundle_fault.BundleFault.{BundleFault}
 use Rattle.mc_text.specs.declared.bundle_fault.BundleFault.TheVariants as faults
-use Rattle.mc_text.specs.Bundle.{PartText, IsPartName, part_spelling}
-use Rattle.mc_text.specs.Bundle.{IsBundle, max_part, max_bundle, max_parts}
+use Rattle.mc_text.specs.Bundle.{PartText, IsPartName, part_spelling, IsBundle, max_part}
+use Rattle.mc_text.specs.Bundle.{max_bundle, max_parts}
 use Rattle.mc_text.specs.BundleReading.{Fails, Gives, Place, place_of, with_next, parts_from}
 use Rattle.mc_text.specs.BundleReading.{bundle_of}
 use Rattle.mc_text.specs.Steps.{◌>>=◌}
-use Rattle.mc_text.proofs.StepLemmas.{bind_ok, ok_is, test_ok, with_front, with_front-more}
-use Rattle.mc_text.proofs.BundlePlaces.{HasPart, IsEnd, IsFound, place_takes, end_again, part_again}
+use Rattle.mc_text.proofs.StepLemmas.{bind_ok, ok_is, with_front, with_front-more}
+use Rattle.mc_text.proofs.BundlePlaces.{HasPart, IsEnd, place_takes, end_again, part_again}
 
 -- the parts from a place on
 abbrev pub parts_at : Place → Result (List PartText) BundleFault
@@ -150,9 +150,10 @@ pub bundle_takes : (text : List ℕ) (parts : List PartText) → bundle_of text 
     → IsBundle text parts
 unfolding bundle_of
 bundle_takes text parts e =
-    let magic = test_ok (bytes_eq (take 17 text) (codes "mcaudit bundle 1\n")) _ _ parts e in
-    let front = (bytes_eq-Decides (take 17 text) (codes "mcaudit bundle 1\n")).0 magic.0 in
-    let found = bind_ok (place_of _) _ parts (sym (one_step _ _ _ _ refl) ∙ magic.1) in
+    let magic : bytes_eq (take 17 text) (codes "mcaudit bundle 1\n") ≡ true = grind arith in
+    let front = (bytes_eq-Decides (take 17 text) (codes "mcaudit bundle 1\n")).0 magic in
+    let read = rw magic at e in
+    let found = bind_ok (place_of _) _ parts (sym (one_step _ _ _ _ refl) ∙ read) in
     let all = parts_take max_parts _ found.0 parts refl found.1 found.2 in
     record {
       names = all.names;

@@ -1,11 +1,10 @@
 -- The lines of a bundle: what is read is written so, and what is written so is read.
-use Rattle.std.proofs.Common.{arith, ◌≡◌, ℕ, suc, ◌+◌, ◌-◌, ◌^◌, ◌<◌, Bool, true, false, eqb, cond}
-use Rattle.std.proofs.Common.{List, ◌∷◌, ◌++◌, length, get_or, take, drop, Option, Some, None, Ok}
-use Rattle.std.proofs.Common.{refl, sym, ap, subst, ◌∙◌, min}
+use Rattle.std.proofs.Common.{arith, ◌≡◌, ℕ, suc, ◌+◌, ◌-◌, ◌^◌, ◌<◌, true, eqb, List, ◌∷◌, ◌++◌}
+use Rattle.std.proofs.Common.{length, get_or, take, drop, Option, Some, None, Ok, refl, sym, ap}
+use Rattle.std.proofs.Common.{subst, ◌∙◌, min}
 use Rattle.std.specs.Prelude.{position, codes, ◌&&◌}
 use Rattle.std.specs.Fmt.{decimal}
 use Rattle.std.specs.Str.{bytes_eq}
-use Rattle.std.specs.Str.Parse.{digits_value}
 use Rattle.std.proofs.Math.Seq.{take-append-add, drop-append-add}
 use Rattle.std.proofs.lemmas.Bool.{and_parts, and_from}
 use Rattle.std.proofs.lemmas.Bool.Decides.{nat_tests}
@@ -14,7 +13,6 @@ use Rattle.std.proofs.lemmas.List.{take_at, take-append-drop, length-take, get_o
 use Rattle.std.proofs.lemmas.List.Quantifiers.{position-Some}
 use Rattle.std.proofs.lemmas.Option.{cond_some}
 use Rattle.std.proofs.lemmas.Slice.Eq.{bytes_eq-Decides}
-use Rattle.mc_text.specs.declared.bundle_fault.BundleFault.{BundleFault}
 use Rattle.mc_text.specs.Bundle.{IsPartName, part_line, max_line}
 use Rattle.mc_text.specs.BundleReading.{is_part_name, is_length, cut_words, words_said, part_said}
 use Rattle.mc_text.specs.BundleReading.{cut_line, line_at}
@@ -50,16 +48,10 @@ pub said_take : (line : List ℕ) (said : List ℕ × ℕ) → part_said line �
     → IsPartName said.0 × (line ≡ part_line said.0 said.1)
 unfolding part_said words_said
 said_take line said e small =
-    let chosen = said_chosen (bytes_eq (take 5 line) (codes "part ")) _ said e in
-    let words = cut_take (drop 5 line) _ said refl chosen.1 small in
-    let front = (bytes_eq-Decides (take 5 line) (codes "part ")).0 chosen.0 in
+    let begins : bytes_eq (take 5 line) (codes "part ") ≡ true = grind arith in
+    let words = cut_take (drop 5 line) _ said refl (rw begins at e) small in
+    let front = (bytes_eq-Decides (take 5 line) (codes "part ")).0 begins in
     (words.0, sym (take-append-drop 5 line) ∙ rw (front, words.1) refl)
-  where
-    -- a test that let a part line through
-    said_chosen : {A : Type 0} (b : Bool) (o : Option A) (y : A) → cond b o None ≡ Some y
-        → (b ≡ true) × (o ≡ Some y)
-    said_chosen true o y e = (refl, e)
-    said_chosen false o y e = absurd cc
 
 -- a part's line says its name and length
 pub said_again : (name : List ℕ) (size : ℕ) → IsPartName name → size < 2 ^ 64

@@ -1,7 +1,7 @@
 -- The places of a bundle: a part and the place after it, or the end.
 use Rattle.std.proofs.Common.{arith, ◌≡◌, ℕ, suc, ◌+◌, ◌-◌, ◌<◌, ◌≤◌, Bool, true, false, cond, eqb}
-use Rattle.std.proofs.Common.{leb, List, ◌∷◌, ◌++◌, length, get_or, take, drop, Option, Some, None, Ok}
-use Rattle.std.proofs.Common.{refl, sym, ap, subst, ◌∙◌, append_assoc}
+use Rattle.std.proofs.Common.{leb, List, ◌∷◌, ◌++◌, length, get_or, Option, Some, None, Ok, refl}
+use Rattle.std.proofs.Common.{sym, subst, ◌∙◌, append_assoc}
 use Rattle.std.specs.Prelude.{codes}
 use Rattle.std.specs.Fmt.{decimal}
 use Rattle.std.specs.Str.{bytes_eq}
@@ -85,8 +85,9 @@ has_part : (place : Place) (line name bytes back after : List ℕ) (size : ℕ) 
     → HasPart place (record { name = name; bytes = bytes })
     (place_after place (part_room line size) after)
 has_part place line name bytes back after size named spelled long back-is fits rest =
-    let taken : length (part_spelling (record { name = name; bytes = bytes })) ≡ part_room line size =
-    rw (spelled, ← long) (length-part_spelling (record { name = name; bytes = bytes })) in
+    let part : PartText = record { name = name; bytes = bytes } in
+    let taken : length (part_spelling part) ≡ part_room line size =
+    rw (spelled, ← long) (length-part_spelling part) in
     record {
       named = named;
       small = grind (arith, nat_tests);

@@ -1,7 +1,7 @@
--- The words of a part line: names and lengths, where they end, and that what is written is read again.
+-- The words of a part line: names and lengths, where they end, and that they are read as written.
 use Rattle.std.proofs.Common.{arith, ◌≡◌, ℕ, zero, suc, ◌+◌, ◌^◌, ◌<◌, Bool, true, false, eqb, ltb}
-use Rattle.std.proofs.Common.{leb, List, [], ◌∷◌, ◌++◌, length, get_or, take, drop, Option, Some, None}
-use Rattle.std.proofs.Common.{refl, sym, ap, subst, ◌∙◌}
+use Rattle.std.proofs.Common.{leb, List, [], ◌∷◌, ◌++◌, length, get_or, take, drop, Option, Some}
+use Rattle.std.proofs.Common.{None, refl, sym, ap, subst, ◌∙◌}
 use Rattle.std.specs.Prelude.{position, ◌&&◌}
 use Rattle.std.specs.Char.{is_ascii_digit}
 use Rattle.std.specs.Fmt.{decimal}
@@ -108,12 +108,7 @@ is_length-decimal (suc n) small =
     let digits = digits_decimal numerals (suc n) small in
     let some = (decimal_is_IsNumeral (suc n) small).0.0 in
     let first = first_decimal (suc n) (omega arith) small in
-    long_number (decimal (suc n)) digits some first
-  where
-    -- digits of which the first is no zero are a length
-    long_number : (word : List ℕ) → list_all is_ascii_digit word ≡ true → 0 < length word
-        → 48 < get_or word 0 0 → is_length word ≡ true
-    long_number word digits some first = grind (arith, nat_tests)
+    grind (arith, nat_tests)
 
 -- a byte that is no digit is in no number
 pub Without-decimal : (c : ℕ) → is_ascii_digit c ≡ false → (n : ℕ) → n < 2 ^ 64

@@ -5,7 +5,6 @@ pub mod AddrLemmas
 pub mod AddressReading
 pub mod AddressTests
 pub mod NumberReading
-pub mod Written
 pub mod BundleWords
 pub mod BundleLines
 pub mod BundlePlaces
@@ -13,5 +12,3 @@ pub mod BundleLaws
 pub mod Pieces
 mod FirstPlace
 mod NumberSteps
-pub mod BundleLimits
-pub mod ReadingOn

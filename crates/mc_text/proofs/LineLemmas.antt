@@ -1,10 +1,10 @@
 -- The lines of a text and the words of a line: what stands between line feeds, and between spaces.
-use Rattle.std.proofs.Common.{◌≡◌, ◌≢◌, ℕ, ◌+◌, ◌<◌, Bool, true, false, not, eqb, cond, List, []}
-use Rattle.std.proofs.Common.{◌∷◌, ◌++◌, length, take, drop, get_or, Option, Some, None, unwrap_or}
+use Rattle.std.proofs.Common.{◌≡◌, ◌≢◌, ℕ, ◌+◌, ◌<◌, ◌≤◌, Bool, true, false, not, eqb, cond, List}
+use Rattle.std.proofs.Common.{[], ◌∷◌, length, take, drop, get_or, Option, Some, None, unwrap_or}
 use Rattle.std.proofs.Common.{refl, sym, ap, ◌∙◌, arith, append_assoc, length-take, one-add}
 use Rattle.std.specs.Prelude.{position}
 use Rattle.std.specs.List.{slice_split, onto_first, join_with_byte, position_or_len, AllByRecursion}
-use Rattle.std.proofs.lemmas.Bool.{ltb-true, ltb-false, eqb-false, ne_eqb, not-true}
+use Rattle.std.proofs.lemmas.Bool.{ltb-true, eqb-false, not-true}
 use Rattle.std.proofs.lemmas.Bool.Decides.{nat_tests}
 use Rattle.std.proofs.lemmas.Option.{cond_some}
 use Rattle.std.proofs.lemmas.List.{append-nil, take_all, drop_all, drop_more}
@@ -17,11 +17,10 @@ use Rattle.std.proofs.lemmas.List.Sums.{fails_before_first}
 use Rattle.mc_text.specs.Lines.{numbered, lines_from, lines_of, joined, HasNoLineFeed}
 use Rattle.mc_text.specs.Lines.{OnlyLastMayBeUnended}
 use Rattle.mc_text.specs.Words.{words_of}
-use Rattle.mc_text.proofs.StepLemmas.{none_chosen}
 
 -- a text with a byte is not empty
 nonempty : (text : List ℕ) → 0 < length text → eqb (length text) 0 ≡ false
-nonempty text some = ne_eqb (length text) 0 (λ e. omega (arith, e))
+nonempty text some = grind (arith, nat_tests)
 
 -- where the byte is found, the first part ends there
 cut_first : (c : ℕ) (text : List ℕ) (end : ℕ) → position (λ b. eqb b c) text ≡ Some end
@@ -35,7 +34,7 @@ cut_first c text end found =
 one_part : (c : ℕ) (text : List ℕ) → position (λ b. eqb b c) text ≡ None
     → slice_split (λ b. eqb b c) text ≡ text ∷ []
 one_part c text none =
-    let past = ltb-false _ _ (none_chosen _ _ none) in
+    let past : length text ≤ position_or_len (λ b. eqb b c) text = grind (arith, nat_tests) in
     slice_split_none _ text (All-from_get_or (λ b. eqb b c ≡ false) text 0
     (λ k lt. fails_before_first (λ b. eqb b c) text k 0 (omega (arith, past))))
 
@@ -87,7 +86,8 @@ IsWhole part = AllByRecursion (λ b. b ≢ 10) part
 
 -- a byte before the first part, or a line feed before it, leaves the parts whole
 split_whole : (b : ℕ) (parts : List (List ℕ)) (t : Bool) → eqb b 10 ≡ t
-    → AllByRecursion IsWhole parts → AllByRecursion IsWhole (cond t ([] ∷ parts) (onto_first b parts))
+    → AllByRecursion IsWhole parts
+    → AllByRecursion IsWhole (cond t ([] ∷ parts) (onto_first b parts))
 split_whole b parts true e whole = (tt, whole)
 split_whole b [] false e whole = ((eqb-false b 10 e, tt), tt)
 split_whole b (part ∷ parts) false e whole = ((eqb-false b 10 e, whole.0), whole.1)
@@ -177,5 +177,6 @@ words_of-word line from start end found from-is end-is =
 -- a line in which nothing but spaces stands has no word
 pub words_of-spaces : (line : List ℕ) → position (λ b. not (eqb b 32)) line ≡ None
     → words_of line ≡ []
-words_of-spaces line none = sym (words_of-drop_spaces line)
-    ∙ ap words_of (drop_all _ line (ltb-false _ _ (none_chosen _ _ none)))
+words_of-spaces line none =
+    let past : length line ≤ position_or_len is_in_word line = grind (arith, nat_tests) in
+    sym (words_of-drop_spaces line) ∙ ap words_of (drop_all _ line past)

@@ -1,68 +1,47 @@
--- A text that is written piece by piece.
-use Rattle.std.proofs.Common.{arith, ◌≡◌, ℕ, ◌+◌, ◌<◌, List, [], ◌∷◌, ◌++◌, length, get_or, take}
-use Rattle.std.proofs.Common.{drop, refl, sym, ap, subst, ◌∙◌, add-one, Result, Ok}
-use Rattle.std.proofs.Common.{Err}
-use Rattle.std.specs.Prelude.{Option, OnErr, OnOk, flat_map}
+-- A text that is written piece by piece, and the bundle that is written part by part.
+use Rattle.std.proofs.Common.{arith, ◌≡◌, ℕ, zero, suc, ◌+◌, ◌<◌, ◌≤◌, List, [], ◌∷◌, ◌++◌, length}
+use Rattle.std.proofs.Common.{get_or, take, drop, refl, sym, ap, ◌∙◌, append_assoc, Result, Ok, Err}
+use Rattle.std.specs.Prelude.{Option, OnErr, codes}
 use Rattle.std.specs.Io.KnownBytes.{Appends}
+use Rattle.std.specs.List.{AllByRecursion, flat_map}
 use Rattle.std.proofs.KnownBytes.{Appends-trans}
-use Rattle.std.proofs.Math.Seq.{drop-cons, take-append-add, take-suc}
+use Rattle.std.proofs.Math.Seq.{take-append-add}
 use Rattle.std.proofs.lemmas.Grind.{flat_map-append}
 use Rattle.std.proofs.lemmas.List.{append-nil, length-append, take-append-drop, take-append-le}
+use Rattle.std.proofs.lemmas.List.{drop_more, take_more}
+use Rattle.std.proofs.lemmas.List.Folds.{flat_map-map}
+use Rattle.std.proofs.lemmas.Result.{on_err_weaker}
+use Rattle.mc_text.specs.declared.part.Part.{Part}
+use Rattle.mc_text.specs.Bundle.{PartText, IsPartName, part_spelling, bundle_spelling, max_part}
 use Rattle.mc_text.specs.Device.{AppendsPart}
+use Rattle.mc_text.specs.PartView.{part_text, part_texts}
 
 -- ---- a list's pieces
 
 module _ {X : Type 0} (f : X → List ℕ) (xs : List X) (i : ℕ) (d : X) where
   -- the pieces up to one, which is the last of them
-  pub pieces_more : i < length xs
-      → flat_map f (take i xs) ++ f (get_or xs i d) ≡ flat_map f (take (i + 1) xs)
-  pieces_more within =
-      let next : take (i + 1) xs ≡ take i xs ++ get_or xs i d ∷ [] =
-      rw (add-one, take-suc xs i d) refl in
-      sym (ap (flat_map f) next ∙ flat_map-append f (take i xs) (get_or xs i d ∷ [])
-      ∙ ap (λ (l : List ℕ). flat_map f (take i xs) ++ l) (append-nil (f (get_or xs i d))))
+  pieces_more : i < length xs
+      → flat_map f (take (i + 1) xs) ≡ flat_map f (take i xs) ++ f (get_or xs i d)
+  pieces_more within = rw (take_more xs i d within) (simp (flat_map-append, append-nil))
 
   -- the pieces before one, that one, and those after it
   pub pieces_at : i < length xs
       → flat_map f xs ≡ flat_map f (take i xs)
       ++ (f (get_or xs i d) ++ flat_map f (drop (i + 1) xs))
-  pieces_at within =
-      let back : drop i xs ≡ get_or xs i d ∷ drop (i + 1) xs =
-      rw (add-one, drop-cons xs i d) refl in
-      ap (flat_map f) (sym (take-append-drop i xs) ∙ ap (λ (l : List X). take i xs ++ l) back)
-      ∙ flat_map-append f (take i xs) (get_or xs i d ∷ drop (i + 1) xs)
+  pieces_at within = ap (flat_map f) (sym (take-append-drop i xs))
+      ∙ rw (drop_more xs i d within) (flat_map-append f (take i xs) _)
 
 -- ---- what was written
 
 -- the front was written, and a part of the text after it
 pub part_of : (a b c : Option (List ℕ)) (front text rest whole : List ℕ) → Appends a b front
     → AppendsPart b c text → whole ≡ front ++ (text ++ rest) → AppendsPart a c whole
-part_of a b c front text rest whole first second is =
-    let k = second.0 in
-    let short : length front + k < length whole =
-    omega (
-      arith,
-      second.1,
-      ap length is,
-      length-append front (text ++ rest),
-      length-append text rest,
-    ) in
+part_of a b c front text rest whole first (k, short, taken) is =
+    let size = simp length-append at (ap length is) in
     let cut : take (length front + k) whole ≡ front ++ take k text =
-    ap (take (length front + k)) is ∙ take-append-add front (text ++ rest) k
-    ∙ ap (λ (l : List ℕ). front ++ l) (take-append-le k text rest (omega (arith, second.1))) in (
-      length front + k,
-      short,
-      subst (Appends a c) (sym cut)
-          (Appends-trans a b c front (take k text) first second.2),
-    )
-
--- no front was written
-pub part_first : (a b : Option (List ℕ)) (text rest whole : List ℕ) → AppendsPart a b text
-    → whole ≡ text ++ rest → AppendsPart a b whole
-part_first a b text rest whole h is =
-    let short : h.0 < length whole = omega (arith, h.1, ap length is, length-append text rest) in
-    let cut = ap (take h.0) is ∙ take-append-le h.0 text rest (omega (arith, h.1)) in
-    (h.0, short, subst (Appends a b) (sym cut) h.2)
+    let part = take-append-le k text rest (omega arith) in
+    rw (is, take-append-add front (text ++ rest) k, part) refl in
+    (length front + k, omega arith, rw cut (Appends-trans a b c front (take k text) first taken))
 
 -- what holds anyway holds of an error
 pub OnErr-from : {X E : Type 0} (r : Result X E) (P : Type 0) → P → OnErr r P
@@ -71,19 +50,58 @@ OnErr-from (Err e) P p = p
 
 -- what a last call leaves, where its text ends the whole
 pub last_part : {X E : Type 0} (r : Result X E) (a b c : Option (List ℕ))
-    (front text whole : List ℕ)
-    → Appends a b front → OnErr r (AppendsPart b c text) → whole ≡ front ++ text
-    → OnErr r (AppendsPart a c whole)
-last_part (Ok x) a b c front text whole first h is = tt
-last_part (Err e) a b c front text whole first h is =
-    part_of a b c front text [] whole first h
-    (is ∙ ap (λ (l : List ℕ). front ++ l) (sym (append-nil text)))
+    (front text whole : List ℕ) → Appends a b front → OnErr r (AppendsPart b c text)
+    → whole ≡ front ++ text → OnErr r (AppendsPart a c whole)
+last_part r a b c front text whole first h is = on_err_weaker r (λ cut. part_of a b c front text []
+    whole first cut (is ∙ ap (λ (l : List ℕ). front ++ l) (sym (append-nil text)))) h
 
--- the same of a last call that wrote its text
-pub last_whole : {X E : Type 0} (r : Result X E) (a b c : Option (List ℕ))
-    (front text whole : List ℕ)
-    → Appends a b front → OnOk r (Appends b c text) → whole ≡ front ++ text
-    → OnOk r (Appends a c whole)
-last_whole (Ok x) a b c front text whole first h is =
-    subst (Appends a c) (sym is) (Appends-trans a b c front text first h)
-last_whole (Err e) a b c front text whole first h is = tt
+-- ---- the bundle of the parts
+
+-- the parts are small and named, and the bundle of them has this size
+pub record AreSmall (texts : List PartText) (total : ℕ) : Type 0 where
+  pub size : total ≡ 21 + length (flat_map part_spelling texts)
+  pub sizes : AllByRecursion (λ part. length part.bytes ≤ max_part) texts
+  pub names : AllByRecursion (λ part. IsPartName part.name) texts
+
+-- parts of which one is too long are not within the limits
+pub part_passed : (parts : List Part) (i : ℕ) (d : Part) → i < length parts
+    → max_part < length (get_or parts i d).bytes.now
+    → AllByRecursion (λ part. length part.bytes ≤ max_part) (part_texts parts) → ⊥
+part_passed [] i d within wide small = absurd (omega arith)
+part_passed (part ∷ parts) zero d within wide small = omega (arith, wide, small.0)
+part_passed (part ∷ parts) (suc i) d within wide small =
+    part_passed parts i d (omega arith) wide small.1
+
+-- how a part in memory is spelled
+abbrev pub spelled : Part → List ℕ
+spelled part = part_spelling (part_text part)
+
+-- the first line, and the first parts
+abbrev pub front_of : List Part → List ℕ
+front_of parts = codes "mcaudit bundle 1\n" ++ flat_map spelled parts
+
+-- the bundle is the first line, all parts and the last line
+pub front_end : (parts : List Part)
+    → bundle_spelling (part_texts parts) ≡ front_of parts ++ codes "end\n"
+front_end parts = rw (flat_map-map part_spelling part_text parts) refl
+
+-- a text cut before and after one piece, with another text after it
+piece_then_last : (before text after last : List ℕ)
+    → (before ++ (text ++ after)) ++ last ≡ before ++ (text ++ (after ++ last))
+piece_then_last before text after last = simp append_assoc
+
+module _ (parts : List Part) (i : ℕ) (part : Part) where
+  -- the front that one more part makes
+  pub front_more : i < length parts → part ≡ get_or parts i part
+      → front_of (take i parts) ++ spelled part ≡ front_of (take (i + 1) parts)
+  front_more within is = rw (pieces_more spelled parts i part within, ← is)
+      (append_assoc (codes "mcaudit bundle 1\n") (flat_map spelled (take i parts)) (spelled part))
+
+  -- what stands before a part, the part, and what stands after it
+  pub front_part : i < length parts → part ≡ get_or parts i part
+      → bundle_spelling (part_texts parts) ≡ front_of (take i parts)
+      ++ (spelled part ++ (flat_map spelled (drop (i + 1) parts) ++ codes "end\n"))
+  front_part within is = front_end parts
+      ∙ rw (pieces_at spelled parts i part within, ← is)
+      (ap (λ (l : List ℕ). codes "mcaudit bundle 1\n" ++ l)
+      (piece_then_last (flat_map spelled (take i parts)) (spelled part) _ (codes "end\n")))

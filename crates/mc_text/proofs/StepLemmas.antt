@@ -2,7 +2,6 @@
 use Rattle.std.proofs.Common.{◌≡◌, Bool, true, false, cond, List, [], ◌++◌, Option, Some, None}
 use Rattle.std.proofs.Common.{Result, Ok, Err, refl, sym, ap, append_assoc}
 use Rattle.std.specs.Prelude.{IfSome}
-use Rattle.std.specs.Option.{ok_or}
 use Rattle.mc_text.specs.Steps.{◌>>=◌}
 
 module _ {A E : Type 0} where
@@ -22,21 +21,10 @@ module _ {A E : Type 0} where
   refusal_ok true d r y e = absurd cc
   refusal_ok false d r y e = (refl, e)
 
-  -- a test that lets pass was met
-  pub test_ok : (b : Bool) (d : E) (r : Result A E) (y : A) → cond b r (Err d) ≡ Ok y
-      → (b ≡ true) × (r ≡ Ok y)
-  test_ok true d r y e = (refl, e)
-  test_ok false d r y e = absurd cc
-
   -- a value under a test that was met
   pub if_ok : (b : Bool) (d : E) (x y : A) → cond b (Ok x) (Err d) ≡ Ok y → (b ≡ true) × (x ≡ y)
   if_ok true d x y e = (refl, cc)
   if_ok false d x y e = absurd cc
-
-  -- a value that was there
-  pub ok_or_ok : (o : Option A) (d : E) (x : A) → ok_or o d ≡ Ok x → o ≡ Some x
-  ok_or_ok None d x e = absurd cc
-  ok_or_ok (Some y) d x e = cc
 
   -- what was read before, and what is still read
   abbrev pub with_front : List A → Result (List A) E → Result (List A) E
@@ -54,19 +42,8 @@ module _ {A E : Type 0} where
   with_front-more front more (Err fault) = refl
 
 module _ {A : Type 0} where
-  -- a test that chose a value
-  pub some_chosen : (b : Bool) (x y : A) → cond b (Some x) None ≡ Some y → (b ≡ true) × (x ≡ y)
-  some_chosen true x y e = (refl, cc)
-  some_chosen false x y e = absurd cc
-
-  -- a test that found nothing
-  pub none_chosen : (b : Bool) (x : A) → cond b (Some x) None ≡ None → b ≡ false
-  none_chosen true x e = absurd cc
-  none_chosen false x e = refl
-
   -- an answer for which P and Q hold, and which comes wherever they do, is the function's value,
-  -- where
-  -- that is the one value for which they hold
+  -- where that is the one value for which they hold
   pub one_answer : (P Q : A → Type 0) (answer value : Option A) → IfSome answer P → IfSome answer Q
       → ((x : A) → P x → Q x → answer ≡ Some x) → ((x : A) → value ≡ Some x → P x × Q x)
       → ((x : A) → P x → Q x → value ≡ Some x) → answer ≡ value

@@ -1,6 +1,6 @@
 use Rattle.std.proofs.Common.{◌+◌, ◌*◌, ◌≤◌, take}
 use Rattle.mc_text.specs.PartView.{part_texts}
-use Rattle.mc_text.proofs.BundleLimits.{AreSmall}
+use Rattle.mc_text.proofs.Pieces.{AreSmall}
 use Rattle.mc_text.proofs.bundle_output.are_within_limits.Given as goal
 
 abbrev pub invariant-loop-part : goal.invariant-loop-part

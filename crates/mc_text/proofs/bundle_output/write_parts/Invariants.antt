@@ -1,6 +1,6 @@
 use Rattle.std.proofs.Common.{◌≡◌, take}
 use Rattle.std.specs.Io.KnownBytes.{Appends}
-use Rattle.mc_text.proofs.BundleLimits.{front_of}
+use Rattle.mc_text.proofs.Pieces.{front_of}
 use Rattle.mc_text.proofs.bundle_output.write_parts.Given as goal
 
 abbrev pub invariant-loop-part : goal.invariant-loop-part

@@ -1,9 +1,6 @@
-use Rattle.mc_text.proofs.AddressReading.{address_of_word-found, address_of_word-again, one_shown}
+use Rattle.mc_text.proofs.AddressReading.{address_of_word-found, address_of_word-again}
 use Rattle.mc_text.proofs.laws.address_words_are_read.Goals as goal
 
 pub returns-clause-read : goal.returns-clause-read
 returns-clause-read c = λ order word a.
     (address_of_word-found order word a, λ is. address_of_word-again order word a is.0 is.1)
-
-pub returns-clause-one : goal.returns-clause-one
-returns-clause-one c = one_shown

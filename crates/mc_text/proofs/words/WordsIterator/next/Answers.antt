@@ -1,9 +1,7 @@
-use Rattle.std.proofs.Common.{◌≡◌, ◌∷◌, length, sym, ap, ◌∙◌, arith}
+use Rattle.std.proofs.Common.{length, sym, ap, ◌∙◌, arith}
 use Rattle.std.proofs.lemmas.Slice.{between_to_end}
-use Rattle.mc_text.specs.Words.{words_of}
 use Rattle.mc_text.proofs.LineLemmas.{words_of-word, words_of-spaces}
 use Rattle.mc_text.proofs.words.WordsIterator.next.Goals as goal
-use Rattle.mc_text.proofs.words.WordsIterator.next.Goals.{After-split_at}
 
 pub returns-in_err-from_word-clause-steps : goal.returns-in_err-from_word-clause-steps
 returns-in_err-from_word-clause-steps c =
@@ -11,9 +9,8 @@ returns-in_err-from_word-clause-steps c =
     ∙ words_of-spaces c.self.inside.rest.now (sym (c.in_err-from_word.ensures)) in
     rw c.from_residual.ensures (none, none)
 
-first_word : (c : After-split_at)
-    → c.args.self.now ≡ c.split_at.result.0.now ∷ words_of c.split_at.result.1.now
-first_word c =
+pub returns-clause-steps : goal.returns-clause-steps
+returns-clause-steps c =
     let line = c.self.inside.rest.now in
     let from = between_to_end line c.in_ok-from_word.field-0 (length line) (omega arith) in
     rw (c.split_at.ensures.front, c.split_at.ensures.back)
@@ -22,10 +19,7 @@ first_word c =
     (sym (c.in_ok-from_word.ensures)) from
     (rw (← c.first_place_of.ensures) c.unwrap_or-end.ensures))
 
-pub returns-clause-steps : goal.returns-clause-steps
-returns-clause-steps c = first_word (goal.at.returns-clause-steps c).After-split_at
-
 pub returns-clause-goes : goal.returns-clause-goes
 returns-clause-goes c =
-    let shorter = ap length (first_word (goal.at.returns-clause-goes c).After-split_at) in
+    let shorter = ap length (returns-clause-steps c) in
     record { on = λ _. (tt, tt, omega (arith, shorter)); keeps = tt; rests = λ _. tt }

@@ -9,7 +9,7 @@
 #   routers/   the recorded texts of each router, a folder each
 #   before/    the files that the folder `site` has before (without it: none)
 #   after/     all files that it has afterwards (without it: those of before/)
-#   ssh.words  the words that ssh was called with, a line a call
+#   ssh.words  the words that ssh was called with, a line a call, sorted
 # A case of reports/ has its args, and the recorded text in stdin; or in tcpdump.text, with what tcpdump
 # says when it ends in tcpdump.said, for the words that call tcpdump.
 # Both have what is expected:
@@ -50,7 +50,7 @@ judge() {
     fi
     diff "$(expected_of "$1/stderr" "$scratch/empty")" stderr || return 1
     if [ -f "$1/ssh.words" ]; then
-        diff "$1/ssh.words" ssh.words || return 1
+        sort ssh.words | diff "$1/ssh.words" - || return 1
     fi
     if [ -d site ]; then
         diff -r "$(expected_of "$1/after" "$(expected_of "$1/before" "$scratch/none")")" site

@@ -1,12 +1,13 @@
 -- Addresses as bytes and back.
-use Rattle.std.proofs.Common.{◌≡◌, ℕ, zero, suc, ◌+◌, ◌*◌, ◌^◌, ◌<◌, ◌≤◌, List, [], ◌∷◌, ◌++◌}
-use Rattle.std.proofs.Common.{length, get_or, take, drop, refl, ap, ◌∙◌, arith, inl, inr}
+use Rattle.std.proofs.Common.{◌≡◌, ℕ, zero, suc, ◌+◌, ◌*◌, ◌<◌, ◌≤◌, List, [], ◌∷◌, ◌++◌, length}
+use Rattle.std.proofs.Common.{get_or, take, drop, refl, ap, arith, inl, inr}
 use Rattle.std.specs.Int.{w32, from_be_bytes}
 use Rattle.std.specs.List.{flat_map, AllByRecursion}
 use Rattle.std.proofs.lemmas.Bool.{cases_lt}
 use Rattle.std.proofs.lemmas.List.{length-take, get_or-drop, get_or-take, get_or_past}
-use Rattle.std.proofs.lemmas.Nat.{be_bytes_4, from_be_bytes-to_be_bytes_4}
+use Rattle.std.proofs.lemmas.Nat.{from_be_bytes-to_be_bytes_4}
 use Rattle.mc_text.specs.Addr.{IsAddr, octets_of}
+use Rattle.mc_text.proofs.AddrLemmas.{octets_of-from, from_octets_fits}
 use Rattle.mc_igmp.specs.Addresses.{addresses_in}
 
 -- every element is a byte
@@ -17,33 +18,24 @@ pub IsBytes-drop : (n : ℕ) (bytes : List ℕ) → IsBytes bytes → IsBytes (d
 IsBytes-drop n bytes h i = rw get_or-drop (h (n + i))
 
 pub IsBytes-take : (n : ℕ) (bytes : List ℕ) → IsBytes bytes → IsBytes (take n bytes)
-IsBytes-take n bytes h i =
-    elim (cases_lt i n) [
-      | inl lt ↦ rw (get_or-take n bytes i 0 lt) (h i)
-      | inr le ↦ rw (get_or_past (take n bytes) i 0 (omega (arith, length-take n bytes))) (omega arith)
-    ]
-
-pub IsBytes-rest : (b : ℕ) (bytes : List ℕ) → IsBytes (b ∷ bytes) → IsBytes bytes
-IsBytes-rest b bytes h i = h (suc i)
+IsBytes-take n bytes h i = elim (cases_lt i n) [
+  | inl lt ↦ rw (get_or-take n bytes i 0 lt) (h i)
+  | inr le ↦ rw (get_or_past (take n bytes) i 0 (omega (arith, length-take n bytes))) (omega arith)
+]
 
 -- the first address is in the first four bytes
-pub addresses_in-first : (s : List ℕ) → 4 ≤ length s
-    → addresses_in s ≡ from_be_bytes w32 (get_or s 0 0 ∷ get_or s 1 0 ∷ get_or s 2 0 ∷ get_or s 3 0 ∷ []) ∷ addresses_in (drop 4 s)
+pub addresses_in-first : (s : List ℕ) → 4 ≤ length s → addresses_in s
+    ≡ from_be_bytes w32 (get_or s 0 0 ∷ get_or s 1 0 ∷ get_or s 2 0 ∷ get_or s 3 0 ∷ [])
+    ∷ addresses_in (drop 4 s)
 unfolding addresses_in
-addresses_in-first [] h = absurd (omega arith)
-addresses_in-first (a ∷ []) h = absurd (omega arith)
-addresses_in-first (a ∷ b ∷ []) h = absurd (omega arith)
-addresses_in-first (a ∷ b ∷ c ∷ []) h = absurd (omega arith)
 addresses_in-first (a ∷ b ∷ c ∷ d ∷ rest) h = refl
+addresses_in-first _ h = absurd (omega arith)
 
 -- fewer bytes are no address
 pub addresses_in-short : (s : List ℕ) → length s < 4 → addresses_in s ≡ []
 unfolding addresses_in
-addresses_in-short [] h = refl
-addresses_in-short (a ∷ []) h = refl
-addresses_in-short (a ∷ b ∷ []) h = refl
-addresses_in-short (a ∷ b ∷ c ∷ []) h = refl
 addresses_in-short (a ∷ b ∷ c ∷ d ∷ rest) h = absurd (omega arith)
+addresses_in-short _ h = refl
 
 -- what bytes of whole addresses hold
 pub record HoldsAddresses (n : ℕ) (s : List ℕ) : Type 0 where
@@ -51,31 +43,20 @@ pub record HoldsAddresses (n : ℕ) (s : List ℕ) : Type 0 where
   pub count : length (addresses_in s) ≡ n
   pub fit : AllByRecursion IsAddr (addresses_in s)
 
-four_bytes : (a b c d : ℕ) → a < 256 → b < 256 → c < 256 → d < 256 → IsBytes (a ∷ b ∷ c ∷ d ∷ [])
-four_bytes a b c d ha hb hc hd zero = ha
-four_bytes a b c d ha hb hc hd (suc zero) = hb
-four_bytes a b c d ha hb hc hd (suc (suc zero)) = hc
-four_bytes a b c d ha hb hc hd (suc (suc (suc zero))) = hd
-four_bytes a b c d ha hb hc hd (suc (suc (suc (suc i)))) = omega arith
-
 pub addresses_in-whole : (n : ℕ) (s : List ℕ) → IsBytes s → length s ≡ 4 * n → HoldsAddresses n s
 unfolding addresses_in
 addresses_in-whole zero [] fits len = record { spelled = refl; count = refl; fit = tt }
-addresses_in-whole (suc n) [] fits len = absurd (omega arith)
-addresses_in-whole n (a ∷ []) fits len = absurd (omega arith)
-addresses_in-whole n (a ∷ b ∷ []) fits len = absurd (omega arith)
-addresses_in-whole n (a ∷ b ∷ c ∷ []) fits len = absurd (omega arith)
-addresses_in-whole zero (a ∷ b ∷ c ∷ d ∷ rest) fits len = absurd (omega arith)
 addresses_in-whole (suc n) (a ∷ b ∷ c ∷ d ∷ rest) fits len =
-    let others = addresses_in-whole n rest (λ i. fits (suc (suc (suc (suc i))))) (omega arith) in
-    let first : octets_of (from_be_bytes w32 (a ∷ b ∷ c ∷ d ∷ [])) ≡ a ∷ b ∷ c ∷ d ∷ [] =
-    be_bytes_4 (a ∷ b ∷ c ∷ d ∷ []) (from_be_bytes w32 (a ∷ b ∷ c ∷ d ∷ [])) refl (four_bytes a b c d (fits 0) (fits 1) (fits 2) (fits 3)) refl in
-    let below : from_be_bytes w32 (a ∷ b ∷ c ∷ d ∷ []) < 2 ^ 32 = omega (arith, fits 0, fits 1, fits 2, fits 3) in
+    let four = a ∷ b ∷ c ∷ d ∷ [] in
+    let front : IsBytes four = IsBytes-take 4 (a ∷ b ∷ c ∷ d ∷ rest) fits in
+    let rest_fits = IsBytes-drop 4 (a ∷ b ∷ c ∷ d ∷ rest) fits in
+    let others = addresses_in-whole n rest rest_fits (omega arith) in
     record {
-      spelled = ap (λ (front : List ℕ). front ++ flat_map octets_of (addresses_in rest)) first ∙ ap (λ (back : List ℕ). a ∷ b ∷ c ∷ d ∷ back) others.spelled;
+      spelled = λ i. octets_of-from four refl front i ++ others.spelled i;
       count = ap suc others.count;
-      fit = (below, others.fit);
+      fit = (from_octets_fits four front, others.fit);
     }
+addresses_in-whole _ _ fits len = absurd (omega arith)
 
 -- addresses that are written are read again
 pub addresses_in-written : (xs : List ℕ) → AllByRecursion IsAddr xs
@@ -83,7 +64,7 @@ pub addresses_in-written : (xs : List ℕ) → AllByRecursion IsAddr xs
 unfolding addresses_in
 addresses_in-written [] h = refl
 addresses_in-written (x ∷ xs) h =
-    ap (λ (y : ℕ). y ∷ addresses_in (flat_map octets_of xs)) (from_be_bytes-to_be_bytes_4 x h.0) ∙ ap (λ (ys : List ℕ). x ∷ ys) (addresses_in-written xs h.1)
+    λ i. from_be_bytes-to_be_bytes_4 x h.0 i ∷ addresses_in-written xs h.1 i
 
 pub length-written : (xs : List ℕ) → length (flat_map octets_of xs) ≡ 4 * length xs
 length-written [] = refl

@@ -1,11 +1,9 @@
--- A message that is read is the message that the bytes are, and bytes that are a message are read as it.
-use Rattle.std.proofs.Common.{◌≡◌, ℕ, ◌%◌, ◌<◌, ◌≤◌, ◌⊎◌, Bool, true, false, eqb, ltb, List, []}
-use Rattle.std.proofs.Common.{◌∷◌}
-use Rattle.std.proofs.Common.{◌-◌, length, take, drop, Result, Ok, Err, refl, sym, ap, ◌∙◌, inl}
-use Rattle.std.proofs.Common.{inr}
+-- A message that is read is what the bytes are, and bytes that are a message are read as it.
+use Rattle.std.proofs.Common.{◌≡◌, ℕ, ◌%◌, ◌-◌, ◌⊎◌, true, false, eqb, ltb, List, [], ◌∷◌, length}
+use Rattle.std.proofs.Common.{take, drop, Result, Ok, Err, refl, sym, ap, ◌∙◌, inl, inr, arith}
 use Rattle.std.specs.Prelude.{◌&&◌, ◌||◌, IfOk, MatchResult, IsOkAnd, IsErrAnd, slice_index}
-use Rattle.std.proofs.lemmas.Bool.{ltb-true, ltb-false, lt-ltb, le-ltb, eqb-true, eqb-false, eq-eqb}
-use Rattle.std.proofs.lemmas.Bool.{ne_eqb, cond_both, and_parts, or_cases, or_parts}
+use Rattle.std.proofs.lemmas.Bool.{lt-ltb, le-ltb, eqb-true, eq-eqb, ne_eqb, cond_both, or_cases}
+use Rattle.std.proofs.lemmas.Bool.Decides.{nat_tests}
 use Rattle.std.proofs.lemmas.Result.{IfOk-at_ok}
 use Rattle.std.proofs.lemmas.List.{take_rest}
 use Rattle.byteorder.specs.Endian.{big_number}
@@ -13,7 +11,7 @@ use Rattle.mc_igmp.specs.declared.record.Record.{Record}
 use Rattle.mc_igmp.specs.declared.message.Message.{Message}
 use Rattle.mc_igmp.specs.declared.message.Message.TheVariants.{Report, Other}
 use Rattle.mc_igmp.specs.declared.message.MessageFault.{MessageFault}
-use Rattle.mc_igmp.specs.declared.message.MessageFault.TheVariants.{Short, BadChecksum, Truncated}
+use Rattle.mc_igmp.specs.declared.message.MessageFault.TheVariants.{Truncated}
 use Rattle.mc_igmp.specs.Checksum.{word_sum, IsWellFormed}
 use Rattle.mc_igmp.specs.Records.{records_in, after_records}
 use Rattle.mc_igmp.specs.Message.{record_count, IsReport, IsReportType, IsMessage}
@@ -23,10 +21,6 @@ use Rattle.mc_igmp.specs.ReadingMessage.{report_of, read_typed, read_message}
 use Rattle.mc_igmp.proofs.AddressLemmas.{IsBytes, IsBytes-drop}
 use Rattle.mc_igmp.proofs.RecordLemmas.{word_at}
 use Rattle.mc_igmp.proofs.RecordsLemmas.{records_again, records_found}
-
--- the test on the sum
-abbrev pub is_checksummed : List ℕ → Bool
-is_checksummed bytes = ltb 0 (word_sum bytes) && eqb (word_sum bytes % 65535) 0
 
 -- ---- what is read is the message that the bytes are
 
@@ -39,24 +33,23 @@ report_found : (bytes : List ℕ) → IsBytes bytes → IsWellFormed bytes → s
     → IsFound bytes (report_of bytes after)
 report_found bytes fits formed type (Err number) e = tt
 report_found bytes fits formed type (Ok ignored) e =
-    let count = record_count bytes in
-    let found = records_found 1 count (drop 8 bytes) ignored (IsBytes-drop 8 bytes fits) e in
-    let report : IsReport bytes (records_in count (drop 8 bytes)) = record {
-      own = found.own;
-      ignored = ignored;
-      type = type;
-      counted = found.counted;
-      parts = found.parts;
-      whole = found.whole;
-    } in
-    (formed, inl report)
+    let found = records_found 1 (record_count bytes) (drop 8 bytes) ignored
+    (IsBytes-drop 8 bytes fits) e in (
+      formed,
+      inl (record {
+        own = found.own;
+        ignored = ignored;
+        type = type;
+        counted = found.counted;
+        parts = found.parts;
+        whole = found.whole;
+      }),
+    )
 
 -- a type that three tests refused is no report's
 other_type : (type : ℕ) → eqb type 0x22 ≡ false → (eqb type 0x12 || eqb type 0x16) ≡ false
     → ¬ (IsReportType type)
-other_type type new older (inl is) = eqb-false _ _ (or_parts _ _ older).0 is
-other_type type new older (inr (inl is)) = eqb-false _ _ (or_parts _ _ older).1 is
-other_type type new older (inr (inr is)) = eqb-false _ _ new is
+other_type type new older = λ is. grind (arith, nat_tests, is)
 
 older_type : (type : ℕ) → (eqb type 0x12 || eqb type 0x16) ≡ true → (type ≡ 0x12) ⊎ (type ≡ 0x16)
 older_type type is = elim (or_cases _ _ is) [
@@ -76,23 +69,20 @@ typed_found bytes fits formed =
     (λ older. (formed, inr (record { type = older_type type older; one = refl })))
     (λ not_older. (formed, refl, other_type type not_new not_older)))
 
-well_formed : (bytes : List ℕ) → ltb (length bytes) 8 ≡ false → is_checksummed bytes ≡ true
-    → IsWellFormed bytes
-well_formed bytes long summed =
-    let sum = and_parts (ltb 0 (word_sum bytes)) (eqb (word_sum bytes % 65535) 0) summed in
-    record {
-      long_enough = ltb-false _ _ long;
-      positive = ltb-true _ _ sum.0;
-      multiple = eqb-true _ _ sum.1;
-    }
+well_formed : (bytes : List ℕ) → ltb (length bytes) 8 ≡ false
+    → (ltb 0 (word_sum bytes) && eqb (word_sum bytes % 65535) 0) ≡ true → IsWellFormed bytes
+well_formed bytes long summed = record {
+  long_enough = grind (arith, nat_tests);
+  positive = grind (arith, nat_tests);
+  multiple = grind (arith, nat_tests);
+}
 
-read_message-found : (bytes : List ℕ) → IsBytes bytes → IsFound bytes (read_message bytes)
+pub read_message-found : (bytes : List ℕ) → IsBytes bytes → IsFound bytes (read_message bytes)
 unfolding read_message
 read_message-found bytes fits =
-    cond_both (ltb (length bytes) 8) _ _ (IsFound bytes)
-    (λ short. tt)
-    (λ long. cond_both (is_checksummed bytes) _ _ (IsFound bytes)
-    (λ summed. typed_found bytes fits (well_formed bytes long summed))
+    cond_both (ltb (length bytes) 8) _ _ (IsFound bytes) (λ short. tt)
+    (λ long. cond_both (ltb 0 (word_sum bytes) && eqb (word_sum bytes % 65535) 0) _ _
+    (IsFound bytes) (λ summed. typed_found bytes fits (well_formed bytes long summed))
     (λ unsummed. tt))
 
 -- ---- bytes that are a message are read as it
@@ -102,21 +92,16 @@ formed_again : (bytes : List ℕ) → IsWellFormed bytes
     → read_message bytes ≡ read_typed bytes (slice_index bytes 0)
 unfolding read_message
 formed_again bytes h =
-    let long : ltb (length bytes) 8 ≡ false = le-ltb _ _ h.long_enough in
-    let positive : ltb 0 (word_sum bytes) ≡ true = lt-ltb _ _ h.positive in
-    let multiple : eqb (word_sum bytes % 65535) 0 ≡ true = eq-eqb _ _ h.multiple in
-    rw (long, positive, multiple) refl
+    rw (le-ltb _ _ h.long_enough, lt-ltb _ _ h.positive, eq-eqb _ _ h.multiple) refl
 
 report_again : (bytes : List ℕ) (rs : List Record) → IsReport bytes rs
     → read_typed bytes (slice_index bytes 0) ≡ Ok (Report rs)
 unfolding read_typed
 report_again bytes rs h =
     let again = records_again 1 rs h.own h.ignored h.whole in
-    let after : after_records 1 (record_count bytes) (drop 8 bytes) ≡ Ok h.ignored =
-    rw (← h.counted, h.parts) again.after in
-    let records : records_in (record_count bytes) (drop 8 bytes) ≡ rs =
-    rw (← h.counted, h.parts) again.records in
-    rw (eq-eqb _ _ h.type, after, records) refl
+    let whole = rw h.counted at again.after in
+    let records = rw h.counted at again.records in
+    rw (eq-eqb _ _ h.type, h.parts, whole, h.parts, records) refl
 
 pub older_again : (bytes : List ℕ) (type : ℕ) → (type ≡ 0x12) ⊎ (type ≡ 0x16)
     → read_typed bytes type ≡ Ok (Report (older_record (group_at bytes) ∷ []))
@@ -128,26 +113,18 @@ pub other_again : (bytes : List ℕ) (type : ℕ) → ¬ (IsReportType type)
     → read_typed bytes type ≡ Ok (Other type)
 unfolding read_typed
 other_again bytes type other =
-    rw (
-      ne_eqb type 0x22 (λ e. other (inr (inr e))),
-      ne_eqb type 0x12 (λ e. other (inl e)),
-      ne_eqb type 0x16 (λ e. other (inr (inl e))),
-    ) refl
-
-typed_again : (bytes : List ℕ) (m : Message) → IsMessage bytes m
-    → read_typed bytes (slice_index bytes 0) ≡ Ok m
-typed_again bytes (Report rs) (formed, inl h) = report_again bytes rs h
-typed_again bytes (Report rs) (formed, inr h) = older_again bytes _ h.type ∙ ap (λ (l : List Record). Ok (Report l)) (sym h.one)
-typed_again bytes (Other type) (formed, is, other) =
-    ap (read_typed bytes) is ∙ other_again bytes type other
-
-formed_message : (bytes : List ℕ) (m : Message) → IsMessage bytes m → IsWellFormed bytes
-formed_message bytes (Report rs) h = h.0
-formed_message bytes (Other type) h = h.0
+    let new = ne_eqb type 0x22 (λ e. other (inr (inr e))) in
+    let second = ne_eqb type 0x16 (λ e. other (inr (inl e))) in
+    rw (new, ne_eqb type 0x12 (λ e. other (inl e)), second) refl
 
 pub read_message-again : (bytes : List ℕ) (m : Message) → IsMessage bytes m
     → read_message bytes ≡ Ok m
-read_message-again bytes m h = formed_again bytes (formed_message bytes m h) ∙ typed_again bytes m h
+read_message-again bytes (Report rs) (formed, inl h) = formed_again bytes formed
+    ∙ report_again bytes rs h
+read_message-again bytes (Report rs) (formed, inr h) = formed_again bytes formed
+    ∙ older_again bytes _ h.type ∙ ap (λ (l : List Record). Ok (Report l)) (sym h.one)
+read_message-again bytes (Other type) (formed, is, other) = formed_again bytes formed
+    ∙ ap (read_typed bytes) is ∙ other_again bytes type other
 
 pub read_message-is : (bytes : List ℕ) (m : Message) → IsBytes bytes → read_message bytes ≡ Ok m
     → IsMessage bytes m
@@ -155,62 +132,38 @@ read_message-is bytes m fits e = IfOk-at_ok (IsMessage bytes) e (read_message-fo
 
 -- ---- as the code reads it
 
--- what `parse` says of an answer that is the definition's
-pub record Parsed (bytes : List ℕ) (read : Result Message MessageFault) : Type 0 where
-  pub found : IfOk read (IsMessage bytes)
-  pub only : (m : Message) → IsMessage bytes m → read ≡ Ok m
-
-pub parsed : (bytes : List ℕ) (read : Result Message MessageFault) → IsBytes bytes
-    → read ≡ read_message bytes → Parsed bytes read
-parsed bytes read fits e = record {
-  found = rw e (read_message-found bytes fits);
-  only = λ m h. e ∙ read_message-again bytes m h;
-}
-
-pub read_message-short : (bytes : List ℕ) → length bytes < 8 → Err Short ≡ read_message bytes
-unfolding read_message
-read_message-short bytes h = rw (lt-ltb _ _ h) refl
-
-pub read_message-unsummed : (bytes : List ℕ) → 8 ≤ length bytes → false ≡ is_checksummed bytes
-    → Err BadChecksum ≡ read_message bytes
-unfolding read_message
-read_message-unsummed bytes h e = rw (le-ltb _ _ h, ← e) refl
-
-pub read_message-typed : (bytes : List ℕ) → 8 ≤ length bytes → true ≡ is_checksummed bytes
-    → read_typed bytes (slice_index bytes 0) ≡ read_message bytes
-unfolding read_message
-read_message-typed bytes h e = rw (le-ltb _ _ h, ← e) refl
-
--- what was read of a Version 3 report's records, as a message or its fault
+-- what was read of a Version 3 report's records
 abbrev IsReadOf : List ℕ → ℕ → Result (List Record) ℕ → Type 0
 IsReadOf body count read = MatchResult read
-    (λ rs. (ignored : List ℕ) × (after_records 1 count body ≡ Ok ignored) × (rs ≡ records_in count body))
+    (λ rs. (ignored : List ℕ) × (after_records 1 count body ≡ Ok ignored)
+    × (rs ≡ records_in count body))
     (λ number. after_records 1 count body ≡ Err number)
+
+-- it as a message, with the number of the record that wasn't read as the fault
+abbrev IsAnswer : Result (List Record) ℕ → Result Message ℕ → Result Message MessageFault → Type 0
+IsAnswer read said answer =
+    MatchResult read (λ rs. IsOkAnd said (λ m. m ≡ Report rs)) (λ number. said ≡ Err number)
+    × MatchResult said (λ m. answer ≡ Ok m)
+    (λ number. IsErrAnd answer (λ fault. fault ≡ Truncated number))
 
 report_said : (bytes : List ℕ) (read : Result (List Record) ℕ) (said : Result Message ℕ)
     (answer : Result Message MessageFault) → IsReadOf (drop 8 bytes) (record_count bytes) read
-    → MatchResult read (λ rs. IsOkAnd said (λ m. m ≡ Report rs)) (λ number. said ≡ Err number)
-    → MatchResult said (λ m. answer ≡ Ok m) (λ number. IsErrAnd answer (λ fault. fault ≡ Truncated number))
+    → IsAnswer read said answer
     → answer ≡ report_of bytes (after_records 1 (record_count bytes) (drop 8 bytes))
-report_said bytes (Ok rs) (Ok m) answer is is_said is_answer =
-    rw (is.1, is_answer, is_said, is.2) refl
-report_said bytes (Ok rs) (Err number) answer is is_said is_answer = absurd is_said
-report_said bytes (Err number) (Ok m) answer is is_said is_answer = absurd cc
-report_said bytes (Err number) (Err n) (Ok m) is is_said is_answer = absurd is_answer
-report_said bytes (Err number) (Err n) (Err fault) is is_said is_answer =
-    rw (is, is_answer) cc
+report_said bytes (Ok rs) (Ok m) answer is (to, last) = rw (is.1, last, to, is.2) refl
+report_said bytes (Ok rs) (Err number) answer is (to, last) = absurd to
+report_said bytes (Err number) (Ok m) answer is (to, last) = absurd cc
+report_said bytes (Err number) (Err n) (Ok m) is (to, last) = absurd last
+report_said bytes (Err number) (Err n) (Err fault) is (to, last) = rw (is, last) cc
 
 pub new_report : (bytes : List ℕ) (count : ℕ) (read : Result (List Record) ℕ)
-    (said : Result Message ℕ)
-    (answer : Result Message MessageFault) → slice_index bytes 0 ≡ 0x22
+    (said : Result Message ℕ) (answer : Result Message MessageFault) → slice_index bytes 0 ≡ 0x22
     → count ≡ big_number 2 (take (length bytes - 6) (drop 6 bytes))
-    → IsReadOf (take (length bytes - 8) (drop 8 bytes)) count read
-    → MatchResult read (λ rs. IsOkAnd said (λ m. m ≡ Report rs)) (λ number. said ≡ Err number)
-    → MatchResult said (λ m. answer ≡ Ok m) (λ number. IsErrAnd answer (λ fault. fault ≡ Truncated number))
+    → IsReadOf (take (length bytes - 8) (drop 8 bytes)) count read → IsAnswer read said answer
     → answer ≡ read_typed bytes (slice_index bytes 0)
 unfolding read_typed
-new_report bytes count read said answer type count_is is is_said is_answer =
-    let body : take (length bytes - 8) (drop 8 bytes) ≡ drop 8 bytes = take_rest bytes 8 in
-    let counted : count ≡ record_count bytes = count_is ∙ word_at bytes 6 in
-    let here : IsReadOf (drop 8 bytes) (record_count bytes) read = rw (← counted, ← body) is in
-    rw type (report_said bytes read said answer here is_said is_answer)
+new_report bytes count read said answer type count_is is is_answer =
+    let counted = count_is ∙ word_at bytes 6 in
+    let here : IsReadOf (drop 8 bytes) (record_count bytes) read =
+    rw (← counted, ← take_rest bytes 8) is in
+    rw type (report_said bytes read said answer here is_answer)

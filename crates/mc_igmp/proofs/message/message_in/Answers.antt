@@ -5,10 +5,12 @@ use Rattle.mc_igmp.proofs.message.message_in.Goals as goal
 pub returns-in-34 : goal.returns-in-34
 returns-in-34 c =
     new_report c.args.bytes.now c.read_u16-count.result c.read.result c.map.result c.map_err.result
-    c.in-34.is c.read_u16-count.ensures c.read.ensures c.map.ensures.cases c.map_err.ensures.cases
+    c.in-34.is c.read_u16-count.ensures c.read.ensures
+    (c.map.ensures.cases, c.map_err.ensures.cases)
 
 pub returns-in-18 : goal.returns-in-18
-returns-in-18 c = rw (c.of_older_report.ensures, c.group_of.ensures) (sym (older_again c.args.bytes.now _ c.in-18.is))
+returns-in-18 c = rw (c.of_older_report.ensures, c.group_of.ensures)
+    (sym (older_again c.args.bytes.now _ c.in-18.is))
 
 pub returns-in_default : goal.returns-in_default
 returns-in_default c = sym (other_again c.args.bytes.now _ (λ is. grind (arith, is)))

@@ -1,4 +1,4 @@
-use Rattle.std.proofs.Common.{◌≡◌, ◌+◌, ◌*◌, get_or, arith, ◌∙◌}
+use Rattle.std.proofs.Common.{◌+◌, ◌*◌, arith, ◌∙◌, refl}
 use Rattle.mc_igmp.proofs.RecordLemmas.{word_at, read_record-none, read_record-split}
 use Rattle.mc_igmp.proofs.record.split_record.Goals as goal
 
@@ -7,12 +7,12 @@ returns-then-bytes-lt-HEADER_LEN c = read_record-none c.args.bytes.now (omega ar
 
 pub returns-then-bytes-end : goal.returns-then-bytes-end
 returns-then-bytes-end c =
-    let count : c.read_u16.result ≡ 256 * get_or c.args.bytes.now 2 0 + get_or c.args.bytes.now 3 0 = c.read_u16.ensures ∙ word_at c.args.bytes.now 2 in
+    let count = c.read_u16.ensures ∙ word_at c.args.bytes.now 2 in
     read_record-none c.args.bytes.now (omega arith)
 
 pub returns : goal.returns
 returns c =
-    let count : c.read_u16.result ≡ 256 * get_or c.args.bytes.now 2 0 + get_or c.args.bytes.now 3 0 = c.read_u16.ensures ∙ word_at c.args.bytes.now 2 in
-    let bytes = c.args.bytes.now in
+    let count = c.read_u16.ensures ∙ word_at c.args.bytes.now 2 in
     let sources_end = 8 + 4 * c.from.result in
-    read_record-split bytes sources_end (sources_end + 4 * c.from-2.result) c.from_type.result c.group_of.result (omega arith) (omega arith) (omega arith) c.from_type.ensures c.group_of.ensures
+    read_record-split c.args.bytes.now sources_end (sources_end + 4 * c.from-2.result) _
+    (omega arith) (omega arith) (omega arith) c.from_type.ensures c.group_of.ensures refl

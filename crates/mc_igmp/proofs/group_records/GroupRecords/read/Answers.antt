@@ -1,16 +1,19 @@
 use Rattle.std.proofs.Common.{arith}
-use Rattle.mc_igmp.proofs.RecordsLemmas.{records_cut, after_records-length}
+use Rattle.mc_igmp.proofs.RecordsLemmas.{records_cut, records-length}
 use Rattle.mc_igmp.proofs.group_records.GroupRecords.read.Goals as goal
 
 pub slice_bounds-own-count : goal.slice_bounds-own-count
-slice_bounds-own-count c = after_records-length c.args.count c.args.bytes.now c.in_ok-ignored.ignored.now (λ i. omega (arith, c.type_inv.bytes i)) c.in_ok-ignored.ensures
+slice_bounds-own-count c =
+    omega (arith, records-length 1 c.args.count c.args.bytes.now _ c.in_ok-ignored.ensures)
 
 pub invariant_of-result : goal.invariant_of-result
 invariant_of-result c =
-    let cut = records_cut c.args.count c.args.bytes.now c.in_ok-ignored.ignored.now (λ i. omega (arith, c.type_inv.bytes i)) c.in_ok-ignored.ensures in
+    let cut = records_cut c.args.count c.args.bytes.now c.in_ok-ignored.ignored.now
+    (λ i. omega (arith, c.type_inv.bytes i)) c.in_ok-ignored.ensures in
     rw c.from.ensures cut.whole
 
 pub returns : goal.returns
 returns c =
-    let cut = records_cut c.args.count c.args.bytes.now c.in_ok-ignored.ignored.now (λ i. omega (arith, c.type_inv.bytes i)) c.in_ok-ignored.ensures in
+    let cut = records_cut c.args.count c.args.bytes.now c.in_ok-ignored.ignored.now
+    (λ i. omega (arith, c.type_inv.bytes i)) c.in_ok-ignored.ensures in
     (c.in_ok-ignored.ignored.now, c.in_ok-ignored.ensures, rw c.from.ensures cut.records)

@@ -7,12 +7,15 @@ pub overflow_add-self : goal.overflow_add-self
 overflow_add-self c =
     let kept = records-length 1 c.self.inside.count c.self.inside.bytes.items [] c.self.invariant in
     let added = records-length 1 c.args.count c.args.bytes.now [] c.requires in
-    omega (arith, kept, added, c.extend_from_slice.new.self.ok, c.extend_from_slice.new.self.small, ap length c.in_ok-extend_from_slice.ensures.items, length-append c.self.inside.bytes.items c.args.bytes.now)
+    let all = length-append c.self.inside.bytes.items c.args.bytes.now in
+    let ok = c.extend_from_slice.new.self.ok in
+    let small = c.extend_from_slice.new.self.small in
+    omega (arith, kept, added, ok, small, ap length c.in_ok-extend_from_slice.ensures.items, all)
 
 pub invariant_of-self-2 : goal.invariant_of-self-2
-invariant_of-self-2 c =
-    rw c.in_ok-extend_from_slice.ensures.items (IsWhole-append c.self.inside.count c.args.count c.self.inside.bytes.items c.args.bytes.now c.self.invariant c.requires)
+invariant_of-self-2 c = rw c.in_ok-extend_from_slice.ensures.items (IsWhole-append
+    c.self.inside.count c.args.count c.self.inside.bytes.items _ c.self.invariant c.requires)
 
 pub returns : goal.returns
-returns c =
-    rw (c.in_ok-extend_from_slice.ensures.items, ← c.self.view_is) (records_in-append c.self.inside.count c.args.count c.self.inside.bytes.items c.args.bytes.now c.self.invariant)
+returns c = rw (c.in_ok-extend_from_slice.ensures.items, ← c.self.view_is) (records_in-append
+    c.self.inside.count c.args.count c.self.inside.bytes.items _ c.self.invariant)

@@ -4,44 +4,52 @@ use Rattle.mc_text.proofs.StepLemmas.{with_front-none}
 use Rattle.mc_text.specs.LineView.{line_text}
 use Rattle.mc_text.specs.Lines.{lines_of}
 use Rattle.mc_igmp.specs.ReadingList.{read_lines}
-use Rattle.mc_igmp.proofs.RecordsLemmas.{records_in-none, after_records-none}
-use Rattle.mc_igmp.proofs.ListLemmas.{IsAnswer, lines_go_on, read_list-large}
-use Rattle.mc_igmp.proofs.ListLemmas.{list_read, list_refused, read_list-found, answer_only}
+use Rattle.mc_igmp.specs.Records.{records_in}
+use Rattle.mc_igmp.proofs.RecordsLemmas.{after_records-none}
+use Rattle.mc_igmp.proofs.ListLemmas.{lines_go_on, read_list-large, list_read, list_refused}
+use Rattle.mc_igmp.proofs.ListLemmas.{read_list-found, answer_only}
 use Rattle.mc_igmp.proofs.list.ReportList.read.Goals as goal
-use Rattle.mc_igmp.proofs.list.ReportList.read.Goals.{After-drop-list-inside}
 
 pub returns-then-text-gt-MAX_TEXT-clause-fault : goal.returns-then-text-gt-MAX_TEXT-clause-fault
-returns-then-text-gt-MAX_TEXT-clause-fault c = rw c.at.ensures (inl (read_list-large c.args.text.now c.if-text-gt-MAX_TEXT.true))
+returns-then-text-gt-MAX_TEXT-clause-fault c =
+    rw c.at.ensures (inl (read_list-large c.args.text.now c.if-text-gt-MAX_TEXT.true))
 
 pub invariant_of-list : goal.invariant_of-list
 invariant_of-list c = rw c.new.ensures.items (after_records-none 0 1 [] refl)
 
 pub loop-line-init : goal.loop-line-init
+unfolding records_in
 loop-line-init c =
-    rw (c.into_iter-line-iterator.ensures.into_iter_gives, c.new-line-items.ensures, records_in-none c.new.result.items) (with_front-none (read_lines (lines_of c.args.text.now)))
+    rw (c.into_iter-line-iterator.ensures.into_iter_gives, c.new-line-items.ensures)
+    (with_front-none (read_lines (lines_of c.args.text.now)))
 
 pub loop-line-preserved : goal.loop-line-preserved
 loop-line-preserved c =
     let read = c.in_ok-push_line.ensures.ok in
-    lines_go_on c.loop-line.list read.0 c.push_line.new.self (line_text c.in-Some.line) c.loop-line.line-iterator c.next.new.self (read_lines (lines_of c.args.text.now)) c.in-Some.ensures.steps read.1 read.2 c.loop-line.invariant
-
--- the answer at a line that is refused
-refused : (c : After-drop-list-inside) → IsAnswer c.args.text.now c.from_residual.result
-refused c =
-    let p = err_from_is_err_and c.from_residual.result c.from_residual.ensures.1 in
-    rw (p.1, p.2) (list_refused c.args.text.now c.loop-line.list (line_text c.in-Some.line) c.loop-line.line-iterator c.next.new.self c.in_err-push_line.field-0.0 c.if-text-gt-MAX_TEXT.false c.in-Some.ensures.steps c.in_err-push_line.ensures.err c.loop-line.invariant)
-
-pub returns-in_err-push_line-clause-only : goal.returns-in_err-push_line-clause-only
-returns-in_err-push_line-clause-only c = λ records stands. answer_only c.args.text.now records c.from_residual.result (refused c) stands
+    lines_go_on c.loop-line.list read.0 c.push_line.new.self (line_text c.in-Some.line)
+    c.loop-line.line-iterator c.next.new.self _ c.in-Some.ensures.steps read.1 read.2
+    c.loop-line.invariant
 
 pub returns-in_err-push_line-clause-fault : goal.returns-in_err-push_line-clause-fault
-returns-in_err-push_line-clause-fault c = refused c
+returns-in_err-push_line-clause-fault c =
+    let p = err_from_is_err_and c.from_residual.result c.from_residual.ensures.1 in
+    rw (p.1, p.2) (list_refused c.args.text.now c.loop-line.list (line_text c.in-Some.line)
+    c.loop-line.line-iterator c.next.new.self _ c.if-text-gt-MAX_TEXT.false
+    c.in-Some.ensures.steps c.in_err-push_line.ensures.err c.loop-line.invariant)
 
-pub returns-clause-found : goal.returns-clause-found
-returns-clause-found c = read_list-found c.args.text.now c.loop-line.list (sym (list_read c.args.text.now c.loop-line.list c.loop-line.line-iterator c.if-text-gt-MAX_TEXT.false c.in-None.ensures.steps.0 c.loop-line.invariant))
-
-pub returns-clause-only : goal.returns-clause-only
-returns-clause-only c = λ records stands. answer_only c.args.text.now records (Ok c.loop-line.list) (inl (list_read c.args.text.now c.loop-line.list c.loop-line.line-iterator c.if-text-gt-MAX_TEXT.false c.in-None.ensures.steps.0 c.loop-line.invariant)) stands
+pub returns-in_err-push_line-clause-only : goal.returns-in_err-push_line-clause-only
+returns-in_err-push_line-clause-only c = λ records. answer_only c.args.text.now records _
+    (returns-in_err-push_line-clause-fault c)
 
 pub returns-clause-fault : goal.returns-clause-fault
-returns-clause-fault c = inl (list_read c.args.text.now c.loop-line.list c.loop-line.line-iterator c.if-text-gt-MAX_TEXT.false c.in-None.ensures.steps.0 c.loop-line.invariant)
+returns-clause-fault c = inl (list_read c.args.text.now c.loop-line.list c.loop-line.line-iterator
+    c.if-text-gt-MAX_TEXT.false c.in-None.ensures.steps.0 c.loop-line.invariant)
+
+pub returns-clause-found : goal.returns-clause-found
+returns-clause-found c = read_list-found c.args.text.now c.loop-line.list
+    (sym (list_read c.args.text.now c.loop-line.list c.loop-line.line-iterator
+    c.if-text-gt-MAX_TEXT.false c.in-None.ensures.steps.0 c.loop-line.invariant))
+
+pub returns-clause-only : goal.returns-clause-only
+returns-clause-only c = λ records. answer_only c.args.text.now records (Ok c.loop-line.list)
+    (returns-clause-fault c)

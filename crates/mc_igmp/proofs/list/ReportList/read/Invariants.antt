@@ -5,4 +5,5 @@ use Rattle.mc_text.proofs.StepLemmas.{with_front}
 use Rattle.mc_igmp.proofs.list.ReportList.read.Given as goal
 
 abbrev pub invariant-loop-line : goal.invariant-loop-line
-invariant-loop-line l = with_front l.list (read_lines l.line-iterator) ≡ read_lines (lines_of l.fn.text)
+invariant-loop-line l =
+    with_front l.list (read_lines l.line-iterator) ≡ read_lines (lines_of l.fn.text)

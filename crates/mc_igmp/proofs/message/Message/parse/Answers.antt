@@ -1,27 +1,29 @@
-use Rattle.std.proofs.Common.{◌∙◌, arith}
-use Rattle.mc_igmp.proofs.MessageLemmas.{parsed, read_message-short, read_message-unsummed}
-use Rattle.mc_igmp.proofs.MessageLemmas.{read_message-typed}
+use Rattle.std.proofs.Common.{◌∙◌, arith, refl}
+use Rattle.std.proofs.lemmas.Bool.{lt-ltb, le-ltb}
+use Rattle.mc_igmp.specs.ReadingMessage.{read_message}
+use Rattle.mc_igmp.proofs.MessageLemmas.{read_message-found, read_message-again}
 use Rattle.mc_igmp.proofs.message.Message.parse.Goals as goal
 
 pub returns-then-bytes-lt-HEADER_LEN-clause-fault :
     goal.returns-then-bytes-lt-HEADER_LEN-clause-fault
+unfolding read_message
 returns-then-bytes-lt-HEADER_LEN-clause-fault c =
-    read_message-short c.args.bytes.now c.if-bytes-lt-HEADER_LEN.true
+    rw (lt-ltb _ _ c.if-bytes-lt-HEADER_LEN.true) refl
 
 pub returns-then-not-is_checksum_right-clause-fault :
     goal.returns-then-not-is_checksum_right-clause-fault
+unfolding read_message
 returns-then-not-is_checksum_right-clause-fault c =
-    read_message-unsummed c.args.bytes.now c.if-bytes-lt-HEADER_LEN.false c.if-not-is_checksum_right.ensures
+    rw (le-ltb _ _ c.if-bytes-lt-HEADER_LEN.false, ← c.if-not-is_checksum_right.ensures) refl
 
 pub returns-clause-fault : goal.returns-clause-fault
-returns-clause-fault c =
-    c.message_in.ensures
-    ∙ read_message-typed c.args.bytes.now c.if-bytes-lt-HEADER_LEN.false c.if-not-is_checksum_right.ensures
+unfolding read_message
+returns-clause-fault c = c.message_in.ensures
+    ∙ rw (le-ltb _ _ c.if-bytes-lt-HEADER_LEN.false, ← c.if-not-is_checksum_right.ensures) refl
 
 pub returns-clause-found : goal.returns-clause-found
-returns-clause-found c =
-    (parsed c.args.bytes.now _ (λ i. omega (arith, c.type_inv.bytes i)) (returns-clause-fault c)).found
+returns-clause-found c = rw (returns-clause-fault c)
+    (read_message-found c.args.bytes.now (λ i. omega (arith, c.type_inv.bytes i)))
 
 pub returns-clause-only : goal.returns-clause-only
-returns-clause-only c =
-    (parsed c.args.bytes.now _ (λ i. omega (arith, c.type_inv.bytes i)) (returns-clause-fault c)).only
+returns-clause-only c = λ m h. returns-clause-fault c ∙ read_message-again c.args.bytes.now m h

@@ -5,12 +5,16 @@ use Rattle.mc_igmp.proofs.record.SourcesIterator.next.Goals as goal
 
 pub returns-in_default-clause-steps : goal.returns-in_default-clause-steps
 returns-in_default-clause-steps c =
-    let none = sym c.self.view_is ∙ addresses_in-short c.self.inside.bytes.now c.in_default.len_below in (none, none)
+    let none = sym c.self.view_is
+    ∙ addresses_in-short c.self.inside.bytes.now c.in_default.len_below in
+    (none, none)
 
 pub returns-in-len4-up-clause-steps : goal.returns-in-len4-up-clause-steps
-returns-in-len4-up-clause-steps c =
-    sym c.self.view_is ∙ addresses_in-first c.self.inside.bytes.now c.in-len4-up.len_at_least ∙ rw (take_rest c.self.inside.bytes.now 4, c.from_octets-source.ensures.value) refl
+returns-in-len4-up-clause-steps c = sym c.self.view_is
+    ∙ addresses_in-first c.self.inside.bytes.now c.in-len4-up.len_at_least
+    ∙ rw (take_rest c.self.inside.bytes.now 4, c.from_octets-source.ensures.value) refl
 
 pub returns-in-len4-up-clause-goes : goal.returns-in-len4-up-clause-goes
 returns-in-len4-up-clause-goes c =
-    let shorter = ap length (returns-in-len4-up-clause-steps c) in record { on = λ _. (tt, tt, omega (arith, shorter)); keeps = tt; rests = λ _. tt }
+    let shorter = ap length (returns-in-len4-up-clause-steps c) in
+    record { on = λ _. (tt, tt, omega (arith, shorter)); keeps = tt; rests = λ _. tt }

@@ -19,8 +19,7 @@ use Rattle.mc_igmp.specs.OlderReport.{older_record}
 use Rattle.mc_igmp.specs.Record.{group_at}
 use Rattle.mc_igmp.specs.ReadingMessage.{report_of, read_typed, read_message}
 use Rattle.mc_igmp.proofs.AddressLemmas.{IsBytes, IsBytes-drop}
-use Rattle.mc_igmp.proofs.RecordLemmas.{word_at}
-use Rattle.mc_igmp.proofs.RecordsLemmas.{records_again, records_found}
+use Rattle.mc_igmp.proofs.RecordsLemmas.{word_at, records_again, records_found}
 
 -- ---- what is read is the message that the bytes are
 

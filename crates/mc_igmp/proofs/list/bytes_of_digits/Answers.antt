@@ -4,7 +4,7 @@ use Rattle.std.proofs.lemmas.Bool.Decides.{nat_tests}
 use Rattle.hex.specs.Hex.{decode_of}
 use Rattle.mc_text.specs.LineView.{line_text}
 use Rattle.mc_igmp.specs.ReadingList.{bytes_of_line, digits_read}
-use Rattle.mc_igmp.proofs.LineLemmas.{bytes_of_line-digits, digits_refused}
+use Rattle.mc_igmp.proofs.ListLemmas.{bytes_of_line-digits, digits_refused}
 use Rattle.mc_igmp.proofs.list.bytes_of_digits.Goals as goal
 
 pub returns-then-not-line : goal.returns-then-not-line

@@ -1,7 +1,7 @@
 use Rattle.std.proofs.Common.{length, refl, ap, arith}
 use Rattle.mc_igmp.specs.Kind.{is_change}
 use Rattle.mc_igmp.specs.ReadingList.{first_change}
-use Rattle.mc_igmp.proofs.LineLemmas.{is_change-not}
+use Rattle.mc_igmp.proofs.ListLemmas.{is_change-not}
 use Rattle.mc_igmp.proofs.list.first_change_of.Goals as goal
 
 pub returns-in-Change : goal.returns-in-Change

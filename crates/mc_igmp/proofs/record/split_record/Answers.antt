@@ -1,5 +1,5 @@
 use Rattle.std.proofs.Common.{◌+◌, ◌*◌, arith, ◌∙◌, refl}
-use Rattle.mc_igmp.proofs.RecordLemmas.{word_at, read_record-none, read_record-split}
+use Rattle.mc_igmp.proofs.RecordsLemmas.{word_at, read_record-none, read_record-split}
 use Rattle.mc_igmp.proofs.record.split_record.Goals as goal
 
 pub returns-then-bytes-lt-HEADER_LEN : goal.returns-then-bytes-lt-HEADER_LEN

@@ -4,7 +4,7 @@ use Rattle.std.proofs.lemmas.List.{append-nil}
 use Rattle.std.proofs.lemmas.Result.{err_from_is_err_and}
 use Rattle.mc_text.specs.LineView.{line_text}
 use Rattle.mc_igmp.specs.declared.record.Record.{Record}
-use Rattle.mc_igmp.proofs.LineLemmas.{read_line-refused, read_line-is}
+use Rattle.mc_igmp.proofs.ListLemmas.{read_line-refused, read_line-is}
 use Rattle.mc_igmp.proofs.list.ReportList.push_line.Goals as goal
 use Rattle.mc_igmp.proofs.list.ReportList.push_line.Goals.{in-Some+in_ok-append, in_default}
 

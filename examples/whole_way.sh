@@ -1,7 +1,7 @@
 #!/bin/sh
 # Shows the whole way from captured files to what mcaudit says of them, on copies of two folders beside this
-# script: the certificate and the verdict of the first, and what is wrong with the second. Usage:
-# whole_way.sh [PROGRAM]
+# script: what an audit says of both, the certificate and the verdict of the first, and what is wrong with the
+# second. Usage: whole_way.sh [PROGRAM]
 #
 # Without a program the source runs unproved, by `rt try`: that takes about a minute for each command, and not
 # the time of all proofs.
@@ -43,6 +43,14 @@ run_to() {
 }
 
 [ -n "$program" ] || echo "(no program is built: its source runs unproved; \`make\` proves and builds it)"
+
+echo "\$ mcaudit audit network"
+run_to audited 0 audit network < /dev/null
+cat audited
+
+echo "\$ mcaudit audit second-router --travel"
+run_to audited 1 audit second-router --travel < /dev/null
+cat audited
 
 echo "\$ mcaudit pack network | mcaudit make | tee network/certificate"
 run_to bundle 0 pack network < /dev/null

@@ -5,13 +5,15 @@ _mcaudit() {
     local before=${COMP_WORDS[COMP_CWORD - 1]}
     COMPREPLY=()
     if [ "$COMP_CWORD" -eq 1 ]; then
-        mapfile -t COMPREPLY < <(compgen -W 'check make pack replay wants' -- "$word")
+        mapfile -t COMPREPLY < <(compgen -W 'audit check make pack replay wants' -- "$word")
         return
     fi
+    local option=--certificate
     case ${COMP_WORDS[1]} in
-        pack)
+        audit | pack)
+            if [ "${COMP_WORDS[1]}" = audit ]; then option=--travel; fi
             case $word in
-                -*) mapfile -t COMPREPLY < <(compgen -W '--certificate' -- "$word") ;;
+                -*) mapfile -t COMPREPLY < <(compgen -W "$option" -- "$word") ;;
                 *)
                     compopt -o filenames 2> /dev/null
                     mapfile -t COMPREPLY < <(compgen -A directory -- "$word") ;;

@@ -243,7 +243,8 @@ headline_told (Some text) taken read h =
 
 -- ---- yes
 
-cancel : (xs ys zs : List ℕ) → xs ++ ys ≡ xs ++ zs → ys ≡ zs
+-- what stands behind the same front is the same
+pub cancel : (xs ys zs : List ℕ) → xs ++ ys ≡ xs ++ zs → ys ≡ zs
 cancel [] ys zs same = same
 cancel (x ∷ xs) ys zs same = cancel xs ys zs cc
 

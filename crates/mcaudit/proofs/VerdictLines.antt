@@ -37,11 +37,11 @@ digits_by (suc k) n acc none =
     (glyph_by (n % 10) (nat_lt (n % 10) 10), none) in
     either (n / 10 == 0) _ _ more (digits_by k (n / 10) (digit_glyph false (n % 10) ∷ acc) more)
 
-number : (n : ℕ) → Without 10 (decimal n)
+pub number : (n : ℕ) → Without 10 (decimal n)
 unfolding digits
 number n = digits_by 64 n [] tt
 
-address : (a : ℕ) → Without 10 (dotted a)
+pub address : (a : ℕ) → Without 10 (dotted a)
 address a =
     let first = Without-append 10 _ (codes ".") (number (a / 16777216 % 256)) (refl, tt) in
     let second = Without-append 10 _ _ first (number (a / 65536 % 256)) in
@@ -55,14 +55,14 @@ unfolding is_name
 name_by name is =
     Without-from_list_all is_name_byte 10 refl name (and_parts _ (list_all is_name_byte name) is).1
 
-lan_by : (lans : List (List ℕ)) (lan : ℕ)
+pub lan_by : (lans : List (List ℕ)) (lan : ℕ)
     → ((n : ℕ) (name : List ℕ) → slice_get lans n ≡ Some name → IsTrue (is_name name))
     → Without 10 (unwrap_or (slice_get lans lan) [])
 lan_by [] lan named = tt
 lan_by (name ∷ lans) zero named = name_by name (named 0 name refl)
 lan_by (name ∷ lans) (suc lan) named = lan_by lans lan (λ n other is. named (suc n) other is)
 
-router_by : (rs : List RouterRow) (router : ℕ)
+pub router_by : (rs : List RouterRow) (router : ℕ)
     → ((n : ℕ) (r : RouterRow) → slice_get rs n ≡ Some r → IsTrue (is_name r.name))
     → Without 10 (unwrap_or (option_map (λ r. r.name) (slice_get rs router)) [])
 router_by [] router named = tt
@@ -71,17 +71,17 @@ router_by (r ∷ rs) (suc router) named = router_by rs router (λ n other is. na
 
 -- ---- nor in a verdict and a flow's words
 
-plain : (xs : List ℕ) → list_all (λ b. not (b == 10)) xs ≡ true → Without 10 xs
+pub plain : (xs : List ℕ) → list_all (λ b. not (b == 10)) xs ≡ true → Without 10 xs
 plain xs none = Without-from_list_all (λ b. not (b == 10)) 10 refl xs none
 
-words : (xs ys : List ℕ) → Without 10 xs → Without 10 ys → Without 10 (xs ++ ys)
+pub words : (xs ys : List ℕ) → Without 10 xs → Without 10 ys → Without 10 (xs ++ ys)
 words = Without-append 10
 
-named_lan : (front : List ℕ) (t : TopologyValue) (lan : ℕ) → Without 10 front → IsTopology t
+pub named_lan : (front : List ℕ) (t : TopologyValue) (lan : ℕ) → Without 10 front → IsTopology t
     → Without 10 (front ++ lan_name t lan)
 named_lan front t lan p ok = words front _ p (lan_by t.lans lan ok.lans_named)
 
-named_vif : (front : List ℕ) (t : TopologyValue) (router vif : ℕ) → Without 10 front → IsTopology t
+pub named_vif : (front : List ℕ) (t : TopologyValue) (router vif : ℕ) → Without 10 front → IsTopology t
     → Without 10 (front ++ router_name t router ++ codes " " ++ decimal vif)
 named_vif front t router vif p ok =
     let begun = words front _ p (router_by t.routers router ok.routers_named) in
@@ -107,10 +107,10 @@ verdict t (Yes copies) ok = words (codes "yes copies ") _ (plain (codes "yes cop
 verdict t (No r) ok = words (codes "no ") _ (plain (codes "no ") refl) (reason t r ok)
 
 -- a flow's line, but for its line feed
-abbrev body : TopologyValue → Flow → Verdict → List ℕ
+abbrev pub body : TopologyValue → Flow → Verdict → List ℕ
 body t f v = flow_words f ++ (codes " " ++ verdict_text t v)
 
-flow_body : (t : TopologyValue) (f : Flow) (v : Verdict) → IsTopology t → Without 10 (body t f v)
+pub flow_body : (t : TopologyValue) (f : Flow) (v : Verdict) → IsTopology t → Without 10 (body t f v)
 flow_body t f v ok =
     let ttl = words (codes " ttl ") (decimal f.ttl) (plain (codes " ttl ") refl) (number f.ttl) in
     let group = words (dotted f.group) _ (address f.group) ttl in
@@ -119,7 +119,7 @@ flow_body t f v ok =
     words (flow_words f) _ (words (codes "flow ") _ (plain (codes "flow ") refl) source) last
 
 -- a flow's line is its body and a line feed
-line-body : (t : TopologyValue) (f : Flow) (v : Verdict) (more : List ℕ)
+pub line-body : (t : TopologyValue) (f : Flow) (v : Verdict) (more : List ℕ)
     → flow_line t f v ++ more ≡ body t f v ++ (10 ∷ more)
 line-body t f v more =
     append_assoc (flow_words f) (codes " " ++ (verdict_text t v ++ codes "\n")) more
@@ -129,12 +129,12 @@ line-body t f v more =
 -- ---- where lines begin
 
 -- A text whose first line feed stands after xs, and which has one after ys: ys is xs, or goes on after it.
-record GoesOn (xs tail ys more : List ℕ) : Type 0 where
-  rest : List ℕ
-  begins : ys ≡ xs ++ (10 ∷ rest)
-  goes_on : tail ≡ rest ++ (10 ∷ more)
+pub record GoesOn (xs tail ys more : List ℕ) : Type 0 where
+  pub rest : List ℕ
+  pub begins : ys ≡ xs ++ (10 ∷ rest)
+  pub goes_on : tail ≡ rest ++ (10 ∷ more)
 
-first_feed : (xs tail ys more : List ℕ) → Without 10 xs → xs ++ (10 ∷ tail) ≡ ys ++ (10 ∷ more)
+pub first_feed : (xs tail ys more : List ℕ) → Without 10 xs → xs ++ (10 ∷ tail) ≡ ys ++ (10 ∷ more)
     → (tail ≡ more) ⊎ GoesOn xs tail ys more
 first_feed [] tail [] more none same = inl (cc)
 first_feed [] tail (y ∷ ys) more none same =
@@ -159,7 +159,7 @@ none_after [] more same = none_at 10 more same
 none_after (y ∷ ys) more same = none_at y (ys ++ (10 ∷ more)) same
 
 -- the last line begins with `verdict yes` only if all are yes
-last_says : (all : Bool) (front rest : List ℕ) → IsLineStart front
+pub last_says : (all : Bool) (front rest : List ℕ) → IsLineStart front
     → last_line all ≡ front ++ (codes "verdict yes" ++ rest) → all ≡ true
 last_says true front rest starts same = refl
 last_says false front rest (inl none) same =

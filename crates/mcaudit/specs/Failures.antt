@@ -12,6 +12,11 @@ abbrev pub failed_writes : Result Bool RunFault → ℕ → ℕ
 failed_writes (Err Write) before = before + 1
 failed_writes _ before = before
 
+-- the files failed once in a step that answers Read
+abbrev pub failed_by : {X : Type 0} → Result X RunFault → ℕ → ℕ
+failed_by (Err Read) before = before + 1
+failed_by _ before = before
+
 -- it is no fault of a device
 abbrev pub IsNoDeviceFault : RunFault → Type 0
 IsNoDeviceFault Read = ⊥

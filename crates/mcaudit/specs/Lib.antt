@@ -1,6 +1,8 @@
+pub mod AuditRun
 pub mod BundleMeaning
 pub mod CheckRun
 pub mod Failures
+pub mod FilesMeaning
 pub mod MakeRun
 pub mod PackingRun
 pub mod ReplayRun
@@ -31,8 +33,11 @@ pub use Rattle.mc_forward.specs.Assembling
 pub use Rattle.mc_cert.specs.Certificate
 pub use Rattle.mc_cert.specs.Stands
 pub use Rattle.mc_check.specs.ReasonText
+pub use Rattle.mc_check.specs.Verdicts
 pub use Rattle.mc_input.specs.Input
 pub use Rattle.mc_input.specs.InputReading
+pub use Rattle.mc_input.specs.FilesInput
+pub use Rattle.mc_input.specs.FilesReading
 pub use Rattle.mc_theory.specs.Events
 pub use Rattle.mc_theory.specs.Findings
 pub use Rattle.mc_replay.specs.Travels

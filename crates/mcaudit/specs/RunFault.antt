@@ -9,6 +9,9 @@ use Rattle.mc_cert.specs.declared.fault.CertFaultKind.{CertFaultKind}
 use Rattle.mc_cert.specs.declared.fault.CertFaultKind.TheVariants as certificate
 use Rattle.mc_input.specs.declared.fault.InputFault.{InputFault}
 use Rattle.mc_input.specs.declared.fault.InputFault.TheVariants as input
+use Rattle.mc_input.specs.declared.files_fault.FilesFault.{FilesFault}
+use Rattle.mc_input.specs.declared.files_fault.FilesFault.TheVariants as files
+use Rattle.mc_text.specs.declared.bundle_fault.BundleFault.TheVariants as bundle
 use Rattle.mcaudit.specs.declared.fault.RunFault.{RunFault}
 use Rattle.mcaudit.specs.declared.fault.RunFault.TheVariants.{Bundle, Parts, Topology, Vif, Cache, PartReports, Reports, Certificate, Read, Memory}
 
@@ -33,6 +36,12 @@ of_input (input.Vif part fault) = Vif part fault
 of_input (input.Cache part fault) = Cache part fault
 of_input (input.Reports part fault) = PartReports part fault
 of_input input.Memory = Memory
+
+-- with those of a folder's files, of which one that is too large is told of the bundle,
+abbrev pub of_files : FilesFault → RunFault
+of_files (files.Input fault) = of_input fault
+of_files files.TooLarge = Bundle bundle.TooLarge
+of_files files.Read = Read
 
 -- and with those of a certificate
 abbrev pub of_certificate_kind : CertFault → CertFaultKind → RunFault

@@ -2,7 +2,7 @@
 use Rattle.std.specs.Prelude.{◌≡◌, ◌≤◌, ℕ, List, ⊤}
 use Rattle.mc_text.specs.Addr.{IsForwardedGroup, IsSource, dotted}
 use Rattle.mcaudit.specs.declared.command.Task.{Task}
-use Rattle.mcaudit.specs.declared.command.Task.TheVariants.{Wants, Check, Make, Replay, Pack}
+use Rattle.mcaudit.specs.declared.command.Task.TheVariants.{Wants, Check, Make, Replay, Pack, Audit}
 
 abbrev pub IsAllowed : Task → Type 0
 IsAllowed (Wants group source) = IsForwardedGroup group × IsSource source
@@ -10,6 +10,7 @@ IsAllowed Check = ⊤
 IsAllowed Make = ⊤
 IsAllowed (Replay flow ttl last) = (1 ≤ flow) × (flow ≤ 4096) × (1 ≤ ttl)
 IsAllowed (Pack folder certificate) = ⊤
+IsAllowed (Audit folder travels) = ⊤
 
 -- the words after `wants` are the group and the source of the task
 abbrev pub AreWords : List ℕ → List ℕ → Task → Type 0
@@ -19,3 +20,4 @@ AreWords group_word source_word Check = ⊥
 AreWords group_word source_word Make = ⊥
 AreWords group_word source_word (Replay flow ttl last) = ⊥
 AreWords group_word source_word (Pack folder certificate) = ⊥
+AreWords group_word source_word (Audit folder travels) = ⊥

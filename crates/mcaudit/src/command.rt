@@ -45,6 +45,13 @@ pub enum Task<'a> {
         /// Whether the certificate is to be in the bundle.
         certificate: bool,
     },
+    /// Which flows of the domain of a folder's files have a certificate, and what a packet meets of each other one.
+    Audit {
+        /// The folder's path, which is empty for the present directory.
+        folder: &'a str,
+        /// Whether the travel of that packet is shown too.
+        travels: bool,
+    },
 }
 
 /// Why the words give no task.
@@ -67,7 +74,9 @@ impl From<AllocError> for WordsFault {
 }
 
 const EXAMPLES: &str = "\
-Examples: is each flow of a domain forwarded as its certificate says?
+Examples: is each flow of a domain forwarded right, and if not, what is wrong?
+  mcaudit audit examples/network --travel
+Is each flow of a domain forwarded as its certificate says?
   mcaudit check < bundle
 Which certificate does a domain have, or what is wrong with its flows?
   mcaudit make < bundle
@@ -104,6 +113,24 @@ fn wants_command<'a>(alloc: Global) -> Result<Command<'a>, AllocError> {
         .override_usage("mcaudit wants <group> <source>")
         .arg(group)?
         .arg(source)
+}
+
+/// The command `audit` and its arguments.
+fn audit_command<'a>(alloc: Global) -> Result<Command<'a>, AllocError> {
+    let folder = Arg::new(alloc, "folder").required(true).help(
+        "The folder with the files topology, vif-<router>, cache-<router> and igmp-<lan>",
+    );
+    let travel = Arg::new(alloc, "travel")
+        .long("travel")
+        .action(ArgAction::SetTrue)
+        .help("Shows of each flow without a certificate what its packet does, event by event");
+    Command::new(alloc, "audit")
+        .about(
+            "Judges each flow of a folder's files, and shows what is wrong with each that has no certificate",
+        )
+        .override_usage("mcaudit audit <folder> [--travel]")
+        .arg(folder)?
+        .arg(travel)
 }
 
 /// The command `check`, which has no arguments.
@@ -167,6 +194,7 @@ fn program<'a>(alloc: Global) -> Result<Command<'a>, AllocError> {
         .subcommand_required(true)
         .arg_required_else_help(true)
         .disable_help_subcommand(true)
+        .subcommand(audit_command(alloc)?)?
         .subcommand(check_command(alloc))?
         .subcommand(make_command(alloc))?
         .subcommand(pack_command(alloc)?)?
@@ -313,6 +341,10 @@ pub fn command_of<'a>(alloc: Global, words: &'a [&'a str]) -> Result<Task<'a>, W
         Err(error) => return Err(refusal(alloc, &error)),
     };
     match matches.subcommand() {
+        Some(("audit", words)) => Ok(Task::Audit {
+            folder: word_of(words, "folder"),
+            travels: words.get_flag("travel"),
+        }),
         Some(("check", _)) => Ok(Task::Check),
         Some(("make", _)) => Ok(Task::Make),
         Some(("pack", words)) => Ok(Task::Pack {

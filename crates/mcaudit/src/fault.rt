@@ -3,12 +3,12 @@
 ghost use Rattle.std.specs.Prelude.{◌≡◌};
 ghost use Rattle.mcaudit.specs.declared.fault.RunFault.TheVariants.{Memory};
 ghost use Rattle.mcaudit.specs.PackingRun.{of_packing};
-ghost use Rattle.mcaudit.specs.RunFault.{of_certificate, of_input, of_list, of_reading};
+ghost use Rattle.mcaudit.specs.RunFault.{of_certificate, of_files, of_input, of_list, of_reading};
 
 use mc_cert::{CertFault, CertFaultKind};
 use mc_files::PackFault;
 use mc_igmp::{ListFault, ListFaultKind};
-use mc_input::InputFault;
+use mc_input::{FilesFault, InputFault};
 use mc_tables::TableFault;
 use mc_text::{BundleFault, Memory as NoMemory, PartName, ReadFault};
 use mc_topology::TopologyFault;
@@ -69,6 +69,19 @@ impl From<InputFault> for RunFault {
             InputFault::Cache(part, fault) => RunFault::Cache(part, fault),
             InputFault::Reports(part, fault) => RunFault::PartReports(part, fault),
             InputFault::Memory => RunFault::Memory,
+        }
+    }
+}
+
+/// A folder's files are refused. A file that is too large for a bundle is told of the bundle.
+impl From<FilesFault> for RunFault {
+    ghost from_gives = { λ files fault. fault ≡ of_files files };
+
+    fn from(fault: FilesFault) -> RunFault {
+        match fault {
+            FilesFault::Input(fault) => RunFault::from(fault),
+            FilesFault::TooLarge => RunFault::Bundle(BundleFault::TooLarge),
+            FilesFault::Read => RunFault::Read,
         }
     }
 }

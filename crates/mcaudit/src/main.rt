@@ -1,6 +1,7 @@
 //! mcaudit: an auditor of the multicast forwarding state of a domain of Linux routers.
 #![tactic(auto)]
 
+mod audit;
 mod check;
 mod command;
 mod domain_input;
@@ -15,6 +16,7 @@ mod travel_text;
 mod verdict_text;
 mod wants;
 
+use audit::run_audit;
 use check::run_check;
 use command::{Task, borrowed, command_of, words_of};
 use failure::Failure;
@@ -56,6 +58,10 @@ fn try_main(rt: &(impl Env + AllocGlobal + Files + Input + Print)) -> Result<boo
             let mut files = Folder::new(rt, folder);
             run_pack(rt.alloc(), &mut files, certificate, &mut output)?;
             Ok(true)
+        }
+        Task::Audit { folder, travels } => {
+            let mut files = Folder::new(rt, folder);
+            Ok(run_audit(rt.alloc(), &mut files, travels, &mut output)?)
         }
     }
 }

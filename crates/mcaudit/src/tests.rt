@@ -1,5 +1,6 @@
 //! Worked report lists through `run_wants`, devices that fail, and words.
 
+mod audit;
 mod check;
 mod make;
 mod replay;
@@ -148,12 +149,16 @@ fn words(rt: HostRuntime) {
         ["mcaudit", "wants", "239.1.2.3", "224.0.1.0"],
         ["mcaudit", "check", "239.1.2.3", "10.0.0.5"],
         ["mcaudit", "audit", "239.1.2.3", "10.0.0.5"],
+        ["mcaudit", "audit", "network", "--certificate"],
     ] {
         let refused = command_of(rt.alloc(), &wrong);
         assert!(rt; matches!(refused, Err(WordsFault::Wrong(_))));
     }
     let check = command_of(rt.alloc(), &["mcaudit", "check"]);
     assert_eq!(rt; check.ok(), Some(Task::Check));
+    let audit = command_of(rt.alloc(), &["mcaudit", "audit", "network", "--travel"]);
+    let (folder, travels) = ("network", true);
+    assert_eq!(rt; audit.ok(), Some(Task::Audit { folder, travels }));
     let make = command_of(rt.alloc(), &["mcaudit", "make"]);
     assert_eq!(rt; make.ok(), Some(Task::Make));
     let replay = command_of(

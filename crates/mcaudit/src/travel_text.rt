@@ -34,7 +34,11 @@ fn push_event(text: &mut String, topology: &Topology, event: Event) -> Result<()
 }
 
 /// Writes the lines of events.
-fn push_events(text: &mut String, topology: &Topology, events: &[Event]) -> Result<(), NoMemory>
+pub(crate) fn push_events(
+    text: &mut String,
+    topology: &Topology,
+    events: &[Event],
+) -> Result<(), NoMemory>
     ensures { OnOk result (string_bytes text.new ≡
         string_bytes text.old ++ event_lines topology.now events.now) }
 {

@@ -2,6 +2,7 @@
 
 ghost use Rattle.std.specs.Prelude.{◌≡◌, ◌++◌, IfOk, OnOk, Some, length};
 ghost use Rattle.std.specs.String.{string_bytes};
+ghost use Rattle.mc_check.specs.Verdicts.{is_yes};
 ghost use Rattle.mcaudit.specs.VerdictText.{are_yes as all_yes, check_text as text_of_check, flow_words, flow_line};
 
 use mc_check::Verdict;
@@ -48,6 +49,22 @@ fn push_line(
     let words = FlowWords { flow };
     let verdict = verdict.shown(topology);
     writeln!(text, "{words} {verdict}").map_err(|_| NoMemory)
+}
+
+/// Writes the line of a flow and of its verdict. It answers whether that is yes.
+pub(crate) fn push_verdict(
+    text: &mut String,
+    topology: &Topology,
+    flow: &Flow,
+    verdict: Verdict,
+) -> Result<bool, NoMemory>
+    ensures line { OnOk result (string_bytes text.new ≡
+        string_bytes text.old ++ flow_line topology.now flow.now verdict) }
+    ensures yes { IfOk result (λ yes. yes ≡ is_yes verdict) }
+{
+    let yes = matches!(verdict, Verdict::Yes { .. });
+    push_line(text, topology, flow, verdict)?;
+    Ok(yes)
 }
 
 /// A line for each flow of the topology, and the verdict on all.

@@ -1,5 +1,6 @@
 -- The look-ups of a cache answer by its table.
-use Rattle.std.proofs.Common.{◌≡◌, ℕ, Bool, true, false, ltb, arith, List, [], ◌∷◌, Option, Some, None, Bor, refl, sym, ap, ◌∙◌, inl, inr}
+use Rattle.std.proofs.Common.{◌≡◌, ℕ, Bool, true, false, ltb, arith, List, [], ◌∷◌, Option, Some}
+use Rattle.std.proofs.Common.{None, Bor, refl, sym, ap, ◌∙◌, inl, inr}
 use Rattle.std.specs.Prelude.{nat_eq, is_some, if◌then◌else◌}
 use Rattle.std.specs.Option.{option_map, option_copied}
 use Rattle.std.specs.List.{filter_map, cons_option, list_any}
@@ -21,43 +22,65 @@ abbrev entry_at : ℕ × ℕ → RowText → Option Entry
 entry_at key row = entry_of_key key (exact_entry row)
 
 -- a row that has no entry for the key is passed over
-skip_entry : (key : ℕ × ℕ) (o : Option ((ℕ × ℕ) × Entry)) (rest : List ((ℕ × ℕ) × Entry)) → entry_of_key key o ≡ None → map.find key_cmp key (cons_option o rest) ≡ map.find key_cmp key rest
+skip_entry : (key : ℕ × ℕ) (o : Option ((ℕ × ℕ) × Entry)) (rest : List ((ℕ × ℕ) × Entry))
+    → entry_of_key key o ≡ None
+    → map.find key_cmp key (cons_option o rest) ≡ map.find key_cmp key rest
 skip_entry key None rest e = refl
 skip_entry key (Some exact) rest e =
-    elim (cases_Bool (same_key key exact.0)) [ inl is ↦ absurd (let wrong = rw is at e in cc) | inr other ↦ rw other refl ]
+    elim (cases_Bool (same_key key exact.0)) [
+      | inl is ↦ absurd (let wrong = rw is at e in cc)
+      | inr other ↦ rw other refl
+    ]
 
-skip_row : (key : ℕ × ℕ) (row : RowText) (rows : List RowText) → entry_at key row ≡ None → map.find key_cmp key (filter_map exact_entry (row ∷ rows)) ≡ map.find key_cmp key (filter_map exact_entry rows)
+skip_row : (key : ℕ × ℕ) (row : RowText) (rows : List RowText) → entry_at key row ≡ None
+    → map.find key_cmp key (filter_map exact_entry (row ∷ rows))
+    ≡ map.find key_cmp key (filter_map exact_entry rows)
 skip_row key row rows e = skip_entry key (exact_entry row) (filter_map exact_entry rows) e
 
 -- a row's key is among the keys where the rows have an entry for it
-key_of_entry : (key : ℕ × ℕ) (o : Option ((ℕ × ℕ) × Entry)) (entries : List ((ℕ × ℕ) × Entry)) (keys : List (ℕ × ℕ)) → is_some (map.find key_cmp key entries) ≡ list_any (same_key key) keys
-    → is_some (map.find key_cmp key (cons_option o entries)) ≡ list_any (same_key key) (cons_option (option_map (λ exact. exact.0) o) keys)
+key_of_entry : (key : ℕ × ℕ) (o : Option ((ℕ × ℕ) × Entry)) (entries : List ((ℕ × ℕ) × Entry))
+    (keys : List (ℕ × ℕ)) → is_some (map.find key_cmp key entries) ≡ list_any (same_key key) keys
+    → is_some (map.find key_cmp key (cons_option o entries))
+    ≡ list_any (same_key key) (cons_option (option_map (λ exact. exact.0) o) keys)
 key_of_entry key None entries keys same = same
 key_of_entry key (Some exact) entries keys same =
     elim (cases_Bool (same_key key exact.0)) [ inl is ↦ rw is refl | inr other ↦ rw other same ]
 
-pub key_among : (key : ℕ × ℕ) (rows : List RowText) → is_some (map.find key_cmp key (filter_map exact_entry rows)) ≡ list_any (same_key key) (filter_map key_of rows)
+pub key_among : (key : ℕ × ℕ) (rows : List RowText)
+    → is_some (map.find key_cmp key (filter_map exact_entry rows))
+    ≡ list_any (same_key key) (filter_map key_of rows)
 key_among key [] = refl
-key_among key (row ∷ rows) = key_of_entry key (exact_entry row) (filter_map exact_entry rows) (filter_map key_of rows) (key_among key rows)
+key_among key (row ∷ rows) =
+    key_of_entry key (exact_entry row) (filter_map exact_entry rows) (filter_map key_of rows)
+    (key_among key rows)
 
 -- ---- no entry for 0.0.0.0
 
 -- (0, group) is not the key of a row whose origin isn't 0
-zero_apart : (group origin other : ℕ) → nat_eq origin 0 ≡ false → same_key (0, group) (origin, other) ≡ false
+zero_apart : (group origin other : ℕ) → nat_eq origin 0 ≡ false
+    → same_key (0, group) (origin, other) ≡ false
 zero_apart group origin other apart =
-    let positive : ltb 0 origin ≡ true = lt-ltb 0 origin (let h : origin ≡ 0 → ⊥ = eqb-false origin 0 apart in omega (arith, h)) in
+    let positive : ltb 0 origin ≡ true =
+    lt-ltb 0 origin (let h : origin ≡ 0 → ⊥ = eqb-false origin 0 apart in omega (arith, h)) in
     rw positive refl
 
-apart_from_zero : (group : ℕ) (row : RowText) → nat_eq row.origin 0 ≡ false → (entry : Option Entry) → entry_of_key (0, group) (option_map (λ e. ((row.origin, row.group), e)) entry) ≡ None
+apart_from_zero : (group : ℕ) (row : RowText) → nat_eq row.origin 0 ≡ false → (entry : Option Entry)
+    → entry_of_key (0, group) (option_map (λ e. ((row.origin, row.group), e)) entry) ≡ None
 apart_from_zero group row other None = refl
 apart_from_zero group row other (Some entry) =
-    let apart : same_key (0, group) (row.origin, row.group) ≡ false = zero_apart group row.origin row.group other in
+    let apart : same_key (0, group) (row.origin, row.group) ≡ false =
+    zero_apart group row.origin row.group other in
     rw apart refl
 
 row_without : (group : ℕ) (row : RowText) → entry_at (0, group) row ≡ None
 row_without group row =
-    elim (cases_Bool (nat_eq row.origin 0)) [ inl is ↦ rw is refl | inr other ↦ rw other (apart_from_zero group row other row.entry) ]
+    elim (cases_Bool (nat_eq row.origin 0)) [
+      | inl is ↦ rw is refl
+      | inr other ↦ rw other (apart_from_zero group row other row.entry)
+    ]
 
-pub zero_absent : (group : ℕ) (rows : List RowText) → map.find key_cmp (0, group) (filter_map exact_entry rows) ≡ None
+pub zero_absent : (group : ℕ) (rows : List RowText)
+    → map.find key_cmp (0, group) (filter_map exact_entry rows) ≡ None
 zero_absent group [] = refl
-zero_absent group (row ∷ rows) = skip_row (0, group) row rows (row_without group row) ∙ zero_absent group rows
+zero_absent group (row ∷ rows) =
+    skip_row (0, group) row rows (row_without group row) ∙ zero_absent group rows

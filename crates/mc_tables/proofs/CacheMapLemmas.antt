@@ -1,5 +1,6 @@
 -- What the maps of the library keep, as the table of a cache.
-use Rattle.std.proofs.Common.{◌≡◌, ℕ, Bool, true, false, cond, List, [], ◌∷◌, Option, Some, None, refl, sym, ap, ◌∙◌}
+use Rattle.std.proofs.Common.{◌≡◌, ℕ, Bool, true, false, cond, List, [], ◌∷◌, Option, Some, None}
+use Rattle.std.proofs.Common.{refl, sym, ap, ◌∙◌}
 use Rattle.std.specs.Prelude.{◌||◌}
 use Rattle.std.specs.List.{list_any}
 use Rattle.std.specs.Ordering.{nat_cmp, is_eq, eq_by_cmp, ordering_then}
@@ -22,7 +23,8 @@ table_kept es groups = record { entries = map.from_entries es; wildcards = set.f
 -- only equal keys tie
 pub key_antisymmetric : IsAntisymmetric key_cmp
 key_antisymmetric x y is =
-    elim (nat_cmp x.0 y.0) as (λ r. nat_cmp x.0 y.0 ≡ r → ordering_then r (nat_cmp x.1 y.1) ≡ Equal → x ≡ y) [
+    elim (nat_cmp x.0 y.0) as
+    (λ r. nat_cmp x.0 y.0 ≡ r → ordering_then r (nat_cmp x.1 y.1) ≡ Equal → x ≡ y) [
       | Less ↦ λ _ e. absurd cc
       | Equal ↦ λ first e.
           let source = nat_cmp-IsAntisymmetric x.0 y.0 first in
@@ -32,9 +34,11 @@ key_antisymmetric x y is =
     ] refl is
 
 -- looking up a key finds what the map has there
-find_looked_up : (key : ℕ × ℕ) (es : List ((ℕ × ℕ) × Entry)) → lookup (is_at (key_cmp key)) es ≡ map.find key_cmp key es
+find_looked_up : (key : ℕ × ℕ) (es : List ((ℕ × ℕ) × Entry))
+    → lookup (is_at (key_cmp key)) es ≡ map.find key_cmp key es
 find_looked_up key [] = refl
-find_looked_up key (e ∷ es) = ap (cond (eq_by_cmp key_cmp key e.0) (Some e.1)) (find_looked_up key es)
+find_looked_up key (e ∷ es) =
+    ap (cond (eq_by_cmp key_cmp key e.0) (Some e.1)) (find_looked_up key es)
 
 pub looked_up : (key : ℕ × ℕ) (es : List ((ℕ × ℕ) × Entry)) →
     lookup (is_at (key_cmp key)) es ≡ map.get (map.from_entries {R = key_cmp} es) key
@@ -54,7 +58,8 @@ inserted key entry es more answers =
 
 -- asking for a group finds whether the set has it
 pub is_member : (group : ℕ) (groups : List ℕ) →
-    list_any (is_at (nat_cmp group)) groups ≡ set.contains (set.from_list {R = nat_cmp} groups) group
+    list_any (is_at (nat_cmp group)) groups
+    ≡ set.contains (set.from_list {R = nat_cmp} groups) group
 is_member group groups = sym (set.contains-from_list nat_cmp_total groups group)
 
 cond_or : (b c : Bool) → cond b true c ≡ (b || c)
@@ -70,6 +75,7 @@ added group groups more answers =
     set.same_set nat_cmp_total nat_cmp-IsAntisymmetric _ _ (λ q.
     sym (is_member q more) ∙ answers q
     ∙ cond_or (is_at (nat_cmp group) q) (list_any (is_at (nat_cmp q)) groups)
-    ∙ ap (λ b. b || list_any (is_at (nat_cmp q)) groups) ((eq_by_cmp_equiv nat_cmp_total).symm group q)
+    ∙ ap (λ b. b || list_any (is_at (nat_cmp q)) groups)
+    ((eq_by_cmp_equiv nat_cmp_total).symm group q)
     ∙ ap (λ b. eq_by_cmp nat_cmp q group || b) (is_member q groups)
     ∙ sym (set.contains-insert nat_cmp_total (set.from_list {R = nat_cmp} groups) group q))

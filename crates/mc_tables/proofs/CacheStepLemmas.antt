@@ -1,5 +1,6 @@
 -- A table that grows by a row at a time is the table of all the rows.
-use Rattle.std.proofs.Common.{◌≡◌, ℕ, ◌+◌, Bool, true, false, List, [], ◌∷◌, ◌++◌, length, Option, Some, None, Result, Ok, Err, refl, sym, ap, ◌∙◌, inl, inr}
+use Rattle.std.proofs.Common.{◌≡◌, ℕ, ◌+◌, Bool, true, false, List, [], ◌∷◌, ◌++◌, length, Option}
+use Rattle.std.proofs.Common.{Some, None, Result, Ok, Err, refl, sym, ap, ◌∙◌, inl, inr}
 use Rattle.std.specs.Prelude.{nat_lt, not, is_some, codes}
 use Rattle.std.specs.Option.{option_map}
 use Rattle.std.specs.List.{filter_map, cons_option, list_any}
@@ -20,9 +21,11 @@ use Rattle.mc_tables.specs.declared.fault.TableFaultKind.{TableFaultKind}
 use Rattle.mc_tables.specs.declared.fault.TableFaultKind.TheVariants.{RepeatedEntry}
 use Rattle.mc_tables.specs.Steps.{◌>>=◌, demand, at_line}
 use Rattle.mc_tables.specs.TableLines.{is_among, lines_in, rows_after}
-use Rattle.mc_tables.specs.CacheTable.{RowText, CacheText, key_cmp, same_key, exact_entry, key_of, wildcard_of, table_of}
+use Rattle.mc_tables.specs.CacheTable.{RowText, CacheText, key_cmp, same_key, exact_entry, key_of}
+use Rattle.mc_tables.specs.CacheTable.{wildcard_of, table_of}
 use Rattle.mc_tables.specs.CacheReading.{row_in_words, entry_repeats, row_in_line, row_at, cache_in}
-use Rattle.mc_tables.specs.CacheSteps.{has_key, with_exact, with_wildcard, row_added, entry_added, row_with_room, line_added, table_after}
+use Rattle.mc_tables.specs.CacheSteps.{has_key, with_exact, with_wildcard, row_added, entry_added}
+use Rattle.mc_tables.specs.CacheSteps.{row_with_room, line_added, table_after}
 use Rattle.mc_tables.proofs.CacheLemmas.{key_total}
 use Rattle.mc_tables.proofs.CacheLookupLemmas.{key_among}
 use Rattle.mc_tables.proofs.CacheMapLemmas.{key_antisymmetric}
@@ -31,7 +34,8 @@ use Rattle.mc_tables.proofs.CacheMapLemmas.{key_antisymmetric}
 
 -- an entry whose key is there is refused
 pub entry_repeated : (table : CacheText) (key : ℕ × ℕ) (entry : Entry) (old : Option Entry) →
-    old ≡ map.get table.entries key → is_some old ≡ true → entry_added table key entry ≡ Err RepeatedEntry
+    old ≡ map.get table.entries key → is_some old ≡ true
+    → entry_added table key entry ≡ Err RepeatedEntry
 entry_repeated table key entry old is there =
     let repeats : is_some (map.get table.entries key) ≡ true = ap is_some (sym is) ∙ there in
     rw repeats refl
@@ -51,7 +55,8 @@ key_repeats : (exact : Option ((ℕ × ℕ) × Entry)) (rows : List RowText) →
     ≡ is_among same_key (option_map (λ e. e.0) exact) (filter_map key_of rows)
 key_repeats None rows = refl
 key_repeats (Some exact) rows =
-    ap is_some (map.get-from_entries key_total (filter_map exact_entry rows) exact.0) ∙ key_among exact.0 rows
+    ap is_some (map.get-from_entries key_total (filter_map exact_entry rows) exact.0)
+    ∙ key_among exact.0 rows
 
 none_is : {A : Type 0} (o : Option A) → is_some o ≡ false → o ≡ None
 none_is None e = refl
@@ -60,24 +65,30 @@ none_is (Some x) e = absurd cc
 -- the entries of one row more
 entries_grow : (exact : Option ((ℕ × ℕ) × Entry)) (es : List ((ℕ × ℕ) × Entry)) →
     has_key (map.from_entries es) exact ≡ false →
-    map.from_entries {R = key_cmp} (es ++ cons_option exact []) ≡ with_exact (map.from_entries es) exact
+    map.from_entries {R = key_cmp} (es ++ cons_option exact [])
+    ≡ with_exact (map.from_entries es) exact
 entries_grow None es new = ap (map.from_entries {R = key_cmp}) (append-nil es)
 entries_grow (Some exact) es new =
     map.from_entries_push key_total key_antisymmetric es exact.0 exact.1
-    (sym (map.get-from_entries key_total es exact.0) ∙ none_is (map.get (map.from_entries {R = key_cmp} es) exact.0) new)
+    (sym (map.get-from_entries key_total es exact.0)
+    ∙ none_is (map.get (map.from_entries {R = key_cmp} es) exact.0) new)
 
 -- the groups of one row more
 groups_grow : (wildcard : Option ℕ) (groups : List ℕ) →
-    set.from_list {R = nat_cmp} (groups ++ cons_option wildcard []) ≡ with_wildcard (set.from_list groups) wildcard
+    set.from_list {R = nat_cmp} (groups ++ cons_option wildcard [])
+    ≡ with_wildcard (set.from_list groups) wildcard
 groups_grow None groups = ap (set.from_list {R = nat_cmp}) (append-nil groups)
-groups_grow (Some group) groups = set.from_list_push nat_cmp_total nat_cmp-IsAntisymmetric groups group
+groups_grow (Some group) groups =
+    set.from_list_push nat_cmp_total nat_cmp-IsAntisymmetric groups group
 
 -- a table takes a row that repeats no earlier one, and is the table of the rows with it
 row_follows : (rows : List RowText) (row : RowText) →
     row_added (table_of rows) row
-    ≡ (demand (not (entry_repeats rows row)) RepeatedEntry >>= λ _. Ok (table_of (rows ++ row ∷ [])))
+    ≡ (demand (not (entry_repeats rows row)) RepeatedEntry >>= λ _. Ok
+    (table_of (rows ++ row ∷ [])))
 row_follows rows row =
-    let same : has_key (table_of rows).entries (exact_entry row) ≡ entry_repeats rows row = key_repeats (exact_entry row) rows in
+    let same : has_key (table_of rows).entries (exact_entry row) ≡ entry_repeats rows row =
+    key_repeats (exact_entry row) rows in
     elim (cases_Bool (entry_repeats rows row)) [
       | inl repeats ↦ rw (same ∙ repeats, repeats) refl
       | inr new ↦
@@ -103,7 +114,10 @@ row_of_words rows (Ok row) =
     row_follows rows row
     ∙ elim (not (entry_repeats rows row)) as (λ b.
     (demand b RepeatedEntry >>= λ _. Ok (table_of (rows ++ row ∷ [])))
-    ≡ ((demand b RepeatedEntry >>= λ _. Ok row) >>= λ r. Ok (table_of (rows ++ r ∷ [])))) [ true ↦ refl | false ↦ refl ]
+    ≡ ((demand b RepeatedEntry >>= λ _. Ok row) >>= λ r. Ok (table_of (rows ++ r ∷ [])))) [
+      | true ↦ refl
+      | false ↦ refl
+    ]
 
 line_follows : (order : Order) (rows : List RowText) (line : LineText) →
     line_added order (length rows) (table_of rows) line
@@ -112,19 +126,21 @@ unfolding row_in_line
 line_follows order rows line =
     elim (cases_Bool line.ended) [
       | inr unended ↦ rw unended refl
-      | inl ended ↦
-          elim (cases_Bool (nat_lt (length rows) 65536)) [
-            | inr full ↦ rw (ended, full) refl
-            | inl room ↦ rw (ended, room) (row_of_words rows (row_in_words order (words_of line.bytes)))
-          ]
+      | inl ended ↦ elim (cases_Bool (nat_lt (length rows) 65536)) [
+        | inr full ↦ rw (ended, full) refl
+        | inl room ↦ rw (ended, room)
+            (row_of_words rows (row_in_words order (words_of line.bytes)))
+      ]
     ]
 
 -- ---- all lines
 
 -- a line's number is said of its fault alone
 at_line_then : (n : ℕ) (rows : List RowText) (read : Result RowText TableFaultKind)
-    (then : CacheText → Result CacheText TableFault) (after : List RowText → Result (List RowText) TableFault) →
-    ((row : RowText) → then (table_of (rows ++ row ∷ [])) ≡ (after (rows ++ row ∷ []) >>= λ all. Ok (table_of all))) →
+    (then : CacheText → Result CacheText TableFault)
+    (after : List RowText → Result (List RowText) TableFault) →
+    ((row : RowText) → then (table_of (rows ++ row ∷ []))
+    ≡ (after (rows ++ row ∷ []) >>= λ all. Ok (table_of all))) →
     (at_line n (read >>= λ row. Ok (table_of (rows ++ row ∷ []))) >>= then)
     ≡ ((at_line n read >>= λ row. after (rows ++ row ∷ [])) >>= λ all. Ok (table_of all))
 at_line_then n rows (Err kind) then after rest = refl
@@ -138,7 +154,8 @@ pub table_of_lines : (order : Order) (lines : List LineText) (rows : List RowTex
     ≡ (rows_after (row_at order) rows lines >>= λ all. Ok (table_of all))
 table_of_lines order [] rows = refl
 table_of_lines order (line ∷ lines) rows =
-    ap (λ r. at_line line.number r >>= λ more. table_after order (length rows + 1) more lines) (line_follows order rows line)
+    ap (λ r. at_line line.number r >>= λ more. table_after order (length rows + 1) more lines)
+    (line_follows order rows line)
     ∙ at_line_then line.number rows (row_in_line order rows line)
     (λ more. table_after order (length rows + 1) more lines)
     (λ all. rows_after (row_at order) all lines)
@@ -146,7 +163,8 @@ table_of_lines order (line ∷ lines) rows =
     ∙ table_of_lines order lines (rows ++ row ∷ []))
 
 -- the table of a text's lines
-pub cache_of_lines : (order : Order) (text : List ℕ) (lines : List LineText) (table : Result CacheText TableFault) →
+pub cache_of_lines : (order : Order) (text : List ℕ) (lines : List LineText)
+    (table : Result CacheText TableFault) →
     lines_in (codes "Group") text ≡ Ok lines → table_after order 0 (table_of []) lines ≡ table →
     cache_in order text ≡ table
 cache_of_lines order text lines table whole read =

@@ -1,5 +1,6 @@
 -- The entries of rows that were read are as a line writes them.
-use Rattle.std.proofs.Common.{◌≡◌, ℕ, ◌≤◌, Bool, true, false, cond, T, List, [], ◌∷◌, length, Option, Some, None, refl, sym, subst, ◌∙◌, arith, Bor}
+use Rattle.std.proofs.Common.{◌≡◌, ℕ, ◌≤◌, Bool, true, false, cond, T, List, [], ◌∷◌, length}
+use Rattle.std.proofs.Common.{Option, Some, None, refl, sym, subst, ◌∙◌, arith, Bor}
 use Rattle.std.specs.Prelude.{map, IfSome, ◌==◌, ◌&&◌}
 use Rattle.std.specs.List.{AllByRecursion, filter_map, cons_option}
 use Rattle.std.specs.List.Sorted.{IsStrictlyIncreasing, IsStrictlySortedBy}
@@ -17,17 +18,25 @@ use Rattle.mc_text.specs.Words.{words_of}
 use Rattle.mc_tables.specs.declared.entry.Oif.{Oif}
 use Rattle.mc_tables.specs.declared.entry.Entry.{Entry}
 use Rattle.mc_tables.specs.TableLines.{EachTells}
-use Rattle.mc_tables.specs.CacheTable.{to_oif, by_vif, WritesOif, WriteEntry, RowText, WordsTellRow, LineTellsRow, key_cmp, same_key, exact_entry, IsEntry}
+use Rattle.mc_tables.specs.CacheTable.{to_oif, by_vif, WritesOif, WriteEntry, RowText, WordsTellRow}
+use Rattle.mc_tables.specs.CacheTable.{LineTellsRow, key_cmp, same_key, exact_entry, IsEntry}
 
 -- ---- what stands in a map of what has P has P
 
 module _ (P : ℕ × ℕ → Type 0) where
-  put_has : (vif threshold : ℕ) (es : List (ℕ × ℕ)) → P (vif, threshold) → AllByRecursion P es → AllByRecursion P (fin.put nat_cmp vif threshold es)
+  put_has : (vif threshold : ℕ) (es : List (ℕ × ℕ)) → P (vif, threshold) → AllByRecursion P es
+      → AllByRecursion P (fin.put nat_cmp vif threshold es)
   put_has vif threshold [] new all = (new, tt)
   put_has vif threshold (e ∷ es) new all =
-      elim (nat_cmp vif e.0) as (λ r. nat_cmp vif e.0 ≡ r → AllByRecursion P (by_order r ((vif, threshold) ∷ e ∷ es) ((e.0, threshold) ∷ es) (e ∷ fin.put nat_cmp vif threshold es))) [
+      elim (nat_cmp vif e.0) as
+      (λ r. nat_cmp vif e.0 ≡ r
+      → AllByRecursion P (by_order r ((vif, threshold) ∷ e ∷ es) ((e.0, threshold) ∷ es)
+      (e ∷ fin.put nat_cmp vif threshold es))) [
         | Less ↦ λ is. (new, all)
-        | Equal ↦ λ is. (subst (λ v. P (v, threshold)) (fin.nat_cmp-IsAntisymmetric vif e.0 is) new, all.1)
+        | Equal ↦ λ is. (
+          subst (λ v. P (v, threshold)) (fin.nat_cmp-IsAntisymmetric vif e.0 is) new,
+          all.1,
+        )
         | Greater ↦ λ is. (all.0, put_has vif threshold es new all.1)
       ] refl
 
@@ -36,13 +45,16 @@ module _ (P : ℕ × ℕ → Type 0) where
   none_there (oif ∷ es) e = absurd (omega arith)
 
   no_entries : AllByRecursion P (fin.entries (fin.empty {K = ℕ} {X = ℕ} {R = nat_cmp}))
-  no_entries = none_there (fin.entries (fin.empty {K = ℕ} {X = ℕ} {R = nat_cmp})) (sym (fin.len-entries (fin.empty {K = ℕ} {X = ℕ} {R = nat_cmp})) ∙ fin.len-empty nat_cmp ℕ)
+  no_entries = none_there (fin.entries (fin.empty {K = ℕ} {X = ℕ} {R = nat_cmp}))
+      (sym (fin.len-entries (fin.empty {K = ℕ} {X = ℕ} {R = nat_cmp})) ∙ fin.len-empty nat_cmp ℕ)
 
-  entries_have : (told : List (ℕ × ℕ)) → AllByRecursion P told → AllByRecursion P (fin.entries (fin.from_entries {R = nat_cmp} told))
+  entries_have : (told : List (ℕ × ℕ)) → AllByRecursion P told
+      → AllByRecursion P (fin.entries (fin.from_entries {R = nat_cmp} told))
   entries_have [] all = no_entries
   entries_have (oif ∷ told) all =
       let m = fin.from_entries {R = nat_cmp} told in
-      subst (AllByRecursion P) (sym (fin.entries-insert nat_cmp_total m oif.0 oif.1)) (put_has oif.0 oif.1 (fin.entries m) all.0 (entries_have told all.1))
+      subst (AllByRecursion P) (sym (fin.entries-insert nat_cmp_total m oif.0 oif.1))
+      (put_has oif.0 oif.1 (fin.entries m) all.0 (entries_have told all.1))
 
 -- ---- the vifs of a map ascend
 
@@ -55,46 +67,63 @@ both_of : (a b : Bool) → T (a && b) → T a × T b
 both_of true b h = (tt, h)
 both_of false b h = absurd h
 
-vifs_above : (vif : ℕ) (es : List (ℕ × ℕ)) → T (below_all nat_cmp vif es) → AllByRecursion (λ v. nat_cmp vif v ≡ Less) (map (λ oif. oif.vif) (map to_oif es))
+vifs_above : (vif : ℕ) (es : List (ℕ × ℕ)) → T (below_all nat_cmp vif es)
+    → AllByRecursion (λ v. nat_cmp vif v ≡ Less) (map (λ oif. oif.vif) (map to_oif es))
 vifs_above vif [] h = tt
 vifs_above vif (e ∷ es) h = let p = both_of _ _ h in (is_less _ p.0, vifs_above vif es p.1)
 
-vifs_sorted : (es : List (ℕ × ℕ)) → T (is_sorted nat_cmp es) → IsStrictlySortedBy nat_cmp (map (λ oif. oif.vif) (map to_oif es))
+vifs_sorted : (es : List (ℕ × ℕ)) → T (is_sorted nat_cmp es)
+    → IsStrictlySortedBy nat_cmp (map (λ oif. oif.vif) (map to_oif es))
 unfolding IsStrictlySortedBy
 vifs_sorted [] h = tt
 vifs_sorted (e ∷ es) h = let p = both_of _ _ h in (vifs_above e.0 es p.0, vifs_sorted es p.1)
 
-vifs_ascend : (thresholds : fin.FinMap nat_cmp ℕ) → IsStrictlyIncreasing (map (λ oif. oif.vif) (by_vif thresholds))
-vifs_ascend thresholds = IsStrictlyIncreasing-from_sorted _ (vifs_sorted (fin.entries thresholds) (fin.entries_sorted thresholds))
+vifs_ascend : (thresholds : fin.FinMap nat_cmp ℕ)
+    → IsStrictlyIncreasing (map (λ oif. oif.vif) (by_vif thresholds))
+vifs_ascend thresholds =
+    IsStrictlyIncreasing-from_sorted _
+    (vifs_sorted (fin.entries thresholds) (fin.entries_sorted thresholds))
 
 -- ---- the entry of a line
 
 abbrev InRange : ℕ × ℕ → Type 0
 InRange oif = (oif.0 ≤ 31) × (1 ≤ oif.1) × (oif.1 ≤ 254)
 
-told_in_range : (words : List (List ℕ)) (told : List (ℕ × ℕ)) → EachTells WritesOif words told → AllByRecursion InRange told
+told_in_range : (words : List (List ℕ)) (told : List (ℕ × ℕ)) → EachTells WritesOif words told
+    → AllByRecursion InRange told
 told_in_range [] [] each = tt
 told_in_range [] (oif ∷ told) each = absurd each
 told_in_range (word ∷ words) [] each = absurd each
-told_in_range (word ∷ words) (oif ∷ told) each = ((each.0.vif_number.2, each.0.threshold_number.1, each.0.threshold_number.2), told_in_range words told each.1)
+told_in_range (word ∷ words) (oif ∷ told) each = (
+  (each.0.vif_number.2, each.0.threshold_number.1, each.0.threshold_number.2),
+  told_in_range words told each.1,
+)
 
-as_oifs : (es : List (ℕ × ℕ)) → AllByRecursion InRange es → AllByRecursion (λ oif. (oif.vif ≤ 31) × (1 ≤ oif.threshold) × (oif.threshold ≤ 254)) (map to_oif es)
+as_oifs : (es : List (ℕ × ℕ)) → AllByRecursion InRange es
+    → AllByRecursion (λ oif. (oif.vif ≤ 31) × (1 ≤ oif.threshold) × (oif.threshold ≤ 254))
+    (map to_oif es)
 as_oifs [] all = tt
 as_oifs (e ∷ es) all = (all.0, as_oifs es all.1)
 
-entry_stands : (iif : List ℕ) (outgoing : List (List ℕ)) (entry : Option Entry) → WriteEntry iif outgoing entry → IfSome entry IsEntry
+entry_stands : (iif : List ℕ) (outgoing : List (List ℕ)) (entry : Option Entry)
+    → WriteEntry iif outgoing entry → IfSome entry IsEntry
 entry_stands iif outgoing None h = tt
 entry_stands iif outgoing (Some entry) h =
     let told = told_in_range outgoing h.1.told h.1.each in
     let same = sym h.1.ascending in
     record {
       incoming = h.0.2;
-      ascending = subst (λ (oifs : List Oif). IsStrictlyIncreasing (map (λ oif. oif.vif) oifs)) same (vifs_ascend (fin.from_entries h.1.told));
-      ranges = subst (AllByRecursion (λ oif. (oif.vif ≤ 31) × (1 ≤ oif.threshold) × (oif.threshold ≤ 254))) same (as_oifs (fin.entries (fin.from_entries h.1.told)) (entries_have InRange h.1.told told));
+      ascending = subst (λ (oifs : List Oif). IsStrictlyIncreasing (map (λ oif. oif.vif) oifs)) same
+          (vifs_ascend (fin.from_entries h.1.told));
+      ranges = subst (AllByRecursion
+          (λ oif. (oif.vif ≤ 31) × (1 ≤ oif.threshold) × (oif.threshold ≤ 254))) same
+          (as_oifs (fin.entries (fin.from_entries h.1.told)) (entries_have InRange h.1.told told));
     }
 
-row_stands : (order : Order) (words : List (List ℕ)) (row : RowText) → WordsTellRow order words row → IfSome row.entry IsEntry
-row_stands order (group ∷ origin ∷ iif ∷ packets ∷ bytes ∷ wrong ∷ outgoing) row h = entry_stands iif outgoing row.entry h.5
+row_stands : (order : Order) (words : List (List ℕ)) (row : RowText) → WordsTellRow order words row
+    → IfSome row.entry IsEntry
+row_stands order (group ∷ origin ∷ iif ∷ packets ∷ bytes ∷ wrong ∷ outgoing) row h =
+    entry_stands iif outgoing row.entry h.5
 row_stands order words row h = absurd h
 
 -- ---- the entries of a table
@@ -102,28 +131,42 @@ row_stands order words row h = absurd h
 abbrev pub HaveEntries : List RowText → Type 0
 HaveEntries rows = AllByRecursion (λ row. IfSome row.entry IsEntry) rows
 
-pub rows_stand : (order : Order) (lines : List LineText) (rows : List RowText) → EachTells (LineTellsRow order) lines rows → HaveEntries rows
+pub rows_stand : (order : Order) (lines : List LineText) (rows : List RowText)
+    → EachTells (LineTellsRow order) lines rows → HaveEntries rows
 rows_stand order [] [] told = tt
 rows_stand order [] (row ∷ rows) told = absurd told
 rows_stand order (line ∷ lines) [] told = absurd told
-rows_stand order (line ∷ lines) (row ∷ rows) told = (row_stands order (words_of line.bytes) row told.0.words, rows_stand order lines rows told.1)
+rows_stand order (line ∷ lines) (row ∷ rows) told =
+    (row_stands order (words_of line.bytes) row told.0.words, rows_stand order lines rows told.1)
 
-find_stands : (key : ℕ × ℕ) (o : Option ((ℕ × ℕ) × Entry)) (rest : List ((ℕ × ℕ) × Entry)) → IfSome o (λ exact. IsEntry exact.1) → IfSome (fin.find key_cmp key rest) IsEntry → IfSome (fin.find key_cmp key (cons_option o rest)) IsEntry
+find_stands : (key : ℕ × ℕ) (o : Option ((ℕ × ℕ) × Entry)) (rest : List ((ℕ × ℕ) × Entry))
+    → IfSome o (λ exact. IsEntry exact.1) → IfSome (fin.find key_cmp key rest) IsEntry
+    → IfSome (fin.find key_cmp key (cons_option o rest)) IsEntry
 find_stands key None rest stands others = others
 find_stands key (Some exact) rest stands others =
-    elim (same_key key exact.0) as (λ b. IfSome (cond b (Some exact.1) (fin.find key_cmp key rest)) IsEntry) [ true ↦ stands | false ↦ others ]
+    elim (same_key key exact.0) as
+    (λ b. IfSome (cond b (Some exact.1) (fin.find key_cmp key rest)) IsEntry) [
+      | true ↦ stands
+      | false ↦ others
+    ]
 
-exact_stands : (b : Bool) (key : ℕ × ℕ) (entry : Option Entry) → IfSome entry IsEntry → IfSome {T = (ℕ × ℕ) × Entry} (cond b None (option_map (λ e. (key, e)) entry)) (λ exact. IsEntry exact.1)
+exact_stands : (b : Bool) (key : ℕ × ℕ) (entry : Option Entry) → IfSome entry IsEntry
+    → IfSome {T = (ℕ × ℕ) × Entry} (cond b None (option_map (λ e. (key, e)) entry))
+    (λ exact. IsEntry exact.1)
 exact_stands true key entry stands = tt
 exact_stands false key None stands = tt
 exact_stands false key (Some entry) stands = stands
 
-pub found_stands : (key : ℕ × ℕ) (rows : List RowText) → HaveEntries rows → IfSome (fin.find key_cmp key (filter_map exact_entry rows)) IsEntry
+pub found_stands : (key : ℕ × ℕ) (rows : List RowText) → HaveEntries rows
+    → IfSome (fin.find key_cmp key (filter_map exact_entry rows)) IsEntry
 found_stands key [] stands = tt
 found_stands key (row ∷ rows) stands =
-    find_stands key (exact_entry row) (filter_map exact_entry rows) (exact_stands (row.origin == 0) (row.origin, row.group) row.entry stands.0) (found_stands key rows stands.1)
+    find_stands key (exact_entry row) (filter_map exact_entry rows)
+    (exact_stands (row.origin == 0) (row.origin, row.group) row.entry stands.0)
+    (found_stands key rows stands.1)
 
 -- a reference to an entry
-pub copied_stands : (o : Option (Bor Entry)) → IfSome (option_copied o) IsEntry → IfSome o (λ entry. IsEntry entry.now)
+pub copied_stands : (o : Option (Bor Entry)) → IfSome (option_copied o) IsEntry
+    → IfSome o (λ entry. IsEntry entry.now)
 copied_stands None stands = tt
 copied_stands (Some entry) stands = stands

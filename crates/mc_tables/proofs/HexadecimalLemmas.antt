@@ -1,11 +1,13 @@
 -- The number that hexadecimal digits write.
-use Rattle.std.proofs.Common.{◌≡◌, ℕ, ◌^◌, lit<, ◌<◌, ◌≤◌, true, false, ltb, inl, inr, List, [], ◌∷◌, length, Result, Ok, Err, refl, ap, ◌∙◌, subst, sym, arith}
+use Rattle.std.proofs.Common.{◌≡◌, ℕ, ◌^◌, lit<, ◌<◌, ◌≤◌, true, false, ltb, inl, inr, List, []}
+use Rattle.std.proofs.Common.{◌∷◌, length, Result, Ok, Err, refl, ap, ◌∙◌, subst, sym, arith}
 use Rattle.std.specs.Prelude.{◌==◌, nat_le}
 use Rattle.std.specs.Int.{is_in_range}
 use Rattle.std.specs.Char.{digit_value, is_ascii_hexdigit}
 use Rattle.std.specs.List.{list_all, AllByRecursion}
 use Rattle.std.specs.Str.{IsUtf8}
-use Rattle.std.specs.Str.Parse.{AllDigits, IsNumeral, ParsesUnsigned, digits_value, without_leading_plus}
+use Rattle.std.specs.Str.Parse.{AllDigits, IsNumeral, ParsesUnsigned, digits_value}
+use Rattle.std.specs.Str.Parse.{without_leading_plus}
 use Rattle.std.proofs.Math.Nat.{pow-le-pow_right}
 use Rattle.std.proofs.lemmas.Bool.{and_parts, ne_eqb, cases_Bool, leb-true, le-ltb, lt-ltb}
 use Rattle.std.proofs.lemmas.Int.Digits.{digits_value-lt}
@@ -14,7 +16,8 @@ use Rattle.std.proofs.lemmas.Str.{IsUtf8-from_ascii, digit_value_digit}
 use Rattle.std.proofs.lemmas.Str.Ascii.{IsAscii-from_all}
 
 in_range : (low high c : ℕ) → is_in_range low high c ≡ true → (low ≤ c) × (c ≤ high)
-in_range low high c e = let p = and_parts (nat_le low c) (nat_le c high) e in (leb-true low c p.0, leb-true c high p.1)
+in_range low high c e = let p = and_parts (nat_le low c) (nat_le c high) e in
+    (leb-true low c p.0, leb-true c high p.1)
 
 upper_small : (c : ℕ) → 65 ≤ c → c ≤ 70 → digit_value c < 16
 upper_small c low high =
@@ -37,12 +40,13 @@ lower_small c low high =
 digit_small : (c : ℕ) → is_ascii_hexdigit c ≡ true → digit_value c < 16
 digit_small c e =
     elim (cases_Bool (is_in_range 48 57 c)) [
-      | inl decimal ↦ let r = in_range 48 57 c decimal in omega (arith, r.0, r.1, digit_value_digit c r)
-      | inr other ↦
-          elim (cases_Bool (is_in_range 65 70 c)) [
-            | inl upper ↦ let r = in_range 65 70 c upper in upper_small c r.0 r.1
-            | inr neither ↦ let r = in_range 97 102 c (rw (other, neither) at e) in lower_small c r.0 r.1
-          ]
+      | inl decimal ↦ let r = in_range 48 57 c decimal in
+          omega (arith, r.0, r.1, digit_value_digit c r)
+      | inr other ↦ elim (cases_Bool (is_in_range 65 70 c)) [
+        | inl upper ↦ let r = in_range 65 70 c upper in upper_small c r.0 r.1
+        | inr neither ↦ let r = in_range 97 102 c (rw (other, neither) at e) in
+            lower_small c r.0 r.1
+      ]
     ]
 
 digit_ascii : (c : ℕ) → is_ascii_hexdigit c ≡ true → (48 ≤ c) × (c < 128)
@@ -50,29 +54,41 @@ digit_ascii c e = grind (arith)
 
 all_digits : (word : List ℕ) → list_all is_ascii_hexdigit word ≡ true → AllDigits 16 word
 all_digits [] e = tt
-all_digits (c ∷ cs) e = let p = and_parts (is_ascii_hexdigit c) _ e in (digit_small c p.0, all_digits cs p.1)
+all_digits (c ∷ cs) e = let p = and_parts (is_ascii_hexdigit c) _ e in
+    (digit_small c p.0, all_digits cs p.1)
 
-all_ascii : (word : List ℕ) → list_all is_ascii_hexdigit word ≡ true → AllByRecursion (λ b. b < 128) word
+all_ascii : (word : List ℕ) → list_all is_ascii_hexdigit word ≡ true
+    → AllByRecursion (λ b. b < 128) word
 all_ascii [] e = tt
-all_ascii (c ∷ cs) e = let p = and_parts (is_ascii_hexdigit c) _ e in ((digit_ascii c p.0).1, all_ascii cs p.1)
+all_ascii (c ∷ cs) e = let p = and_parts (is_ascii_hexdigit c) _ e in
+    ((digit_ascii c p.0).1, all_ascii cs p.1)
 
 pub digits_are_text : (word : List ℕ) → list_all is_ascii_hexdigit word ≡ true → IsUtf8 word
-digits_are_text word e = IsUtf8-from_ascii word (IsAscii-from_all word (All-from_recursion (λ b. b < 128) word (all_ascii word e)))
+digits_are_text word e =
+    IsUtf8-from_ascii word
+    (IsAscii-from_all word (All-from_recursion (λ b. b < 128) word (all_ascii word e)))
 
-no_plus : (word : List ℕ) → list_all is_ascii_hexdigit word ≡ true → without_leading_plus word ≡ word
+no_plus : (word : List ℕ) → list_all is_ascii_hexdigit word ≡ true
+    → without_leading_plus word ≡ word
 no_plus [] e = refl
 no_plus (c ∷ cs) e =
     let p = and_parts (is_ascii_hexdigit c) _ e in
-    let other : (c == 43) ≡ false = ne_eqb c 43 (λ is. absurd (omega (arith, is, (digit_ascii c p.0).0))) in
+    let other : (c == 43)
+    ≡ false = ne_eqb c 43 (λ is. absurd (omega (arith, is, (digit_ascii c p.0).0))) in
     rw other refl
 
-fits : (word : List ℕ) → length word ≤ 8 → list_all is_ascii_hexdigit word ≡ true → digits_value 16 word < 2 ^ 32
+fits : (word : List ℕ) → length word ≤ 8 → list_all is_ascii_hexdigit word ≡ true
+    → digits_value 16 word < 2 ^ 32
 fits word few e =
     let most : 16 ^ length word ≤ 16 ^ 8 = pow-le-pow_right (lit< tt) few in
     omega (arith, most, digits_value-lt 16 word (all_digits word e))
 
-pub parsed_is : {E : Type 0} (word : List ℕ) (read : Result ℕ E) → 1 ≤ length word → length word ≤ 8 → list_all is_ascii_hexdigit word ≡ true → ParsesUnsigned 32 16 word read → read ≡ Ok (digits_value 16 word)
+pub parsed_is : {E : Type 0} (word : List ℕ) (read : Result ℕ E) → 1 ≤ length word → length word ≤ 8
+    → list_all is_ascii_hexdigit word ≡ true → ParsesUnsigned 32 16 word read
+    → read ≡ Ok (digits_value 16 word)
 parsed_is word (Ok n) some few e h = ap Ok (h.1 ∙ ap (digits_value 16) (no_plus word e))
 parsed_is word (Err error) some few e h =
-    let numeral : IsNumeral 16 word × (digits_value 16 word < 2 ^ 32) = ((some, all_digits word e), fits word few e) in
-    absurd (h (subst (λ (w : List ℕ). IsNumeral 16 w × (digits_value 16 w < 2 ^ 32)) (sym (no_plus word e)) numeral))
+    let numeral : IsNumeral 16 word × (digits_value 16 word < 2 ^ 32) =
+    ((some, all_digits word e), fits word few e) in
+    absurd (h (subst (λ (w : List ℕ). IsNumeral 16 w × (digits_value 16 w < 2 ^ 32))
+    (sym (no_plus word e)) numeral))

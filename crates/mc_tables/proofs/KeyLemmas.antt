@@ -7,22 +7,28 @@ use Rattle.std.proofs.lemmas.Bool.{or_from}
 use Rattle.std.proofs.lemmas.Map.Keys.{IsDistinct-head, IsDistinct-tail, IsDistinct-push}
 use Rattle.mc_tables.specs.TableLines.{is_among}
 
-holds_at : {K : Type 0} (P : K → Type 0) (xs : List K) (y : K) (ys : List K) → AllByRecursion P (xs ++ y ∷ ys) → P y
+holds_at : {K : Type 0} (P : K → Type 0) (xs : List K) (y : K) (ys : List K)
+    → AllByRecursion P (xs ++ y ∷ ys) → P y
 holds_at P [] y ys all = all.0
 holds_at P (x ∷ xs) y ys all = holds_at P xs y ys all.1
 
 module _ {K : Type 0} {same : K → K → Bool} (laws : IsEquivalence same) where
   -- a key in the middle is none of those before it
-  pub new_in_distinct : (xs : List K) (y : K) (ys : List K) → IsDistinct same (xs ++ y ∷ ys) → list_any (same y) xs ≡ false
+  pub new_in_distinct : (xs : List K) (y : K) (ys : List K) → IsDistinct same (xs ++ y ∷ ys)
+      → list_any (same y) xs ≡ false
   new_in_distinct [] y ys distinct = refl
   new_in_distinct (x ∷ xs) y ys distinct =
-      let apart = holds_at (λ z. same x z ≡ false) xs y ys (IsDistinct-head same x (xs ++ y ∷ ys) distinct) in
-      or_from (same y x) (list_any (same y) xs) (laws.symm y x ∙ apart) (new_in_distinct xs y ys (IsDistinct-tail same x (xs ++ y ∷ ys) distinct))
+      let apart = holds_at (λ z. same x z ≡ false) xs y ys
+      (IsDistinct-head same x (xs ++ y ∷ ys) distinct) in
+      or_from (same y x) (list_any (same y) xs) (laws.symm y x ∙ apart)
+      (new_in_distinct xs y ys (IsDistinct-tail same x (xs ++ y ∷ ys) distinct))
 
-  pub distinct_grows : (xs : List K) (key : Option K) → IsDistinct same xs → is_among same key xs ≡ false → IsDistinct same (xs ++ cons_option key [])
+  pub distinct_grows : (xs : List K) (key : Option K) → IsDistinct same xs
+      → is_among same key xs ≡ false → IsDistinct same (xs ++ cons_option key [])
   distinct_grows xs None distinct new = rw append-nil distinct
   distinct_grows xs (Some y) distinct new = IsDistinct-push laws xs y distinct new
 
-  pub distinct_follows : (xs : List K) (key : Option K) (ys : List K) → IsDistinct same (xs ++ cons_option key ys) → is_among same key xs ≡ false
+  pub distinct_follows : (xs : List K) (key : Option K) (ys : List K)
+      → IsDistinct same (xs ++ cons_option key ys) → is_among same key xs ≡ false
   distinct_follows xs None ys distinct = refl
   distinct_follows xs (Some y) ys distinct = new_in_distinct xs y ys distinct

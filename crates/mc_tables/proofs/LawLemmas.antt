@@ -16,18 +16,27 @@ use Rattle.mc_tables.proofs.CacheLemmas.{cache_found, cache_only}
 use Rattle.mc_tables.proofs.EntryLemmas.{rows_stand}
 use Rattle.mc_tables.proofs.RuleLemmas.{vif_rules, cache_rules}
 
-pub one_vif_table : (text : List ℕ) (a b : FinMap nat_cmp VifText) → StandsForVifs text a → StandsForVifs text b → a ≡ b
-one_vif_table text a b is_a is_b = ok_is {E = TableFault} a b (sym (vifs_only text a is_a) ∙ vifs_only text b is_b)
+pub one_vif_table : (text : List ℕ) (a b : FinMap nat_cmp VifText) → StandsForVifs text a
+    → StandsForVifs text b → a ≡ b
+one_vif_table text a b is_a is_b =
+    ok_is {E = TableFault} a b (sym (vifs_only text a is_a) ∙ vifs_only text b is_b)
 
-pub one_cache : (order : Order) (text : List ℕ) (a b : CacheText) → StandsForCache order text a → StandsForCache order text b → a ≡ b
-one_cache order text a b is_a is_b = ok_is {E = TableFault} a b (sym (cache_only order text a is_a) ∙ cache_only order text b is_b)
+pub one_cache : (order : Order) (text : List ℕ) (a b : CacheText) → StandsForCache order text a
+    → StandsForCache order text b → a ≡ b
+one_cache order text a b is_a is_b =
+    ok_is {E = TableFault} a b (sym (cache_only order text a is_a) ∙ cache_only order text b is_b)
 
-pub vif_table_is : (text : List ℕ) (vifs : FinMap nat_cmp VifText) → StandsForVifs text vifs → IsVifTable vifs
+pub vif_table_is : (text : List ℕ) (vifs : FinMap nat_cmp VifText) → StandsForVifs text vifs
+    → IsVifTable vifs
 vif_table_is text vifs stands =
-    subst IsVifTable (sym stands.as_map) (vif_rules stands.rows stands.lines.devices_differ (told_to_31 stands.lines.lines stands.rows stands.lines.told))
+    subst IsVifTable (sym stands.as_map)
+    (vif_rules stands.rows stands.lines.devices_differ
+    (told_to_31 stands.lines.lines stands.rows stands.lines.told))
 
-pub vifs_read : (text : List ℕ) (vifs : FinMap nat_cmp VifText) → (vifs_in text ≡ Ok vifs) ↔ StandsForVifs text vifs
+pub vifs_read : (text : List ℕ) (vifs : FinMap nat_cmp VifText) → (vifs_in text ≡ Ok vifs)
+    ↔ StandsForVifs text vifs
 vifs_read text vifs = (vifs_found text vifs, vifs_only text vifs)
 
-pub cache_read : (order : Order) (text : List ℕ) (table : CacheText) → (cache_in order text ≡ Ok table) ↔ StandsForCache order text table
+pub cache_read : (order : Order) (text : List ℕ) (table : CacheText)
+    → (cache_in order text ≡ Ok table) ↔ StandsForCache order text table
 cache_read order text table = (cache_found order text table, cache_only order text table)

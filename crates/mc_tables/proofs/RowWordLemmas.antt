@@ -9,7 +9,9 @@ unfolding oif_in_parts
 not_two (vif ∷ threshold ∷ []) other = absurd (other refl)
 not_two parts other = refl
 
-pub few_words : (order : Order) (words : List (List ℕ)) → length words < 6 → row_in_words order words ≡ Err WordCount
+pub few_words : (order : Order) (words : List (List ℕ)) → length words < 6
+    → row_in_words order words ≡ Err WordCount
 unfolding row_in_words
-few_words order (group ∷ origin ∷ iif ∷ packets ∷ bytes ∷ wrong ∷ outgoing) few = absurd (omega arith)
+few_words order (group ∷ origin ∷ iif ∷ packets ∷ bytes ∷ wrong ∷ outgoing) few =
+    absurd (omega arith)
 few_words order words few = refl

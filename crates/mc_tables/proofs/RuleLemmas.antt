@@ -1,5 +1,6 @@
 -- What tables keep, whatever text they were read from.
-use Rattle.std.proofs.Common.{◌≡◌, ◌≢◌, ◌≤◌, ℕ, false, List, Option, Some, Result, Ok, Err, sym, subst, ◌∙◌}
+use Rattle.std.proofs.Common.{◌≡◌, ◌≢◌, ◌≤◌, ℕ, false, List, Option, Some, Result, Ok, Err, sym}
+use Rattle.std.proofs.Common.{subst, ◌∙◌}
 use Rattle.std.specs.Prelude.{IfSome, ◌↔◌}
 use Rattle.std.specs.List.{IsDistinct, AllByRecursion, filter_map}
 use Rattle.std.specs.Ordering.{nat_cmp}
@@ -14,7 +15,8 @@ use Rattle.mc_tables.specs.CacheReading.{cache_in}
 use Rattle.mc_tables.specs.declared.entry.Entry.{Entry}
 use Rattle.mc_tables.specs.VifTable.{VifText, no_device, device_of}
 use Rattle.mc_tables.specs.VifLookups.{HasDevice, IsVifTable, first_index_with}
-use Rattle.mc_tables.specs.CacheTable.{RowText, CacheText, IsEntry, IsCache, StandsForCache, exact_entry, table_of}
+use Rattle.mc_tables.specs.CacheTable.{RowText, CacheText, IsEntry, IsCache, StandsForCache}
+use Rattle.mc_tables.specs.CacheTable.{exact_entry, table_of}
 use Rattle.mc_tables.proofs.VifLookupLemmas.{index_only_in_map, index_in_map}
 use Rattle.mc_tables.proofs.CacheLemmas.{key_total, cache_found}
 use Rattle.mc_tables.proofs.CacheLookupLemmas.{zero_absent}
@@ -39,7 +41,8 @@ pub cache_rules : (rows : List RowText) → HaveEntries rows → IsCache (table_
 cache_rules rows stand =
     let at = λ (key : ℕ × ℕ). sym (get-from_entries key_total (filter_map exact_entry rows) key) in
     record {
-      entries = λ key. subst (λ (o : Option Entry). IfSome o IsEntry) (at key) (found_stands key rows stand);
+      entries = λ key. subst (λ (o : Option Entry). IfSome o IsEntry) (at key)
+          (found_stands key rows stand);
       sources = λ group. sym (at (0, group)) ∙ zero_absent group rows;
     }
 
@@ -56,14 +59,17 @@ answers_exactly vifs device answer some found only index =
     )
 
 -- a table that a text stands for keeps the rules
-pub cache_is : (order : Order) (text : List ℕ) (table : CacheText) → StandsForCache order text table → IsCache table
+pub cache_is : (order : Order) (text : List ℕ) (table : CacheText) → StandsForCache order text table
+    → IsCache table
 cache_is order text table stands =
     subst IsCache (sym stands.as_table)
     (cache_rules stands.rows (rows_stand order stands.lines.lines stands.rows stands.lines.told))
 
 -- and so does a table that was read
-pub read_keeps_rules : (order : Order) (text : List ℕ) (read : Result CacheText TableFault) (table : CacheText) →
+pub read_keeps_rules : (order : Order) (text : List ℕ) (read : Result CacheText TableFault)
+    (table : CacheText) →
     read ≡ Ok table → ((read ≡ Err out_of_memory → ⊥) → read ≡ cache_in order text) → IsCache table
 read_keeps_rules order text read table is exact =
-    let read_as : read ≡ cache_in order text = exact (λ e. let wrong : Ok table ≡ Err out_of_memory = sym is ∙ e in absurd cc) in
+    let read_as : read ≡ cache_in order text =
+    exact (λ e. let wrong : Ok table ≡ Err out_of_memory = sym is ∙ e in absurd cc) in
     cache_is order text table (cache_found order text table (sym read_as ∙ is))

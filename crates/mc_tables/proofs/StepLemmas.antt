@@ -1,11 +1,13 @@
 -- What steps that did not fail show.
-use Rattle.std.proofs.Common.{◌≡◌, ℕ, Bool, true, false, cond, Option, Some, None, Result, Ok, Err, refl}
+use Rattle.std.proofs.Common.{◌≡◌, ℕ, Bool, true, false, cond, Option, Some, None, Result, Ok, Err}
+use Rattle.std.proofs.Common.{refl}
 use Rattle.std.specs.Option.{ok_or}
 use Rattle.mc_tables.specs.declared.fault.TableFaultKind.{TableFaultKind}
 use Rattle.mc_tables.specs.Steps.{◌>>=◌, demand, at_line}
 
 -- the value of a step that did not fail
-pub bind_ok : {A B E : Type 0} (r : Result A E) (f : A → Result B E) (y : B) → (r >>= f) ≡ Ok y → (x : A) × (r ≡ Ok x) × (f x ≡ Ok y)
+pub bind_ok : {A B E : Type 0} (r : Result A E) (f : A → Result B E) (y : B) → (r >>= f) ≡ Ok y
+    → (x : A) × (r ≡ Ok x) × (f x ≡ Ok y)
 bind_ok (Ok x) f y e = (x, refl, e)
 bind_ok (Err d) f y e = absurd cc
 
@@ -14,12 +16,14 @@ pub demand_ok : {E : Type 0} (b : Bool) (d : E) (u : Unit {0}) → demand b d �
 demand_ok true d u e = refl
 demand_ok false d u e = absurd cc
 
-pub demand_then : {B E : Type 0} (b : Bool) (d : E) (f : Unit {0} → Result B E) (y : B) → (demand b d >>= f) ≡ Ok y → (b ≡ true) × (f tt ≡ Ok y)
+pub demand_then : {B E : Type 0} (b : Bool) (d : E) (f : Unit {0} → Result B E) (y : B)
+    → (demand b d >>= f) ≡ Ok y → (b ≡ true) × (f tt ≡ Ok y)
 demand_then true d f y e = (refl, e)
 demand_then false d f y e = absurd cc
 
 -- a value under a test that was met
-pub if_ok : {A E : Type 0} (b : Bool) (d : E) (x y : A) → cond b (Ok x) (Err d) ≡ Ok y → (b ≡ true) × (x ≡ y)
+pub if_ok : {A E : Type 0} (b : Bool) (d : E) (x y : A) → cond b (Ok x) (Err d) ≡ Ok y → (b ≡ true)
+    × (x ≡ y)
 if_ok true d x y e = (refl, cc)
 if_ok false d x y e = absurd cc
 
@@ -28,7 +32,8 @@ pub ok_or_ok : {A E : Type 0} (o : Option A) (d : E) (x : A) → ok_or o d ≡ O
 ok_or_ok None d x e = absurd cc
 ok_or_ok (Some y) d x e = cc
 
-pub at_line_ok : {A : Type 0} (n : ℕ) (r : Result A TableFaultKind) (x : A) → at_line n r ≡ Ok x → r ≡ Ok x
+pub at_line_ok : {A : Type 0} (n : ℕ) (r : Result A TableFaultKind) (x : A) → at_line n r ≡ Ok x
+    → r ≡ Ok x
 at_line_ok n (Ok y) x e = cc
 at_line_ok n (Err k) x e = absurd cc
 

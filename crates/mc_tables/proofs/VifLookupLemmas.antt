@@ -1,5 +1,6 @@
 -- The look-ups of a vif table answer by its map.
-use Rattle.std.proofs.Common.{◌≡◌, ℕ, ◌≤◌, arith, Bool, true, false, cond, List, [], ◌∷◌, Option, Some, None, refl, sym, ap, subst, ◌∙◌, inl, inr}
+use Rattle.std.proofs.Common.{◌≡◌, ℕ, ◌≤◌, arith, Bool, true, false, cond, List, [], ◌∷◌, Option}
+use Rattle.std.proofs.Common.{Some, None, refl, sym, ap, subst, ◌∙◌, inl, inr}
 use Rattle.std.specs.Option.{option_map}
 use Rattle.std.specs.List as lists
 use Rattle.std.specs.Prelude.{nat_eq, map, IsSome, IsSomeAnd, IfSome, ◌||◌}
@@ -8,7 +9,8 @@ use Rattle.std.specs.Ordering.{nat_cmp, eq_by_cmp}
 use Rattle.std.specs.Cmp.{unsigned_tied}
 use Rattle.std.specs.Str.{bytes_eq}
 use Rattle.std.specs.FinMap.{find, get, from_entries, get-from_entries}
-use Rattle.std.proofs.lemmas.Bool.{cases_eq, eq-eqb, ne_eqb, both_ways, or_left, or_right, or_from, false_from_ne_true}
+use Rattle.std.proofs.lemmas.Bool.{cases_eq, eq-eqb, ne_eqb, both_ways, or_left, or_right, or_from}
+use Rattle.std.proofs.lemmas.Bool.{false_from_ne_true}
 use Rattle.std.proofs.lemmas.Cmp.{nat_cmp_total, nat_eq_equiv, nat_list_eq_equiv}
 use Rattle.std.proofs.lemmas.Map.Keys.{IsDistinct-head, IsDistinct-tail}
 use Rattle.std.proofs.lemmas.Slice.Eq.{bytes_eq-Decides}
@@ -20,7 +22,8 @@ use Rattle.mc_tables.specs.VifLookups.{HasDevice, first_index_with}
 -- ---- the tests of a row against the earlier ones
 
 -- the code asks each row for its index
-pub index_among : (index : ℕ) (rows : List (ℕ × VifText)) → list_any (λ row. nat_eq index row.0) rows ≡ list_any (nat_eq index) (map (λ row. row.0) rows)
+pub index_among : (index : ℕ) (rows : List (ℕ × VifText))
+    → list_any (λ row. nat_eq index row.0) rows ≡ list_any (nat_eq index) (map (λ row. row.0) rows)
 index_among index [] = refl
 index_among index (row ∷ rows) = rw (index_among index rows) refl
 
@@ -28,138 +31,223 @@ is_none : (device : List ℕ) → bytes_eq device no_device ≡ true → device 
 is_none device e = (bytes_eq-Decides device no_device).0 e
 
 -- a device other than `none` is asked of each row
-device_among_cons : (other : ℕ × VifText) (device : List ℕ) (b : Bool) (rest : Bool) (keys : List (List ℕ)) → bytes_eq other.1.device no_device ≡ b → bytes_eq device no_device ≡ false → rest ≡ list_any (bytes_eq device) keys
-    → (bytes_eq other.1.device device || rest) ≡ list_any (bytes_eq device) (cons_option (cond b None (Some other.1.device)) keys)
+device_among_cons : (other : ℕ × VifText) (device : List ℕ) (b : Bool) (rest : Bool)
+    (keys : List (List ℕ)) → bytes_eq other.1.device no_device ≡ b
+    → bytes_eq device no_device ≡ false → rest ≡ list_any (bytes_eq device) keys
+    → (bytes_eq other.1.device device || rest)
+    ≡ list_any (bytes_eq device) (cons_option (cond b None (Some other.1.device)) keys)
 device_among_cons other device true rest keys none some same =
-    let apart : bytes_eq other.1.device device ≡ false = ap (λ d. bytes_eq d device) (is_none other.1.device none) ∙ nat_list_eq_equiv.symm no_device device ∙ some in
+    let apart : bytes_eq other.1.device device ≡ false =
+    ap (λ d. bytes_eq d device) (is_none other.1.device none)
+    ∙ nat_list_eq_equiv.symm no_device device ∙ some in
     rw apart same
 device_among_cons other device false rest keys none some same =
     rw (nat_list_eq_equiv.symm other.1.device device, same) refl
 
-pub device_among : (device : List ℕ) (rows : List (ℕ × VifText)) → bytes_eq device no_device ≡ false → list_any (λ row. bytes_eq row.1.device device) rows ≡ list_any (bytes_eq device) (filter_map device_of rows)
+pub device_among : (device : List ℕ) (rows : List (ℕ × VifText)) → bytes_eq device no_device ≡ false
+    → list_any (λ row. bytes_eq row.1.device device) rows
+    ≡ list_any (bytes_eq device) (filter_map device_of rows)
 device_among device [] some = refl
-device_among device (row ∷ rows) some = device_among_cons row device (bytes_eq row.1.device no_device) _ (filter_map device_of rows) refl some (device_among device rows some)
+device_among device (row ∷ rows) some =
+    device_among_cons row device (bytes_eq row.1.device no_device) _
+    (filter_map device_of rows) refl some (device_among device rows some)
 
 -- the code asks each row for its device
-pub device_repeats_is : (earlier : List (ℕ × VifText)) (row : ℕ × VifText) → bytes_eq row.1.device no_device ≡ false → list_any (λ other. bytes_eq other.1.device row.1.device) earlier ≡ device_repeats earlier row
+pub device_repeats_is : (earlier : List (ℕ × VifText)) (row : ℕ × VifText)
+    → bytes_eq row.1.device no_device ≡ false
+    → list_any (λ other. bytes_eq other.1.device row.1.device) earlier ≡ device_repeats earlier row
 device_repeats_is earlier row some =
-    device_among row.1.device earlier some ∙ ap (λ b. is_among bytes_eq (cond b None (Some row.1.device)) (filter_map device_of earlier)) (sym some)
+    device_among row.1.device earlier some
+    ∙ ap (λ b. is_among bytes_eq (cond b None (Some row.1.device)) (filter_map device_of earlier))
+    (sym some)
 
 -- ---- the map
 
-none_same : {K : Type 0} (same : K → K → Bool) (key : K) (keys : List K) → AllByRecursion (λ other. same key other ≡ false) keys → list_any (same key) keys ≡ false
+none_same : {K : Type 0} (same : K → K → Bool) (key : K) (keys : List K)
+    → AllByRecursion (λ other. same key other ≡ false) keys → list_any (same key) keys ≡ false
 none_same same key [] all = refl
-none_same same key (other ∷ keys) all = or_from (same key other) _ all.0 (none_same same key keys all.1)
+none_same same key (other ∷ keys) all =
+    or_from (same key other) _ all.0 (none_same same key keys all.1)
 
-found_at : (index : ℕ) (row : ℕ × VifText) (rows : List (ℕ × VifText)) → index ≡ row.0 → find nat_cmp index (row ∷ rows) ≡ Some row.1
-found_at index row rows e = let t : eq_by_cmp nat_cmp index row.0 ≡ true = unsigned_tied index row.0 ∙ eq-eqb index row.0 e in ap (λ b. cond b (Some row.1) (find nat_cmp index rows)) t
+found_at : (index : ℕ) (row : ℕ × VifText) (rows : List (ℕ × VifText)) → index ≡ row.0
+    → find nat_cmp index (row ∷ rows) ≡ Some row.1
+found_at index row rows e =
+    let t : eq_by_cmp nat_cmp index row.0 ≡ true =
+    unsigned_tied index row.0 ∙ eq-eqb index row.0 e in
+    ap (λ b. cond b (Some row.1) (find nat_cmp index rows)) t
 
 -- the first row with an index has what the map has there
-find_among : (row : ℕ × VifText) (b : Bool) (later : Option (ℕ × VifText)) → option_map (λ r. r.1) (cond b (Some row) later) ≡ cond b (Some row.1) (option_map (λ r. r.1) later)
+find_among : (row : ℕ × VifText) (b : Bool) (later : Option (ℕ × VifText))
+    → option_map (λ r. r.1) (cond b (Some row) later)
+    ≡ cond b (Some row.1) (option_map (λ r. r.1) later)
 find_among row true later = refl
 find_among row false later = refl
 
-pub find_first : (index : ℕ) (rows : List (ℕ × VifText)) → option_map (λ row. row.1) (lists.find (λ row. nat_eq row.0 index) rows) ≡ find nat_cmp index rows
+pub find_first : (index : ℕ) (rows : List (ℕ × VifText))
+    → option_map (λ row. row.1) (lists.find (λ row. nat_eq row.0 index) rows)
+    ≡ find nat_cmp index rows
 find_first index [] = refl
 find_first index (row ∷ rows) =
-    let tied : nat_eq row.0 index ≡ eq_by_cmp nat_cmp index row.0 = nat_eq_equiv.symm row.0 index ∙ sym (unsigned_tied index row.0) in
-    find_among row (nat_eq row.0 index) (lists.find (λ r. nat_eq r.0 index) rows) ∙ rw (tied, find_first index rows) refl
+    let tied : nat_eq row.0 index ≡ eq_by_cmp nat_cmp index row.0 =
+    nat_eq_equiv.symm row.0 index ∙ sym (unsigned_tied index row.0) in
+    find_among row (nat_eq row.0 index) (lists.find (λ r. nat_eq r.0 index) rows)
+    ∙ rw (tied, find_first index rows) refl
 
-found_after : (index : ℕ) (row : ℕ × VifText) (rows : List (ℕ × VifText)) → (index ≡ row.0 → ⊥) → find nat_cmp index (row ∷ rows) ≡ find nat_cmp index rows
-found_after index row rows ne = let t : eq_by_cmp nat_cmp index row.0 ≡ false = unsigned_tied index row.0 ∙ ne_eqb index row.0 ne in ap (λ b. cond b (Some row.1) (find nat_cmp index rows)) t
+found_after : (index : ℕ) (row : ℕ × VifText) (rows : List (ℕ × VifText)) → (index ≡ row.0 → ⊥)
+    → find nat_cmp index (row ∷ rows) ≡ find nat_cmp index rows
+found_after index row rows ne =
+    let t : eq_by_cmp nat_cmp index row.0 ≡ false =
+    unsigned_tied index row.0 ∙ ne_eqb index row.0 ne in
+    ap (λ b. cond b (Some row.1) (find nat_cmp index rows)) t
 
 abbrev Has : List ℕ → Option VifText → Type 0
 Has device found = IsSomeAnd found (λ vif. vif.device ≡ device)
 
-first_among : (row : ℕ × VifText) (b : Bool) (later : Option (ℕ × VifText)) → option_map (λ r. r.0) (cond b (Some row) later) ≡ cond b (Some row.0) (option_map (λ r. r.0) later)
+first_among : (row : ℕ × VifText) (b : Bool) (later : Option (ℕ × VifText))
+    → option_map (λ r. r.0) (cond b (Some row) later)
+    ≡ cond b (Some row.0) (option_map (λ r. r.0) later)
 first_among row true later = refl
 first_among row false later = refl
 
-first_cons : (device : List ℕ) (row : ℕ × VifText) (rows : List (ℕ × VifText)) → first_index_with device (row ∷ rows) ≡ cond (bytes_eq row.1.device device) (Some row.0) (first_index_with device rows)
-first_cons device row rows = first_among row (bytes_eq row.1.device device) (lists.find (λ r. bytes_eq r.1.device device) rows)
+first_cons : (device : List ℕ) (row : ℕ × VifText) (rows : List (ℕ × VifText))
+    → first_index_with device (row ∷ rows)
+    ≡ cond (bytes_eq row.1.device device) (Some row.0) (first_index_with device rows)
+first_cons device row rows =
+    first_among row (bytes_eq row.1.device device)
+    (lists.find (λ r. bytes_eq r.1.device device) rows)
 
 -- an index that is answered is one of the table
-answered : (device : List ℕ) (rows : List (ℕ × VifText)) (index : ℕ) → first_index_with device rows ≡ Some index → list_any (nat_eq index) (map (λ row. row.0) rows) ≡ true
+answered : (device : List ℕ) (rows : List (ℕ × VifText)) (index : ℕ)
+    → first_index_with device rows ≡ Some index
+    → list_any (nat_eq index) (map (λ row. row.0) rows) ≡ true
 answered device [] index e = absurd cc
 answered device (row ∷ rows) index e =
-    elim (bytes_eq row.1.device device) as (λ b. cond b (Some row.0) (first_index_with device rows) ≡ Some index → list_any (nat_eq index) (map (λ r. r.0) (row ∷ rows)) ≡ true) [
-      | true ↦ λ h. let same : row.0 ≡ index = cc in or_left (nat_eq index row.0) _ (eq-eqb index row.0 (sym same))
+    elim (bytes_eq row.1.device device) as
+    (λ b. cond b (Some row.0) (first_index_with device rows) ≡ Some index
+    → list_any (nat_eq index) (map (λ r. r.0) (row ∷ rows)) ≡ true) [
+      | true ↦ λ h. let same : row.0 ≡ index = cc in
+          or_left (nat_eq index row.0) _ (eq-eqb index row.0 (sym same))
       | false ↦ λ h. or_right (nat_eq index row.0) _ (answered device rows index h)
     ] (sym (first_cons device row rows) ∙ e)
 
 -- the index that is answered has the device
-pub index_found : (device : List ℕ) (rows : List (ℕ × VifText)) (index : ℕ) → IsDistinct nat_eq (map (λ row. row.0) rows) → first_index_with device rows ≡ Some index → Has device (find nat_cmp index rows)
+pub index_found : (device : List ℕ) (rows : List (ℕ × VifText)) (index : ℕ)
+    → IsDistinct nat_eq (map (λ row. row.0) rows) → first_index_with device rows ≡ Some index
+    → Has device (find nat_cmp index rows)
 index_found device [] index distinct e = absurd cc
 index_found device (row ∷ rows) index distinct e =
-    elim (bytes_eq row.1.device device) as (λ b. bytes_eq row.1.device device ≡ b → cond b (Some row.0) (first_index_with device rows) ≡ Some index → Has device (find nat_cmp index (row ∷ rows))) [
-      | true ↦ λ is h. let same : row.0 ≡ index = cc in subst (Has device) (sym (found_at index row rows (sym same))) ((bytes_eq-Decides row.1.device device).0 is)
+    elim (bytes_eq row.1.device device) as
+    (λ b. bytes_eq row.1.device device ≡ b
+    → cond b (Some row.0) (first_index_with device rows) ≡ Some index
+    → Has device (find nat_cmp index (row ∷ rows))) [
+      | true ↦ λ is h. let same : row.0 ≡ index = cc in
+          subst (Has device) (sym (found_at index row rows (sym same)))
+          ((bytes_eq-Decides row.1.device device).0 is)
       | false ↦ λ is h.
           let among = answered device rows index h in
-          let none = none_same nat_eq row.0 (map (λ r. r.0) rows) (IsDistinct-head nat_eq row.0 _ distinct) in
-          let apart : index ≡ row.0 → ⊥ = λ same. both_ways (list_any (nat_eq index) (map (λ r. r.0) rows)) (rw same none) among in
-          subst (Has device) (sym (found_after index row rows apart)) (index_found device rows index (IsDistinct-tail nat_eq row.0 _ distinct) h)
+          let none = none_same nat_eq row.0 (map (λ r. r.0) rows)
+          (IsDistinct-head nat_eq row.0 _ distinct) in
+          let apart : index ≡ row.0 → ⊥ =
+          λ same. both_ways (list_any (nat_eq index) (map (λ r. r.0) rows)) (rw same none) among in
+          subst (Has device) (sym (found_after index row rows apart))
+          (index_found device rows index (IsDistinct-tail nat_eq row.0 _ distinct) h)
     ] refl (sym (first_cons device row rows) ∙ e)
 
-distinct_rest : (key : Option (List ℕ)) (keys : List (List ℕ)) → IsDistinct bytes_eq (cons_option key keys) → IsDistinct bytes_eq keys
+distinct_rest : (key : Option (List ℕ)) (keys : List (List ℕ))
+    → IsDistinct bytes_eq (cons_option key keys) → IsDistinct bytes_eq keys
 distinct_rest None keys distinct = distinct
 distinct_rest (Some key) keys distinct = IsDistinct-tail bytes_eq key keys distinct
 
 -- a device that an index has is one of the table
-device_there : (device : List ℕ) (rows : List (ℕ × VifText)) (index : ℕ) → Has device (find nat_cmp index rows) → list_any (λ row. bytes_eq row.1.device device) rows ≡ true
+device_there : (device : List ℕ) (rows : List (ℕ × VifText)) (index : ℕ)
+    → Has device (find nat_cmp index rows)
+    → list_any (λ row. bytes_eq row.1.device device) rows ≡ true
 device_there device [] index h = absurd h
 device_there device (row ∷ rows) index h =
     elim (cases_eq index row.0) [
-      | inl same ↦ or_left (bytes_eq row.1.device device) _ ((bytes_eq-Decides row.1.device device).1 (subst (Has device) (found_at index row rows same) h))
-      | inr apart ↦ or_right (bytes_eq row.1.device device) _ (device_there device rows index (subst (Has device) (found_after index row rows apart) h))
+      | inl same ↦ or_left (bytes_eq row.1.device device) _
+          ((bytes_eq-Decides row.1.device device).1
+          (subst (Has device) (found_at index row rows same) h))
+      | inr apart ↦ or_right (bytes_eq row.1.device device) _
+          (device_there device rows index (subst (Has device) (found_after index row rows apart) h))
     ]
 
 -- the index that has the device is answered
-pub index_only : (device : List ℕ) (rows : List (ℕ × VifText)) (index : ℕ) → bytes_eq device no_device ≡ false → IsDistinct bytes_eq (filter_map device_of rows) → Has device (find nat_cmp index rows) → first_index_with device rows ≡ Some index
+pub index_only : (device : List ℕ) (rows : List (ℕ × VifText)) (index : ℕ)
+    → bytes_eq device no_device ≡ false → IsDistinct bytes_eq (filter_map device_of rows)
+    → Has device (find nat_cmp index rows) → first_index_with device rows ≡ Some index
 index_only device [] index some distinct h = absurd h
 index_only device (row ∷ rows) index some distinct h =
     elim (cases_eq index row.0) [
-      | inl same ↦
-          let has : bytes_eq row.1.device device ≡ true = (bytes_eq-Decides row.1.device device).1 (subst (Has device) (found_at index row rows same) h) in
+      | inl same ↦ let has : bytes_eq row.1.device device ≡ true =
+          (bytes_eq-Decides row.1.device device).1
+          (subst (Has device) (found_at index row rows same) h) in
           rw has (ap Some (sym same))
-      | inr apart ↦
-          let later = subst (Has device) (found_after index row rows apart) h in
+      | inr apart ↦ let later = subst (Has device) (found_after index row rows apart) h in
           let among = device_there device rows index later in
-          first_cons device row rows ∙ elim (bytes_eq row.1.device device) as (λ b. bytes_eq row.1.device device ≡ b → cond b (Some row.0) (first_index_with device rows) ≡ Some index) [
+          first_cons device row rows
+          ∙ elim (bytes_eq row.1.device device) as
+          (λ b. bytes_eq row.1.device device ≡ b
+          → cond b (Some row.0) (first_index_with device rows) ≡ Some index) [
             | true ↦ λ is.
                 let same : row.1.device ≡ device = (bytes_eq-Decides row.1.device device).0 is in
-                let key : device_of row ≡ Some row.1.device = ap (λ b. cond b None (Some row.1.device)) (ap (λ d. bytes_eq d no_device) same ∙ some) in
-                let none = none_same bytes_eq row.1.device (filter_map device_of rows) (IsDistinct-head bytes_eq row.1.device _ (subst (λ k. IsDistinct bytes_eq (cons_option k (filter_map device_of rows))) key distinct)) in
-                absurd (both_ways (list_any (bytes_eq device) (filter_map device_of rows)) (ap (λ d. list_any (bytes_eq d) (filter_map device_of rows)) (sym same) ∙ none) (sym (device_among device rows some) ∙ among))
-            | false ↦ λ is. index_only device rows index some (distinct_rest (device_of row) (filter_map device_of rows) distinct) later
+                let key : device_of row ≡ Some row.1.device =
+                ap (λ b. cond b None (Some row.1.device))
+                (ap (λ d. bytes_eq d no_device) same ∙ some) in
+                let none = none_same bytes_eq row.1.device (filter_map device_of rows)
+                (IsDistinct-head bytes_eq row.1.device _
+                (subst (λ k. IsDistinct bytes_eq (cons_option k (filter_map device_of rows))) key
+                distinct)) in
+                absurd (both_ways (list_any (bytes_eq device) (filter_map device_of rows))
+                (ap (λ d. list_any (bytes_eq d) (filter_map device_of rows)) (sym same) ∙ none)
+                (sym (device_among device rows some) ∙ among))
+            | false ↦ λ is. index_only device rows index some
+                (distinct_rest (device_of row) (filter_map device_of rows) distinct) later
           ] refl
     ]
 
-pub index_found_in_map : (device : List ℕ) (rows : List (ℕ × VifText)) (answer : Option ℕ) → IsDistinct nat_eq (map (λ row. row.0) rows) → answer ≡ first_index_with device rows → IfSome answer (λ index. HasDevice (from_entries rows) index device)
+pub index_found_in_map : (device : List ℕ) (rows : List (ℕ × VifText)) (answer : Option ℕ)
+    → IsDistinct nat_eq (map (λ row. row.0) rows) → answer ≡ first_index_with device rows
+    → IfSome answer (λ index. HasDevice (from_entries rows) index device)
 index_found_in_map device rows None distinct is = tt
 index_found_in_map device rows (Some index) distinct is =
-    subst (Has device) (sym (get-from_entries nat_cmp_total rows index)) (index_found device rows index distinct (sym is))
+    subst (Has device) (sym (get-from_entries nat_cmp_total rows index))
+    (index_found device rows index distinct (sym is))
 
-pub index_only_in_map : (device : List ℕ) (rows : List (ℕ × VifText)) (index : ℕ) → (device ≡ no_device → ⊥) → IsDistinct bytes_eq (filter_map device_of rows) → HasDevice (from_entries rows) index device → first_index_with device rows ≡ Some index
+pub index_only_in_map : (device : List ℕ) (rows : List (ℕ × VifText)) (index : ℕ)
+    → (device ≡ no_device → ⊥) → IsDistinct bytes_eq (filter_map device_of rows)
+    → HasDevice (from_entries rows) index device → first_index_with device rows ≡ Some index
 index_only_in_map device rows index some distinct has =
-    index_only device rows index (false_from_ne_true (bytes_eq device no_device) (λ e. some (is_none device e))) distinct (subst (Has device) (get-from_entries nat_cmp_total rows index) has)
+    index_only device rows index
+    (false_from_ne_true (bytes_eq device no_device) (λ e. some (is_none device e))) distinct
+    (subst (Has device) (get-from_entries nat_cmp_total rows index) has)
 
 -- ---- the indexes
 
-find_to_31 : (rows : List (ℕ × VifText)) (index : ℕ) → AllByRecursion (λ row. row.0 ≤ 31) rows → IsSome (find nat_cmp index rows) → index ≤ 31
+find_to_31 : (rows : List (ℕ × VifText)) (index : ℕ) → AllByRecursion (λ row. row.0 ≤ 31) rows
+    → IsSome (find nat_cmp index rows) → index ≤ 31
 find_to_31 [] index all there = absurd (let wrong = there in cc)
 find_to_31 (row ∷ rows) index all there =
     elim (cases_eq index row.0) [
       | inl same ↦ omega (arith, same, all.0)
-      | inr apart ↦ find_to_31 rows index all.1 (subst IsSome (found_after index row rows apart) there)
+      | inr apart ↦ find_to_31 rows index all.1
+          (subst IsSome (found_after index row rows apart) there)
     ]
 
-pub index_in_map : (rows : List (ℕ × VifText)) (index : ℕ) → AllByRecursion (λ row. row.0 ≤ 31) rows → IsSome (get (from_entries {R = nat_cmp} rows) index) → index ≤ 31
-index_in_map rows index all there = find_to_31 rows index all (subst IsSome (get-from_entries nat_cmp_total rows index) there)
+pub index_in_map : (rows : List (ℕ × VifText)) (index : ℕ) → AllByRecursion (λ row. row.0 ≤ 31) rows
+    → IsSome (get (from_entries {R = nat_cmp} rows) index) → index ≤ 31
+index_in_map rows index all there =
+    find_to_31 rows index all (subst IsSome (get-from_entries nat_cmp_total rows index) there)
 
 there_with : (device : List ℕ) (o : Option VifText) → Has device o → IsSome o
 there_with device None has = absurd has
 there_with device (Some vif) has = refl
 
-pub answer_in_map : (device : List ℕ) (rows : List (ℕ × VifText)) (answer : Option ℕ) → AllByRecursion (λ row. row.0 ≤ 31) rows → IfSome answer (λ index. HasDevice (from_entries rows) index device) → IfSome answer (λ index. index ≤ 31)
+pub answer_in_map : (device : List ℕ) (rows : List (ℕ × VifText)) (answer : Option ℕ)
+    → AllByRecursion (λ row. row.0 ≤ 31) rows
+    → IfSome answer (λ index. HasDevice (from_entries rows) index device)
+    → IfSome answer (λ index. index ≤ 31)
 answer_in_map device rows None all has = tt
-answer_in_map device rows (Some index) all has = index_in_map rows index all (there_with device (get (from_entries {R = nat_cmp} rows) index) has)
+answer_in_map device rows (Some index) all has =
+    index_in_map rows index all
+    (there_with device (get (from_entries {R = nat_cmp} rows) index) has)

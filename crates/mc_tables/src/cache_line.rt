@@ -9,7 +9,7 @@ ghost use Rattle.mc_tables.specs.CacheReading.{incoming_in, entry_in, row_in_wor
 ghost use Rattle.mc_tables.specs.CacheWords.{words_before};
 
 use crate::cache_row::CacheRow;
-use crate::entry::{Entry, Oifs};
+use crate::entry::Entry;
 use crate::fault::TableFaultKind;
 use crate::outgoing::oifs_of_words;
 use crate::table_words::{MAX_VIF, check_counter, number};
@@ -31,14 +31,13 @@ pub struct CacheWords<'a> {
 }
 
 /// Reads a row.
+#[tactic(auto, using(crate::proofs::RowWordLemmas::few_words))]
 pub fn row_of_line(alloc: Global, line: &[u8], order: Order) -> Result<CacheRow, TableFaultKind>
     ensures { result ≢ Err Memory → result ≡ row_in_words order (words_of line.now) }
 {
     let mut words = Words::new(line);
-    match first_words(&mut words) {
-        Some(first) => row_of_words(alloc, &first, words, order),
-        None => Err(TableFaultKind::WordCount),
-    }
+    let first = first_words(&mut words).ok_or(TableFaultKind::WordCount)?;
+    row_of_words(alloc, &first, words, order)
 }
 
 /// The six words before the outgoing ones, if they are there.
@@ -93,10 +92,8 @@ fn incoming_vif(word: &[u8]) -> Result<Option<u8>, TableFaultKind>
     if word == UNRESOLVED {
         return Ok(None);
     }
-    match number(word, 0, MAX_VIF) {
-        Some(iif) => Ok(Some(iif)),
-        None => Err(TableFaultKind::BadIif),
-    }
+    let iif = number(word, 0, MAX_VIF).ok_or(TableFaultKind::BadIif)?;
+    Ok(Some(iif))
 }
 
 /// What a row says of an incoming vif and its outgoing ones. An unresolved row has none.
@@ -110,10 +107,7 @@ fn entry_of_words(
     match iif {
         Some(iif) => {
             let oifs = oifs_of_words(alloc, outgoing)?;
-            Ok(Some(Entry {
-                iif,
-                oifs: Oifs::from_vec(oifs),
-            }))
+            Ok(Some(Entry { iif, oifs }))
         }
         None => no_entry(outgoing),
     }

@@ -6,25 +6,24 @@ ghost use Rattle.mc_tables.specs.declared.fault.TableFaultKind.TheVariants.{Memo
 ghost use Rattle.mc_tables.specs.CacheReading.{oif_in_parts, oif_in, oifs_in};
 ghost use Rattle.mc_tables.specs.OutgoingSteps.{has_vif, oifs_with};
 
-use crate::entry::Oif;
+use crate::entry::{Oif, Oifs};
 use crate::fault::TableFaultKind;
 use crate::table_words::{MAX_VIF, number};
-use mc_text::Words;
+use mc_text::{Words, first_place_of};
 use std::alloc::Global;
 
 /// The greatest threshold that the kernel shows. It keeps 255 for "not forwarded there".
 const MAX_THRESHOLD: u8 = 254;
 
 /// Reads the outgoing vifs, and gives them by ascending vif.
-pub fn oifs_of_words(alloc: Global, words: Words<'_>) -> Result<Vec<Oif>, TableFaultKind>
-    ensures found { IfOk result (λ oifs. oifs_in words.entry ≡ Ok oifs.items) }
-    ensures fault { IfErr result (λ fault. fault ≢ Memory → oifs_in words.entry ≡ Err fault) }
+pub fn oifs_of_words(alloc: Global, words: Words<'_>) -> Result<Oifs, TableFaultKind>
+    ensures { result ≢ Err Memory → result ≡ oifs_in words.entry }
 {
     let mut oifs = Vec::new(alloc);
     for word in words {
         add_oif(&mut oifs, word)?;
     }
-    Ok(oifs)
+    Ok(Oifs::from_vec(oifs))
 }
 
 /// Adds the outgoing vif of a word.
@@ -43,13 +42,12 @@ fn add_oif(oifs: &mut Vec<Oif>, word: &[u8]) -> Result<(), TableFaultKind>
 }
 
 /// Reads `n:t`, an outgoing vif and its threshold.
+#[tactic(auto, using(crate::proofs::RowWordLemmas::not_two))]
 fn oif_of_word(word: &[u8]) -> Result<(u8, u8), TableFaultKind>
     ensures { result ≡ oif_in word.now }
 {
-    match parts_of(word) {
-        Some((vif, threshold)) => oif_of_parts(vif, threshold),
-        None => Err(TableFaultKind::BadOif),
-    }
+    let (vif, threshold) = parts_of(word).ok_or(TableFaultKind::BadOif)?;
+    oif_of_parts(vif, threshold)
 }
 
 #[tactic(auto, unfolding(crate::specs::CacheReading::oif_in_parts))]
@@ -67,18 +65,12 @@ fn parts_of(word: &[u8]) -> Option<(&[u8], &[u8])>
         slice_split (λ b. b == 58) word.now ≡ parts.0.now ∷ parts.1.now ∷ []) }
     ensures only { IfNone result (length (slice_split (λ b. b == 58) word.now) ≢ 2) }
 {
-    let colon = first_colon(word)?;
+    let colon = first_place_of(b':', word)?;
     let threshold = &word[colon + 1..];
-    if first_colon(threshold).is_some() {
+    if first_place_of(b':', threshold).is_some() {
         return None;
     }
     Some((&word[..colon], threshold))
-}
-
-fn first_colon(word: &[u8]) -> Option<usize>
-    ensures { result ≡ position (λ b. b == 58) word.now }
-{
-    word.iter().position(|byte| *byte == b':')
 }
 
 fn has_oif(oifs: &[Oif], vif: u8) -> bool

@@ -33,13 +33,12 @@ pub struct VifWords<'a> {
 }
 
 /// Reads a vif and its index.
+#[tactic(auto, using(crate::proofs::VifLemmas::not_nine))]
 pub fn vif_of_line(line: &[u8]) -> Result<VifRow, TableFaultKind>
     ensures { result ≡ vif_in_words (words_of line.now) }
 {
-    match vif_words(line) {
-        Some(words) => vif_of_words(&words),
-        None => Err(TableFaultKind::WordCount),
-    }
+    let words = vif_words(line).ok_or(TableFaultKind::WordCount)?;
+    vif_of_words(&words)
 }
 
 /// The line's words, if there are nine.

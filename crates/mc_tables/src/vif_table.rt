@@ -10,7 +10,7 @@ ghost use Rattle.mc_text.specs.LineView.{line_text};
 ghost use Rattle.mc_tables.specs.Memory.{out_of_memory};
 ghost use Rattle.mc_tables.specs.TableLines.{rows_after};
 ghost use Rattle.mc_tables.specs.VifTable.{VifText, no_device, StandsForVifs};
-ghost use Rattle.mc_tables.specs.VifReading.{index_repeats, device_repeats, vif_in_line, vif_at, vifs_in};
+ghost use Rattle.mc_tables.specs.VifReading.{index_repeats, device_repeats, vif_in_line, vifs_in_lines, vifs_in};
 ghost use Rattle.mc_tables.specs.VifLookups.{HasDevice, IsVifTable, first_index_with};
 
 use crate::fault::{TableFault, TableFaultKind};
@@ -78,7 +78,18 @@ impl VifTable {
         ensures { result ≢ Err out_of_memory → result ≡ vifs_in text.now }
     {
         let lines = lines_after_header(text, b"Interface")?;
-        let vifs = vifs_of_lines(alloc, lines)?;
+        VifTable::from_lines(alloc, lines)
+    }
+
+    /// The table of the lines after the header.
+    fn from_lines(alloc: Global, lines: Lines<'_>) -> Result<VifTable, TableFault>
+        ensures { result ≢ Err out_of_memory → result ≡ vifs_in_lines lines.entry }
+    {
+        let mut vifs = Vec::new(alloc);
+        for line in lines {
+            let row = new_vif(vifs.as_slice(), &line).map_err(|kind| kind.at(line.number))?;
+            vifs.push(row)?;
+        }
         Ok(VifTable { vifs })
     }
 
@@ -109,19 +120,6 @@ impl VifTable {
         }
         index_with_device(vifs, device)
     }
-}
-
-fn vifs_of_lines(alloc: Global, lines: Lines<'_>) -> Result<Vec<VifRow>, TableFault>
-    ensures found { IfOk result (λ vifs. rows_after vif_at [] lines.entry ≡ Ok vifs.items) }
-    ensures fault { IfErr result (λ fault. fault ≢ out_of_memory →
-        rows_after vif_at [] lines.entry ≡ Err fault) }
-{
-    let mut vifs = Vec::new(alloc);
-    for line in lines {
-        let row = new_vif(vifs.as_slice(), &line).map_err(|kind| kind.at(line.number))?;
-        vifs.push(row)?;
-    }
-    Ok(vifs)
 }
 
 /// Reads a line after the earlier vifs.

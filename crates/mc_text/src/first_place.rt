@@ -5,7 +5,7 @@ ghost use Rattle.std.specs.Prelude.{◌≡◌, ◌==◌, position};
 use memchr::memchr;
 
 /// The index of the first such byte.
-pub(crate) fn first_place_of(byte: u8, text: &[u8]) -> Option<usize>
+pub fn first_place_of(byte: u8, text: &[u8]) -> Option<usize>
     ensures { result ≡ position (λ b. b == byte) text.now }
 {
     memchr(byte, text)

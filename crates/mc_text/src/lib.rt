@@ -34,6 +34,7 @@ pub use bundle_output::write_bundle;
 pub use device::{DeviceFault, Input, Output};
 pub use device_name::is_device_name;
 pub use faulty::{FaultyInput, FaultyOutput, Stop};
+pub use first_place::first_place_of;
 pub use from_reader::FromReader;
 pub use input_bytes::{ReadFault, read_to_limit};
 pub use laws::{

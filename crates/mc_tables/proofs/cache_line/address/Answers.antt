@@ -6,5 +6,6 @@ use Rattle.mc_tables.proofs.cache_line.address.Goals as goal
 
 pub returns : goal.returns
 returns c =
-    let is = address_is c.args.order c.args.word.now c.from_hex_word.result c.from_hex_word.ensures.in_range c.from_hex_word.ensures.found c.from_hex_word.ensures.only in
+    let is = address_is c.args.order c.args.word.now c.from_hex_word.result
+    c.from_hex_word.ensures.in_range c.from_hex_word.ensures.found c.from_hex_word.ensures.only in
     c.ok_or.ensures.value ∙ ap (λ o. ok_or o BadAddress) is

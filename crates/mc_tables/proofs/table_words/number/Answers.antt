@@ -4,7 +4,10 @@ use Rattle.mc_tables.proofs.table_words.number.Goals as goal
 
 pub returns-in_err-number : goal.returns-in_err-number
 returns-in_err-number c =
-    c.from_residual.ensures ∙ number_none c.args.least c.args.most c.args.word.now c.decimal.result c.in_err-number.was (λ n writes small. c.decimal.ensures.only n writes (omega arith))
+    c.from_residual.ensures
+    ∙ number_none c.args.least c.args.most c.args.word.now c.decimal.result c.in_err-number.was
+    (λ n writes small. c.decimal.ensures.only n writes (omega arith))
 
 pub returns : goal.returns
-returns c = sym (number_only c.args.least c.args.most c.args.word.now c.in_ok-number.number (c.in_ok-number.ensures.found, omega arith, omega (arith, c.in_ok-number.ensures.bound)))
+returns c = sym (number_only c.args.least c.args.most c.args.word.now c.in_ok-number.number
+    (c.in_ok-number.ensures.found, omega arith, omega (arith, c.in_ok-number.ensures.bound)))

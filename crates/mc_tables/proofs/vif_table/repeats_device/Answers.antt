@@ -9,7 +9,9 @@ use Rattle.mc_tables.proofs.vif_table.repeats_device.Goals as goal
 pub returns : goal.returns
 returns c =
     let device = c.device-device.ensures in
-    let some : bytes_eq c.row.inside.vif.device no_device ≡ false = ap (λ d. bytes_eq d no_device) (sym device) ∙ sym c.eq.ensures ∙ c.if-eq.false in
-    c.any_has_device.ensures ∙ ap (λ d. list_any (λ row. bytes_eq row.1.device d) c.args.earlier.now) device
+    let some : bytes_eq c.row.inside.vif.device no_device ≡ false =
+    ap (λ d. bytes_eq d no_device) (sym device) ∙ sym c.eq.ensures ∙ c.if-eq.false in
+    c.any_has_device.ensures
+    ∙ ap (λ d. list_any (λ row. bytes_eq row.1.device d) c.args.earlier.now) device
     ∙ device_repeats_is c.args.earlier.now (c.row.inside.index, c.row.inside.vif) some
     ∙ ap (λ (row : ℕ × VifText). device_repeats c.args.earlier.now row) c.row.view_is

@@ -15,7 +15,10 @@ returns-clause-added c =
     inserted c.args.key c.args.entry c.self.inside.entries.entries c.insert.new.self.entries
     c.in_ok-insert.ensures.updates.0 in
     subst (λ (table : CacheText). entry_added table c.args.key c.args.entry
-    ≡ Ok (record { entries = map.from_entries c.insert.new.self.entries; wildcards = kept.wildcards }))
+    ≡ Ok (record {
+      entries = map.from_entries c.insert.new.self.entries;
+      wildcards = kept.wildcards;
+    }))
     c.self.view_is
     (entry_entered kept c.args.key c.args.entry c.in_ok-insert.field-0
     (map.from_entries c.insert.new.self.entries) old (sym c.if-is_some.ensures) grown)
@@ -24,6 +27,8 @@ pub returns-then-is_some-clause-fault : goal.returns-then-is_some-clause-fault
 returns-then-is_some-clause-fault c =
     let kept = table_kept c.self.inside.entries.entries c.self.inside.wildcards.keys in
     let old = c.in_ok-insert.ensures.old ∙ looked_up c.args.key c.self.inside.entries.entries in
-    λ _. subst (λ (table : CacheText). entry_added table c.args.key c.args.entry ≡ Err RepeatedEntry)
+    λ _. subst (λ (table : CacheText). entry_added table c.args.key c.args.entry
+    ≡ Err RepeatedEntry)
     c.self.view_is
-    (entry_repeated kept c.args.key c.args.entry c.in_ok-insert.field-0 old (sym c.if-is_some.ensures))
+    (entry_repeated kept c.args.key c.args.entry c.in_ok-insert.field-0 old
+    (sym c.if-is_some.ensures))

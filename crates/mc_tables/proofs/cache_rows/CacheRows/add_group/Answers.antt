@@ -12,5 +12,6 @@ returns-clause-added c =
     ap (λ (groups : set.FinSet nat_cmp). record {
       entries = map.from_entries c.self.inside.entries.entries;
       wildcards = groups;
-    }) (added c.args.group c.self.inside.wildcards.keys c.insert.new.self.keys c.in_ok-insert.ensures.updates.0)
+    }) (added c.args.group c.self.inside.wildcards.keys c.insert.new.self.keys
+    c.in_ok-insert.ensures.updates.0)
     ∙ ap (λ (table : CacheText). group_added table c.args.group) c.self.view_is

@@ -7,26 +7,41 @@ use Rattle.mc_tables.proofs.vif_table.VifTable.index_of.Goals as goal
 
 pub returns-clause-found : goal.returns-clause-found
 returns-clause-found c =
-    let is = c.index_with_device.ensures ∙ ap (first_index_with c.args.device.now) c.as_slice-vifs.ensures.value in
-    subst (λ vifs. IfSome c.index_with_device.result (λ index. HasDevice vifs index c.args.device.now)) c.self.view_is (index_found_in_map c.args.device.now c.self.inside.vifs.items c.index_with_device.result c.self.invariant.0 is)
+    let is = c.index_with_device.ensures
+    ∙ ap (first_index_with c.args.device.now) c.as_slice-vifs.ensures.value in
+    subst (λ vifs. IfSome c.index_with_device.result
+    (λ index. HasDevice vifs index c.args.device.now)) c.self.view_is
+    (index_found_in_map c.args.device.now c.self.inside.vifs.items c.index_with_device.result
+    c.self.invariant.0 is)
 
 pub returns-clause-only : goal.returns-clause-only
 returns-clause-only c =
-    let is = c.index_with_device.ensures ∙ ap (first_index_with c.args.device.now) c.as_slice-vifs.ensures.value in
-    λ index some has. is ∙ index_only_in_map c.args.device.now c.self.inside.vifs.items index some c.self.invariant.1 (subst (λ vifs. HasDevice vifs index c.args.device.now) (sym c.self.view_is) has)
+    let is = c.index_with_device.ensures
+    ∙ ap (first_index_with c.args.device.now) c.as_slice-vifs.ensures.value in
+    λ index some has. is ∙ index_only_in_map c.args.device.now c.self.inside.vifs.items index some
+    c.self.invariant.1 (subst (λ vifs. HasDevice vifs index c.args.device.now)
+    (sym c.self.view_is) has)
 
 pub returns-clause-numbered : goal.returns-clause-numbered
 returns-clause-numbered c =
-    let is = c.index_with_device.ensures ∙ ap (first_index_with c.args.device.now) c.as_slice-vifs.ensures.value in
-    let has = index_found_in_map c.args.device.now c.self.inside.vifs.items c.index_with_device.result c.self.invariant.0 is in
-    answer_in_map c.args.device.now c.self.inside.vifs.items c.index_with_device.result c.self.invariant.2 has
+    let is = c.index_with_device.ensures
+    ∙ ap (first_index_with c.args.device.now) c.as_slice-vifs.ensures.value in
+    let has = index_found_in_map c.args.device.now c.self.inside.vifs.items
+    c.index_with_device.result c.self.invariant.0 is in
+    answer_in_map c.args.device.now c.self.inside.vifs.items c.index_with_device.result
+    c.self.invariant.2 has
 
 pub returns-clause-exact : goal.returns-clause-exact
 returns-clause-exact c =
-    answers_exactly c.args.self.now c.args.device.now c.index_with_device.result (sym c.eq.ensures ∙ c.if-eq.false) (returns-clause-found c) (returns-clause-only c)
+    answers_exactly c.args.self.now c.args.device.now c.index_with_device.result
+    (sym c.eq.ensures ∙ c.if-eq.false) (returns-clause-found c) (returns-clause-only c)
 
 pub returns-clause-rules : goal.returns-clause-rules
-returns-clause-rules c = subst IsVifTable c.self.view_is (vif_rules c.self.inside.vifs.items c.self.invariant.1 c.self.invariant.2)
+returns-clause-rules c =
+    subst IsVifTable c.self.view_is
+    (vif_rules c.self.inside.vifs.items c.self.invariant.1 c.self.invariant.2)
 
 pub returns-then-eq-clause-rules : goal.returns-then-eq-clause-rules
-returns-then-eq-clause-rules c = subst IsVifTable c.self.view_is (vif_rules c.self.inside.vifs.items c.self.invariant.1 c.self.invariant.2)
+returns-then-eq-clause-rules c =
+    subst IsVifTable c.self.view_is
+    (vif_rules c.self.inside.vifs.items c.self.invariant.1 c.self.invariant.2)

@@ -10,11 +10,17 @@ use Rattle.mc_tables.proofs.vif_table.VifTable.vif.Goals as goal
 
 pub returns-clause-found : goal.returns-clause-found
 returns-clause-found c =
-    c.vif_with_index.ensures ∙ find_first c.args.index c.as_slice.result.now ∙ ap (λ rows. find nat_cmp c.args.index rows) c.as_slice.ensures.value
-    ∙ sym (get-from_entries nat_cmp_total c.self.inside.vifs.items c.args.index) ∙ ap (λ vifs. get vifs c.args.index) c.self.view_is
+    c.vif_with_index.ensures ∙ find_first c.args.index c.as_slice.result.now
+    ∙ ap (λ rows. find nat_cmp c.args.index rows) c.as_slice.ensures.value
+    ∙ sym (get-from_entries nat_cmp_total c.self.inside.vifs.items c.args.index)
+    ∙ ap (λ vifs. get vifs c.args.index) c.self.view_is
 
 pub returns-clause-numbered : goal.returns-clause-numbered
-returns-clause-numbered c = λ i there. index_in_map c.self.inside.vifs.items i c.self.invariant.2 (subst (λ vifs. IsSome (get vifs i)) (sym c.self.view_is) there)
+returns-clause-numbered c =
+    λ i there. index_in_map c.self.inside.vifs.items i c.self.invariant.2
+    (subst (λ vifs. IsSome (get vifs i)) (sym c.self.view_is) there)
 
 pub returns-clause-rules : goal.returns-clause-rules
-returns-clause-rules c = subst IsVifTable c.self.view_is (vif_rules c.self.inside.vifs.items c.self.invariant.1 c.self.invariant.2)
+returns-clause-rules c =
+    subst IsVifTable c.self.view_is
+    (vif_rules c.self.inside.vifs.items c.self.invariant.1 c.self.invariant.2)

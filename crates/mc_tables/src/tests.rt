@@ -2,4 +2,5 @@
 
 mod caches;
 mod kernel;
+mod memory;
 mod vifs;

@@ -2,5 +2,6 @@
 
 mod faults;
 mod limits;
+mod memory;
 mod network;
 mod spellings;

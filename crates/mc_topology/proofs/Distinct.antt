@@ -1,5 +1,6 @@
 -- Lists of which no two places hold items of one key, and items that are added at their end.
-use Rattle.std.proofs.Common.{◌≡◌, ℕ, zero, suc, ◌⊎◌, inl, inr, Bool, true, false, ◌||◌, List, [], ◌∷◌, ◌++◌, length, Some, refl, sym, ap, ◌∙◌, arith}
+use Rattle.std.proofs.Common.{◌≡◌, ℕ, zero, suc, ◌⊎◌, inl, inr, Bool, true, false, ◌||◌, List, []}
+use Rattle.std.proofs.Common.{◌∷◌, ◌++◌, length, Some, refl, sym, ap, ◌∙◌, arith}
 use Rattle.std.specs.Prelude.{slice_get}
 use Rattle.std.specs.Bool.{Decides}
 use Rattle.std.specs.List.{list_any}
@@ -9,7 +10,8 @@ use Rattle.std.proofs.lemmas.Option.{slice_get_within, get_or_from_slice_get}
 use Rattle.mc_topology.specs.Topology.{AreDistinctBy}
 
 module _ {X : Type 0} where
-  get_front : (xs ys : List X) (i : ℕ) (x : X) → slice_get xs i ≡ Some x → slice_get (xs ++ ys) i ≡ Some x
+  get_front : (xs ys : List X) (i : ℕ) (x : X) → slice_get xs i ≡ Some x
+      → slice_get (xs ++ ys) i ≡ Some x
   get_front [] ys i x e = absurd cc
   get_front (y ∷ xs) ys zero x e = e
   get_front (y ∷ xs) ys (suc i) x e = get_front xs ys i x e
@@ -18,7 +20,8 @@ module _ {X : Type 0} where
   get_next [] ys x = refl
   get_next (y ∷ xs) ys x = get_next xs ys x
 
-  got_pushed : (xs : List X) (y : X) (i : ℕ) (x : X) → slice_get (xs ++ y ∷ []) i ≡ Some x → (slice_get xs i ≡ Some x) ⊎ ((i ≡ length xs) × (x ≡ y))
+  got_pushed : (xs : List X) (y : X) (i : ℕ) (x : X) → slice_get (xs ++ y ∷ []) i ≡ Some x
+      → (slice_get xs i ≡ Some x) ⊎ ((i ≡ length xs) × (x ≡ y))
   got_pushed [] y zero x e = inr (refl, cc)
   got_pushed [] y (suc i) x e = absurd cc
   got_pushed (z ∷ xs) y zero x e = inl e
@@ -28,48 +31,57 @@ module _ {X : Type 0} where
         | inr last ↦ inr (omega (arith, last.0), last.1)
       ]
 
-module _ {X K : Type 0} (key : X → K) (test : X → X → Bool) (same : (y x : X) → Decides (test y x) (key y ≡ key x)) where
+module _ {X K : Type 0} (key : X → K) (test : X → X → Bool)
+    (same : (y x : X) → Decides (test y x) (key y ≡ key x)) where
   -- an item of the list has the key of x
   abbrev pub is_taken : X → List X → Bool
   is_taken x xs = list_any (λ y. test y x) xs
 
   taken_first : (y : X) (xs : List X) (x : X) (b : Bool) → test y x ≡ b
       → (is_taken x xs ≡ true → (i : ℕ) × (z : X) × (slice_get xs i ≡ Some z) × (key z ≡ key x))
-      → (b || is_taken x xs) ≡ true → (i : ℕ) × (z : X) × (slice_get (y ∷ xs) i ≡ Some z) × (key z ≡ key x)
+      → (b || is_taken x xs) ≡ true → (i : ℕ) × (z : X) × (slice_get (y ∷ xs) i ≡ Some z)
+      × (key z ≡ key x)
   taken_first y xs x true is later e = (0, y, refl, (same y x).0 is)
   taken_first y xs x false is later e = let t = later e in (suc t.0, t.1, t.2, t.3)
 
-  taken_at : (xs : List X) (x : X) → is_taken x xs ≡ true → (i : ℕ) × (z : X) × (slice_get xs i ≡ Some z) × (key z ≡ key x)
+  taken_at : (xs : List X) (x : X) → is_taken x xs ≡ true → (i : ℕ) × (z : X)
+      × (slice_get xs i ≡ Some z) × (key z ≡ key x)
   taken_at [] x e = absurd cc
   taken_at (y ∷ xs) x e = taken_first y xs x (test y x) refl (λ h. taken_at xs x h) e
 
-  at_taken : (xs : List X) (i : ℕ) (y x : X) → slice_get xs i ≡ Some y → key y ≡ key x → is_taken x xs ≡ true
-  at_taken xs i y x e k = list_any_at (λ z. test z x) xs i y (slice_get_within xs i y e) (ap (λ (z : X). test z x) (get_or_from_slice_get xs i y y e) ∙ (same y x).1 k)
+  at_taken : (xs : List X) (i : ℕ) (y x : X) → slice_get xs i ≡ Some y → key y ≡ key x
+      → is_taken x xs ≡ true
+  at_taken xs i y x e k =
+      list_any_at (λ z. test z x) xs i y (slice_get_within xs i y e)
+      (ap (λ (z : X). test z x) (get_or_from_slice_get xs i y y e) ∙ (same y x).1 k)
 
   pub distinct_none : AreDistinctBy key []
   distinct_none i j x y at_i at_j k = absurd cc
 
   -- an item whose key is new is added
-  pub distinct_push : (xs : List X) (x : X) → AreDistinctBy key xs → is_taken x xs ≡ false → AreDistinctBy key (xs ++ x ∷ [])
+  pub distinct_push : (xs : List X) (x : X) → AreDistinctBy key xs → is_taken x xs ≡ false
+      → AreDistinctBy key (xs ++ x ∷ [])
   distinct_push xs x distinct new i j a b at_i at_j k =
       elim (got_pushed xs x i a at_i) [
-        | inl before_i ↦
-            elim (got_pushed xs x j b at_j) [
-              | inl before_j ↦ distinct i j a b before_i before_j k
-              | inr last_j ↦ let taken = at_taken xs i a x before_i (k ∙ ap key last_j.1) in absurd cc
-            ]
-        | inr last_i ↦
-            elim (got_pushed xs x j b at_j) [
-              | inl before_j ↦ let taken = at_taken xs j b x before_j (sym k ∙ ap key last_i.1) in absurd cc
-              | inr last_j ↦ last_i.0 ∙ sym last_j.0
-            ]
+        | inl before_i ↦ elim (got_pushed xs x j b at_j) [
+          | inl before_j ↦ distinct i j a b before_i before_j k
+          | inr last_j ↦ let taken = at_taken xs i a x before_i (k ∙ ap key last_j.1) in
+              absurd cc
+        ]
+        | inr last_i ↦ elim (got_pushed xs x j b at_j) [
+          | inl before_j ↦ let taken = at_taken xs j b x before_j (sym k ∙ ap key last_i.1) in
+              absurd cc
+          | inr last_j ↦ last_i.0 ∙ sym last_j.0
+        ]
       ]
 
   -- each item's key is new beside those before it
-  pub distinct_new : (xs ys : List X) (x : X) → AreDistinctBy key (xs ++ x ∷ ys) → is_taken x xs ≡ false
+  pub distinct_new : (xs ys : List X) (x : X) → AreDistinctBy key (xs ++ x ∷ ys)
+      → is_taken x xs ≡ false
   distinct_new xs ys x distinct =
       false_from_ne_true _ (λ taken.
       let (i, y, at, k) = taken_at xs x taken in
-      let here : i ≡ length xs = distinct i (length xs) y x (get_front xs (x ∷ ys) i y at) (get_next xs ys x) k in
+      let here : i ≡ length xs =
+      distinct i (length xs) y x (get_front xs (x ∷ ys) i y at) (get_next xs ys x) k in
       let within = slice_get_within xs i y at in
       omega (arith, here, within))

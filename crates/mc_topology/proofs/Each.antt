@@ -1,25 +1,33 @@
 -- Reading the parts of a section one after the other, as a loop does.
-use Rattle.std.proofs.Common.{◌≡◌, ℕ, ◌+◌, ◌<◌, ◌≤◌, List, [], ◌∷◌, ◌++◌, length, get_or, drop, map, Result, Ok, Err, refl}
+use Rattle.std.proofs.Common.{◌≡◌, ℕ, ◌+◌, ◌<◌, ◌≤◌, List, [], ◌∷◌, ◌++◌, length, get_or, drop, map}
+use Rattle.std.proofs.Common.{Result, Ok, Err, refl}
 use Rattle.std.proofs.lemmas.List.{drop_more, drop_all}
 use Rattle.mc_topology.specs.declared.fault.Section.{Section}
 use Rattle.mc_topology.specs.declared.fault.TopologyFaultKind.{TopologyFaultKind}
 use Rattle.mc_topology.specs.declared.fault.TopologyFault.{TopologyFault}
 use Rattle.mc_topology.specs.Answer.{place, each}
 
-module _ {A D X : Type 0} (section : Section) (one : List X → D → Result X TopologyFaultKind) (see : A → D) where
+module _ {A D X : Type 0} (section : Section) (one : List X → D → Result X TopologyFaultKind)
+    (see : A → D) where
   -- a part that is read
-  pub each_next : (earlier : List X) (rows : List A) (i : ℕ) (row : A) (x : X) → i < length rows → row ≡ get_or rows i row → place section (length earlier + 1) (one earlier (see row)) ≡ Ok x
-      → each section one earlier (map see (drop i rows)) ≡ each section one (earlier ++ x ∷ []) (map see (drop (i + 1) rows))
+  pub each_next : (earlier : List X) (rows : List A) (i : ℕ) (row : A) (x : X) → i < length rows
+      → row ≡ get_or rows i row → place section (length earlier + 1) (one earlier (see row)) ≡ Ok x
+      → each section one earlier (map see (drop i rows))
+      ≡ each section one (earlier ++ x ∷ []) (map see (drop (i + 1) rows))
   unfolding each
   each_next earlier rows i row x lt is ok = rw (drop_more rows i row lt, ← is, ok) refl
 
   -- a part that is refused
-  pub each_refused : (earlier : List X) (rows : List A) (i : ℕ) (row : A) (fault : TopologyFault) → i < length rows → row ≡ get_or rows i row → place section (length earlier + 1) (one earlier (see row)) ≡ Err fault
+  pub each_refused : (earlier : List X) (rows : List A) (i : ℕ) (row : A) (fault : TopologyFault)
+      → i < length rows → row ≡ get_or rows i row
+      → place section (length earlier + 1) (one earlier (see row)) ≡ Err fault
       → each section one earlier (map see (drop i rows)) ≡ Err fault
   unfolding each
-  each_refused earlier rows i row fault lt is refused = rw (drop_more rows i row lt, ← is, refused) refl
+  each_refused earlier rows i row fault lt is refused =
+      rw (drop_more rows i row lt, ← is, refused) refl
 
   -- no part is left
-  pub each_done : (earlier : List X) (rows : List A) (i : ℕ) → length rows ≤ i → each section one earlier (map see (drop i rows)) ≡ Ok earlier
+  pub each_done : (earlier : List X) (rows : List A) (i : ℕ) → length rows ≤ i
+      → each section one earlier (map see (drop i rows)) ≡ Ok earlier
   unfolding each
   each_done earlier rows i past = rw (drop_all i rows past) refl

@@ -1,5 +1,5 @@
--- A small topology, read as the definitions say: they compute. The text is that of the tests, with the
--- quotes of TOML's literal texts.
+-- A small topology, read as the definitions say: they compute. The text is that of the tests, with
+-- the quotes of TOML's literal texts.
 use Rattle.std.proofs.Common.{◌≡◌, ℕ, List, [], ◌∷◌, codes, Ok, refl}
 use Rattle.std.specs.Fmt.{digits}
 use Rattle.std.specs.Str.{is_utf8, chars}
@@ -8,12 +8,14 @@ use Rattle.mc_text.specs.AddressReading.{address_of_text}
 use Rattle.mc_text.specs.declared.addr.Order.TheVariants.{Big}
 use Rattle.mc_topology.specs.Addresses.{source_address_of, group_address_of}
 use Rattle.mc_topology.specs.Answer.{each}
-use Rattle.mc_topology.specs.Document.{known_table, text_at, number_at, list_at, optional_text_at, optional_list_at, rows_at}
+use Rattle.mc_topology.specs.Document.{known_table, text_at, number_at, list_at, optional_text_at}
+use Rattle.mc_topology.specs.Document.{optional_list_at, rows_at}
 use Rattle.mc_topology.specs.Flows.{ttl_of, flow_of, flow_rows, flows_in}
 use Rattle.mc_topology.specs.Interfaces.{interface_of, interfaces_in}
 use Rattle.mc_topology.specs.Lans.{lan_of, lan_rows, lans_in}
 use Rattle.mc_topology.specs.Names.{is_name, is_device}
-use Rattle.mc_topology.specs.Reading.{utf8_text, document_of, version_in, sections_in, topology_in, reading_of}
+use Rattle.mc_topology.specs.Reading.{utf8_text, document_of, version_in, sections_in, topology_in}
+use Rattle.mc_topology.specs.Reading.{reading_of}
 use Rattle.mc_topology.specs.Routers.{order_of, router_of, routers_in}
 use Rattle.mc_topology.specs.Sources.{source_of, sources_in}
 
@@ -29,8 +31,11 @@ pub text_is_read : reading_of text ≡ Ok (record {
   flows = (record { source = 167772165; lan = 0; group = 4009820675; ttl = 3 }) ∷ [];
 })
 unfolding
-    toml_on_literals is_utf8 chars digits reading_of topology_in sections_in document_of utf8_text version_in lans_in lan_rows lan_of
-    routers_in router_of order_of interfaces_in interface_of sources_in source_of flows_in flow_rows flow_of
-    ttl_of known_table text_at number_at list_at optional_text_at optional_list_at rows_at is_name is_device
+    toml_on_literals is_utf8 chars digits reading_of topology_in sections_in document_of utf8_text
+    version_in lans_in lan_rows lan_of
+    routers_in router_of order_of interfaces_in interface_of sources_in source_of flows_in flow_rows
+    flow_of
+    ttl_of known_table text_at number_at list_at optional_text_at optional_list_at rows_at is_name
+    is_device
     source_address_of group_address_of address_of_text each
 text_is_read = refl

@@ -1,14 +1,19 @@
 -- What stands under a key is read, and what is read stands there.
-use Rattle.std.proofs.Common.{◌≡◌, ℕ, ℤ, ◌≤◌, Bool, true, false, cond, List, [], length, codes, Option, Some, None, Ok, Err, nat_le, le-leb, refl, sym, ap, ◌∙◌}
+use Rattle.std.proofs.Common.{◌≡◌, ℕ, ℤ, ◌≤◌, Bool, true, false, cond, List, [], length, codes}
+use Rattle.std.proofs.Common.{Option, Some, None, Ok, Err, nat_le, le-leb, refl, sym, ap, ◌∙◌}
 use Rattle.std.specs.Option.{ok_or}
 use Rattle.std.specs.Str.{bytes_eq}
 use Rattle.std.proofs.lemmas.Bool.{leb-true}
 use Rattle.std.proofs.lemmas.Slice.Eq.{bytes_eq-Decides}
-use Rattle.toml.specs.Data.{Data, string, integer, float, boolean, datetime, array, table, Items, Members, get_member, as_str, as_integer, as_array, as_table}
+use Rattle.toml.specs.Data.{Data, string, integer, float, boolean, datetime, array, table, Items}
+use Rattle.toml.specs.Data.{Members, get_member, as_str, as_integer, as_array, as_table}
 use Rattle.mc_text.specs.declared.addr.Order.{Order}
 use Rattle.mc_text.specs.declared.addr.Order.TheVariants.{Little, Big}
-use Rattle.mc_topology.specs.declared.fault.TopologyFaultKind.TheVariants.{MissingKey, BadKind, UnknownKey, TooMany}
-use Rattle.mc_topology.specs.Document.{has_only, rows_in, text_of, number_of, list_of, list_or_empty, text_or_none, known_table, text_at, number_at, list_at, optional_text_at, optional_list_at, rows_at, at_key}
+use Rattle.mc_topology.specs.declared.fault.TopologyFaultKind.TheVariants.{MissingKey, BadKind}
+use Rattle.mc_topology.specs.declared.fault.TopologyFaultKind.TheVariants.{UnknownKey, TooMany}
+use Rattle.mc_topology.specs.Document.{has_only, rows_in, text_of, number_of, list_of}
+use Rattle.mc_topology.specs.Document.{list_or_empty, text_or_none, known_table, text_at, number_at}
+use Rattle.mc_topology.specs.Document.{list_at, optional_text_at, optional_list_at, rows_at, at_key}
 use Rattle.mc_topology.specs.Routers.{order_of}
 use Rattle.mc_topology.specs.Stands.{IsTable, AreRows, IsOrder, order_text}
 use Rattle.mc_topology.proofs.Steps.{bind_ok, test_ok, ok_or_ok, ok_is}
@@ -54,32 +59,39 @@ as_table-is (table ns) ms e = cc
 pub text_of-takes : (d : Data) (text : List ℕ) → text_of d ≡ Ok text → d ≡ string text
 text_of-takes d text e = as_str-is d text (ok_or_ok (as_str d) BadKind text e)
 
-pub text_at-takes : (key : List ℕ) (ms : Members) (text : List ℕ) → text_at key ms ≡ Ok text → get_member key ms ≡ Some (string text)
+pub text_at-takes : (key : List ℕ) (ms : Members) (text : List ℕ) → text_at key ms ≡ Ok text
+    → get_member key ms ≡ Some (string text)
 unfolding text_at
 text_at-takes key ms text e =
     let a = bind_ok (at_key key ms) text_of text e in
     ok_or_ok (get_member key ms) MissingKey a.0 a.1 ∙ ap Some (text_of-takes a.0 text a.2)
 
-pub text_at-again : (key : List ℕ) (ms : Members) (text : List ℕ) → get_member key ms ≡ Some (string text) → text_at key ms ≡ Ok text
+pub text_at-again : (key : List ℕ) (ms : Members) (text : List ℕ)
+    → get_member key ms ≡ Some (string text) → text_at key ms ≡ Ok text
 unfolding text_at
 text_at-again key ms text e = rw e refl
 
-pub number_at-takes : (key : List ℕ) (ms : Members) (z : ℤ) → number_at key ms ≡ Ok z → get_member key ms ≡ Some (integer z)
+pub number_at-takes : (key : List ℕ) (ms : Members) (z : ℤ) → number_at key ms ≡ Ok z
+    → get_member key ms ≡ Some (integer z)
 unfolding number_at
 number_at-takes key ms z e =
     let a = bind_ok (at_key key ms) number_of z e in
-    ok_or_ok (get_member key ms) MissingKey a.0 a.1 ∙ ap Some (as_integer-is a.0 z (ok_or_ok (as_integer a.0) BadKind z a.2))
+    ok_or_ok (get_member key ms) MissingKey a.0 a.1
+    ∙ ap Some (as_integer-is a.0 z (ok_or_ok (as_integer a.0) BadKind z a.2))
 
-pub number_at-again : (key : List ℕ) (ms : Members) (z : ℤ) → get_member key ms ≡ Some (integer z) → number_at key ms ≡ Ok z
+pub number_at-again : (key : List ℕ) (ms : Members) (z : ℤ) → get_member key ms ≡ Some (integer z)
+    → number_at key ms ≡ Ok z
 unfolding number_at
 number_at-again key ms z e = rw e refl
 
 -- ---- tables
 
-pub known_table-takes : (known : List (List ℕ)) (d : Data) (ms : Members) → known_table known d ≡ Ok ms → IsTable known d ms
+pub known_table-takes : (known : List (List ℕ)) (d : Data) (ms : Members)
+    → known_table known d ≡ Ok ms → IsTable known d ms
 unfolding known_table
 known_table-takes known d ms e =
-    let a = bind_ok (ok_or (as_table d) BadKind) (λ ns. cond (has_only known ns) (Ok ns) (Err UnknownKey)) ms e in
+    let a = bind_ok (ok_or (as_table d) BadKind)
+    (λ ns. cond (has_only known ns) (Ok ns) (Err UnknownKey)) ms e in
     let t = test_ok (has_only known a.0) UnknownKey (Ok a.0) ms a.2 in
     let same : a.0 ≡ ms = ok_is a.0 ms t.1 in
     record {
@@ -87,25 +99,32 @@ known_table-takes known d ms e =
       keys = ap (has_only known) (sym same) ∙ t.0;
     }
 
-pub known_table-again : (known : List (List ℕ)) (d : Data) (ms : Members) → IsTable known d ms → known_table known d ≡ Ok ms
+pub known_table-again : (known : List (List ℕ)) (d : Data) (ms : Members) → IsTable known d ms
+    → known_table known d ≡ Ok ms
 unfolding known_table
 known_table-again known d ms is = rw (is.members, is.keys) refl
 
 -- ---- lists
 
-list_of-takes : (d : Data) (rows : List Data) → list_of d ≡ Ok rows → (items : Items) × (d ≡ array items) × (rows ≡ rows_in items)
+list_of-takes : (d : Data) (rows : List Data) → list_of d ≡ Ok rows → (items : Items)
+    × (d ≡ array items) × (rows ≡ rows_in items)
 list_of-takes d rows e =
-    let a = bind_ok (ok_or (as_array d) BadKind) (λ items. Ok (rows_in items)) rows e in
-    (a.0, as_array-is d a.0 (ok_or_ok (as_array d) BadKind a.0 a.1), sym (ok_is (rows_in a.0) rows a.2))
+    let a = bind_ok (ok_or (as_array d) BadKind) (λ items. Ok (rows_in items)) rows e in (
+      a.0,
+      as_array-is d a.0 (ok_or_ok (as_array d) BadKind a.0 a.1),
+      sym (ok_is (rows_in a.0) rows a.2),
+    )
 
-pub list_at-takes : (key : List ℕ) (ms : Members) (rows : List Data) → list_at key ms ≡ Ok rows → (items : Items) × (get_member key ms ≡ Some (array items)) × (rows ≡ rows_in items)
+pub list_at-takes : (key : List ℕ) (ms : Members) (rows : List Data) → list_at key ms ≡ Ok rows
+    → (items : Items) × (get_member key ms ≡ Some (array items)) × (rows ≡ rows_in items)
 unfolding list_at
 list_at-takes key ms rows e =
     let a = bind_ok (at_key key ms) list_of rows e in
     let l = list_of-takes a.0 rows a.2 in
     (l.0, ok_or_ok (get_member key ms) MissingKey a.0 a.1 ∙ ap Some l.1, l.2)
 
-pub list_at-again : (key : List ℕ) (ms : Members) (items : Items) → get_member key ms ≡ Some (array items) → list_at key ms ≡ Ok (rows_in items)
+pub list_at-again : (key : List ℕ) (ms : Members) (items : Items)
+    → get_member key ms ≡ Some (array items) → list_at key ms ≡ Ok (rows_in items)
 unfolding list_at
 list_at-again key ms items e = rw e refl
 
@@ -117,29 +136,39 @@ pub rows_again : (o : Option Data) (rows : List Data) → AreRows o rows → lis
 rows_again None rows is = ap Ok (sym is)
 rows_again (Some d) rows is = rw (is.1, is.2) refl
 
-pub optional_list_at-takes : (key : List ℕ) (ms : Members) (rows : List Data) → optional_list_at key ms ≡ Ok rows → AreRows (get_member key ms) rows
+pub optional_list_at-takes : (key : List ℕ) (ms : Members) (rows : List Data)
+    → optional_list_at key ms ≡ Ok rows → AreRows (get_member key ms) rows
 unfolding optional_list_at
 optional_list_at-takes key ms rows e = rows_takes (get_member key ms) rows e
 
-pub optional_list_at-again : (key : List ℕ) (ms : Members) (rows : List Data) → AreRows (get_member key ms) rows → optional_list_at key ms ≡ Ok rows
+pub optional_list_at-again : (key : List ℕ) (ms : Members) (rows : List Data)
+    → AreRows (get_member key ms) rows → optional_list_at key ms ≡ Ok rows
 unfolding optional_list_at
 optional_list_at-again key ms rows is = rows_again (get_member key ms) rows is
 
-pub rows_at-takes : (key : List ℕ) (most : ℕ) (ms : Members) (rows : List Data) → rows_at key most ms ≡ Ok rows → AreRows (get_member key ms) rows × (length rows ≤ most)
+pub rows_at-takes : (key : List ℕ) (most : ℕ) (ms : Members) (rows : List Data)
+    → rows_at key most ms ≡ Ok rows → AreRows (get_member key ms) rows × (length rows ≤ most)
 unfolding rows_at
 rows_at-takes key most ms rows e =
-    let a = bind_ok (optional_list_at key ms) (λ rs. cond (nat_le (length rs) most) (Ok rs) (Err TooMany)) rows e in
+    let a = bind_ok (optional_list_at key ms)
+    (λ rs. cond (nat_le (length rs) most) (Ok rs) (Err TooMany)) rows e in
     let t = test_ok (nat_le (length a.0) most) TooMany (Ok a.0) rows a.2 in
-    let same : a.0 ≡ rows = ok_is a.0 rows t.1 in
-    (optional_list_at-takes key ms rows (a.1 ∙ ap Ok same), leb-true (length rows) most (ap (λ (rs : List Data). nat_le (length rs) most) (sym same) ∙ t.0))
+    let same : a.0 ≡ rows = ok_is a.0 rows t.1 in (
+      optional_list_at-takes key ms rows (a.1 ∙ ap Ok same),
+      leb-true (length rows) most
+          (ap (λ (rs : List Data). nat_le (length rs) most) (sym same) ∙ t.0),
+    )
 
-pub rows_at-again : (key : List ℕ) (most : ℕ) (ms : Members) (rows : List Data) → AreRows (get_member key ms) rows → length rows ≤ most → rows_at key most ms ≡ Ok rows
+pub rows_at-again : (key : List ℕ) (most : ℕ) (ms : Members) (rows : List Data)
+    → AreRows (get_member key ms) rows → length rows ≤ most → rows_at key most ms ≡ Ok rows
 unfolding rows_at
-rows_at-again key most ms rows is few = rw (optional_list_at-again key ms rows is, le-leb (length rows) most few) refl
+rows_at-again key most ms rows is few =
+    rw (optional_list_at-again key ms rows is, le-leb (length rows) most few) refl
 
 -- ---- byte orders
 
-named_order : (b c : Bool) (text : List ℕ) (order : Order) → bytes_eq text (codes "little") ≡ b → bytes_eq text (codes "big") ≡ c
+named_order : (b c : Bool) (text : List ℕ) (order : Order) → bytes_eq text (codes "little") ≡ b
+    → bytes_eq text (codes "big") ≡ c
     → cond b (Ok Little) (cond c (Ok Big) (Err BadKind)) ≡ Ok order → text ≡ order_text order
 named_order true c text order is_little is_big e =
     let same : Little ≡ order = cc in
@@ -154,7 +183,8 @@ unfolding order_of
 order_of-text Little = refl
 order_of-text Big = refl
 
-order_takes : (m : Option Data) (text : Option (List ℕ)) (order : Order) → text_or_none m ≡ Ok text → order_of text ≡ Ok order → IsOrder m order
+order_takes : (m : Option Data) (text : Option (List ℕ)) (order : Order) → text_or_none m ≡ Ok text
+    → order_of text ≡ Ok order → IsOrder m order
 unfolding order_of
 order_takes None text order e named =
     let none : None ≡ text = ok_is None text e in
@@ -166,15 +196,20 @@ order_takes (Some d) text order e named =
     let at : order_of (Some a.0) ≡ Ok order = ap order_of some ∙ named in
     text_of-takes d a.0 a.1 ∙ ap string (named_order _ _ a.0 order refl refl at)
 
-order_again : (m : Option Data) (order : Order) → IsOrder m order → (text : Option (List ℕ)) × (text_or_none m ≡ Ok text) × (order_of text ≡ Ok order)
+order_again : (m : Option Data) (order : Order) → IsOrder m order → (text : Option (List ℕ))
+    × (text_or_none m ≡ Ok text) × (order_of text ≡ Ok order)
 unfolding order_of
 order_again None order is = (None, refl, ap Ok (sym is))
 order_again (Some d) order is = (Some (order_text order), rw is refl, order_of-text order)
 
-pub optional_order-takes : (key : List ℕ) (ms : Members) (text : Option (List ℕ)) (order : Order) → optional_text_at key ms ≡ Ok text → order_of text ≡ Ok order → IsOrder (get_member key ms) order
+pub optional_order-takes : (key : List ℕ) (ms : Members) (text : Option (List ℕ)) (order : Order)
+    → optional_text_at key ms ≡ Ok text → order_of text ≡ Ok order
+    → IsOrder (get_member key ms) order
 unfolding optional_text_at
 optional_order-takes key ms text order e named = order_takes (get_member key ms) text order e named
 
-pub optional_order-again : (key : List ℕ) (ms : Members) (order : Order) → IsOrder (get_member key ms) order → (text : Option (List ℕ)) × (optional_text_at key ms ≡ Ok text) × (order_of text ≡ Ok order)
+pub optional_order-again : (key : List ℕ) (ms : Members) (order : Order)
+    → IsOrder (get_member key ms) order → (text : Option (List ℕ))
+    × (optional_text_at key ms ≡ Ok text) × (order_of text ≡ Ok order)
 unfolding optional_text_at
 optional_order-again key ms order is = order_again (get_member key ms) order is

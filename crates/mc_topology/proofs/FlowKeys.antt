@@ -1,5 +1,6 @@
 -- Flows that are kept by source and group.
-use Rattle.std.proofs.Common.{◌≡◌, ℕ, Bool, false, ◌&&◌, List, [], ◌∷◌, ◌++◌, map, Option, Some, None, is_some, refl, sym, ap, ◌∙◌}
+use Rattle.std.proofs.Common.{◌≡◌, ℕ, Bool, false, ◌&&◌, List, [], ◌∷◌, ◌++◌, map}
+use Rattle.std.proofs.Common.{is_some, refl, sym, ap, ◌∙◌}
 use Rattle.std.specs.Prelude.{◌==◌}
 use Rattle.std.specs.List.{list_any}
 use Rattle.std.specs.Map.{lookup, keys_of, values_of}
@@ -20,7 +21,8 @@ flow_agrees : (source group : ℕ) (f : Flow)
 flow_agrees source group f = rw (same_number f.source source, same_number f.group group) refl
 
 -- a key is there exactly if a flow has it
-pub any_flow : (es : List ((ℕ × ℕ) × Flow)) (source group : ℕ) → keys_of es ≡ map flow_key (values_of es)
+pub any_flow : (es : List ((ℕ × ℕ) × Flow)) (source group : ℕ)
+    → keys_of es ≡ map flow_key (values_of es)
     → is_some (lookup (same_pair (source, group)) es) ≡ has_flow source group (values_of es)
 any_flow es source group kept =
     let test = same_pair (source, group) in
@@ -36,7 +38,8 @@ flow_added : {S : Type 0} (m : IndexMap (ℕ × ℕ) Flow S) (f : Flow)
     → insert_entry same_pair m.entries (flow_key f) f ≡ m.entries ++ (flow_key f, f) ∷ []
 flow_added m f kept new =
     insert_entry-new same_pair m (flow_key f) f
-    (none_from (lookup (same_pair (flow_key f)) m.entries) (any_flow m.entries f.source f.group kept ∙ new))
+    (none_from (lookup (same_pair (flow_key f)) m.entries)
+    (any_flow m.entries f.source f.group kept ∙ new))
 
 pub flow_pushed : {S : Type 0} (m : IndexMap (ℕ × ℕ) Flow S) (f : Flow)
     → keys_of m.entries ≡ map flow_key (values_of m.entries)

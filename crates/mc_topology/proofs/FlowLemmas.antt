@@ -1,5 +1,6 @@
 -- Times to live.
-use Rattle.std.proofs.Common.{◌≡◌, ℤ, pos, negsuc, ◌≤ℤ◌, ◌<ℤ◌, ◌<◌, ◌≤◌, ◌&&◌, Bool, true, false, le-leb, Ok, Err, refl, arith}
+use Rattle.std.proofs.Common.{◌≡◌, ℤ, pos, negsuc, ◌≤ℤ◌, ◌<ℤ◌, ◌<◌, ◌≤◌, ◌&&◌, Bool, true, false}
+use Rattle.std.proofs.Common.{le-leb, Ok, Err, refl, arith}
 use Rattle.std.specs.Ordering.{is_le, int_cmp}
 use Rattle.std.specs.declared.cmp.Ordering.{Ordering}
 use Rattle.std.specs.declared.cmp.Ordering.TheVariants.{Less, Equal, Greater}
@@ -43,15 +44,19 @@ above_tells x y Equal e is = absurd cc
 above_tells x y Greater e is = int_ranked x y Greater e
 
 -- a number that is 1 to 255
-pub ttl_inside : (z : ℤ) → is_le (int_cmp (pos 1) z) ≡ true → is_le (int_cmp z (pos 255)) ≡ true → ttl_of z ≡ Ok (nat_abs z)
-ttl_inside z low high = ttl_of-within z (le_tells (pos 1) z _ refl low) (le_tells z (pos 255) _ refl high)
+pub ttl_inside : (z : ℤ) → is_le (int_cmp (pos 1) z) ≡ true → is_le (int_cmp z (pos 255)) ≡ true
+    → ttl_of z ≡ Ok (nat_abs z)
+ttl_inside z low high =
+    ttl_of-within z (le_tells (pos 1) z _ refl low) (le_tells z (pos 255) _ refl high)
 
 -- and one that isn't
-outside_by : (z : ℤ) (low high : Bool) → is_le (int_cmp (pos 1) z) ≡ low → is_le (int_cmp z (pos 255)) ≡ high
+outside_by : (z : ℤ) (low high : Bool) → is_le (int_cmp (pos 1) z) ≡ low
+    → is_le (int_cmp z (pos 255)) ≡ high
     → (low && high) ≡ false → ttl_of z ≡ Err BadTtl
 outside_by z true true at_low at_high e = absurd cc
 outside_by z true false at_low at_high e = ttl_of-high z (above_tells z (pos 255) _ refl at_high)
 outside_by z false high at_low at_high e = ttl_of-low z (above_tells (pos 1) z _ refl at_low)
 
-pub ttl_outside : (z : ℤ) → (is_le (int_cmp (pos 1) z) && is_le (int_cmp z (pos 255))) ≡ false → ttl_of z ≡ Err BadTtl
+pub ttl_outside : (z : ℤ) → (is_le (int_cmp (pos 1) z) && is_le (int_cmp z (pos 255))) ≡ false
+    → ttl_of z ≡ Err BadTtl
 ttl_outside z e = outside_by z (is_le (int_cmp (pos 1) z)) (is_le (int_cmp z (pos 255))) refl refl e

@@ -1,7 +1,7 @@
 -- What a text stands for keeps the rules of a topology.
-use Rattle.std.proofs.Common.{◌≡◌, ℕ, zero, suc, ◌<◌, IsTrue, Bool, true, false, cond, List, [], ◌∷◌, length, Some, Ok, refl, subst, ◌∙◌, sym, arith, option_map}
+use Rattle.std.proofs.Common.{◌≡◌, ℕ, zero, suc, ◌<◌, IsTrue, Bool, true, false, cond, List, []}
+use Rattle.std.proofs.Common.{◌∷◌, length, Some, Ok, refl, subst, arith, option_map}
 use Rattle.std.specs.Prelude.{◌==◌, slice_get, find}
-use Rattle.std.specs.Str.{bytes_eq}
 use Rattle.toml.specs.Data.{Data, Members}
 use Rattle.mc_topology.specs.declared.flow.Flow.{Flow}
 use Rattle.mc_topology.specs.Rows.{RouterRow, InterfaceRow, SourceRow}
@@ -13,22 +13,27 @@ use Rattle.mc_topology.specs.Interfaces.{interfaces_in}
 use Rattle.mc_topology.specs.Sources.{lan_of_source, sources_in}
 use Rattle.mc_topology.specs.Flows.{flows_in}
 use Rattle.mc_topology.specs.Reading.{version_in, sections_in}
-use Rattle.mc_topology.specs.Stands.{EachStands, IsLan, IsRouter, IsInterface, IsSourceRow, IsFlow, DocumentStands, TopologyStands}
-use Rattle.mc_topology.specs.Topology.{Sections, TopologyValue, IsInterfaceAmong, IsFlowAmong, IsTopology, topology_of}
+use Rattle.mc_topology.specs.Stands.{EachStands, IsLan, IsRouter, IsInterface, IsSourceRow, IsFlow}
+use Rattle.mc_topology.specs.Stands.{DocumentStands, TopologyStands}
+use Rattle.mc_topology.specs.Topology.{Sections, TopologyValue, IsInterfaceAmong, IsFlowAmong}
+use Rattle.mc_topology.specs.Topology.{IsTopology, topology_of}
 use Rattle.mc_topology.proofs.NameLemmas.{lan_within, router_within}
 use Rattle.mc_topology.proofs.Whole.{each_length, sections_take}
 
 -- ---- sources and flows
 
-source_first : (s : SourceRow) (ss : List SourceRow) (address lan most : ℕ) (b : Bool) → s.lan < most → (lan_of_source address ss ≡ Some lan → lan < most)
-    → option_map (λ (x : SourceRow). x.lan) (cond b (Some s) (find (λ x. x.address == address) ss)) ≡ Some lan → lan < most
+source_first : (s : SourceRow) (ss : List SourceRow) (address lan most : ℕ) (b : Bool)
+    → s.lan < most → (lan_of_source address ss ≡ Some lan → lan < most)
+    → option_map (λ (x : SourceRow). x.lan) (cond b (Some s) (find (λ x. x.address == address) ss))
+    ≡ Some lan → lan < most
 source_first s ss address lan most true within later e =
     let same : s.lan ≡ lan = cc in
     omega (arith, same, within)
 source_first s ss address lan most false within later e = later e
 
 -- the LAN of a source is one of the LANs
-sourced : (lans : List (List ℕ)) (ds : List Data) (ss : List SourceRow) (address lan : ℕ) → EachStands (IsSourceRow lans) ds ss → lan_of_source address ss ≡ Some lan → lan < length lans
+sourced : (lans : List (List ℕ)) (ds : List Data) (ss : List SourceRow) (address lan : ℕ)
+    → EachStands (IsSourceRow lans) ds ss → lan_of_source address ss ≡ Some lan → lan < length lans
 sourced lans [] [] address lan s e = absurd cc
 sourced lans [] (x ∷ ss) address lan s e = absurd s
 sourced lans (d ∷ ds) [] address lan s e = absurd s
@@ -37,7 +42,8 @@ sourced lans (d ∷ ds) (x ∷ ss) address lan s e =
     (lan_within lans x.lan s.0.lan_name s.0.lan) (λ h. sourced lans ds ss address lan s.1 h) e
 
 -- the row of a value
-row_at : {X : Type 0} (Stands : Data → X → Type 0) (ds : List Data) (xs : List X) (n : ℕ) (x : X) → EachStands Stands ds xs → slice_get xs n ≡ Some x → (d : Data) × Stands d x
+row_at : {X : Type 0} (Stands : Data → X → Type 0) (ds : List Data) (xs : List X) (n : ℕ) (x : X)
+    → EachStands Stands ds xs → slice_get xs n ≡ Some x → (d : Data) × Stands d x
 row_at Stands [] [] n x s e = absurd cc
 row_at Stands [] (y ∷ xs) n x s e = absurd s
 row_at Stands (d ∷ ds) [] n x s e = absurd s
@@ -47,13 +53,16 @@ row_at Stands (d ∷ ds) (y ∷ xs) zero x s e =
 row_at Stands (d ∷ ds) (y ∷ xs) (suc n) x s e = row_at Stands ds xs n x s.1 e
 
 -- each row with what the value that it stands for keeps
-each_kept : {X : Type 0} (Stands : Data → X → Type 0) (Keeps : X → Type 0) → ((d : Data) (x : X) → Stands d x → Keeps x)
-    → (ds : List Data) (xs : List X) (n : ℕ) (x : X) → EachStands Stands ds xs → slice_get xs n ≡ Some x → Keeps x
+each_kept : {X : Type 0} (Stands : Data → X → Type 0) (Keeps : X → Type 0)
+    → ((d : Data) (x : X) → Stands d x → Keeps x)
+    → (ds : List Data) (xs : List X) (n : ℕ) (x : X) → EachStands Stands ds xs
+    → slice_get xs n ≡ Some x → Keeps x
 each_kept Stands Keeps keeps ds xs n x s e =
     let row = row_at Stands ds xs n x s e in
     keeps row.0 x row.1
 
-interface_kept : (lans : List (List ℕ)) (routers : List RouterRow) (t : TopologyValue) → t.lans ≡ lans → t.routers ≡ routers
+interface_kept : (lans : List (List ℕ)) (routers : List RouterRow) (t : TopologyValue)
+    → t.lans ≡ lans → t.routers ≡ routers
     → (d : Data) (i : InterfaceRow) → IsInterface lans routers d i → IsInterfaceAmong t i
 interface_kept lans routers t same_lans same_routers d i is =
     record {
@@ -62,7 +71,9 @@ interface_kept lans routers t same_lans same_routers d i is =
       lan = rw same_lans (lan_within lans i.lan is.lan_name is.lan);
     }
 
-flow_kept : (lans : List (List ℕ)) (sources : List SourceRow) (f : Flow) (d : Data) → IsFlow sources d f → ((address lan : ℕ) → lan_of_source address sources ≡ Some lan → lan < length lans) → IsFlowAmong lans f
+flow_kept : (lans : List (List ℕ)) (sources : List SourceRow) (f : Flow) (d : Data)
+    → IsFlow sources d f → ((address lan : ℕ) → lan_of_source address sources ≡ Some lan
+    → lan < length lans) → IsFlowAmong lans f
 flow_kept lans sources f d is within =
     record {
       lan = within f.source f.lan is.lan;
@@ -87,13 +98,21 @@ document_kept ms s is =
       router_names = is.routers.distinct;
       interfaces_differ = is.interfaces.distinct;
       flows_differ = is.flows.distinct;
-      lans_named = λ n name. each_kept IsLan (λ (x : List ℕ). IsTrue (is_name x)) (λ d x lan. lan.fits) (rows_in is.lans.items) s.lans n name is.lans.each;
-      routers_named = λ n r. each_kept IsRouter (λ (x : RouterRow). IsTrue (is_name x.name)) (λ d x router. router.fits) is.routers.rows s.routers n r is.routers.each;
-      interfaces_among = λ n i. each_kept (IsInterface s.lans s.routers) (IsInterfaceAmong (topology_of s)) (interface_kept s.lans s.routers (topology_of s) refl refl) is.interfaces.rows s.interfaces n i is.interfaces.each;
+      lans_named = λ n name. each_kept IsLan (λ (x : List ℕ). IsTrue (is_name x))
+          (λ d x lan. lan.fits) (rows_in is.lans.items) s.lans n name is.lans.each;
+      routers_named = λ n r. each_kept IsRouter (λ (x : RouterRow). IsTrue (is_name x.name))
+          (λ d x router. router.fits) is.routers.rows s.routers n r is.routers.each;
+      interfaces_among = λ n i. each_kept (IsInterface s.lans s.routers)
+          (IsInterfaceAmong (topology_of s))
+          (interface_kept s.lans s.routers (topology_of s) refl refl) is.interfaces.rows
+          s.interfaces n
+          i is.interfaces.each;
       flows_among =
           λ n f e.
           let row = row_at (IsFlow s.sources) is.flows.rows s.flows n f is.flows.each e in
-          flow_kept s.lans s.sources f row.0 row.1 (λ address lan at. sourced s.lans is.sources.rows s.sources address lan is.sources.each at);
+          flow_kept s.lans s.sources f row.0 row.1
+          (λ address lan at. sourced s.lans is.sources.rows s.sources address lan is.sources.each
+          at);
     }
 
 -- a text that stands for a topology
@@ -101,7 +120,11 @@ pub text_kept : (text : List ℕ) (t : TopologyValue) → TopologyStands text t 
 text_kept text t is = subst IsTopology is.makes (document_kept is.document is.sections is.stands)
 
 -- sections that are read one after the other
-pub sections_kept : (ms : Members) (s : Sections) → version_in ms ≡ Ok tt → lans_in ms ≡ Ok s.lans → routers_in ms ≡ Ok s.routers → interfaces_in s.lans s.routers ms ≡ Ok s.interfaces → sources_in s.lans ms ≡ Ok s.sources
+pub sections_kept : (ms : Members) (s : Sections) → version_in ms ≡ Ok tt → lans_in ms ≡ Ok s.lans
+    → routers_in ms ≡ Ok s.routers → interfaces_in s.lans s.routers ms ≡ Ok s.interfaces
+    → sources_in s.lans ms ≡ Ok s.sources
     → flows_in s.sources ms ≡ Ok s.flows → IsTopology (topology_of s)
 unfolding sections_in
-sections_kept ms s version lans routers interfaces sources flows = document_kept ms s (sections_take ms s (rw (version, lans, routers, interfaces, sources, flows) refl))
+sections_kept ms s version lans routers interfaces sources flows =
+    document_kept ms s (sections_take ms s
+    (rw (version, lans, routers, interfaces, sources, flows) refl))

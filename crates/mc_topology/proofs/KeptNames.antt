@@ -1,5 +1,5 @@
 -- A row with a new name or address goes last, section by section.
-use Rattle.std.proofs.Common.{◌≡◌, ℕ, false, List, [], ◌∷◌, ◌++◌, map, sym, subst, ◌∙◌}
+use Rattle.std.proofs.Common.{◌≡◌, ℕ, false, List, [], ◌∷◌, ◌++◌, map}
 use Rattle.std.specs.Prelude.{◌==◌, nat_eq, String, string_bytes}
 use Rattle.std.specs.Str.{bytes_eq}
 use Rattle.std.specs.String.{string_eq}
@@ -28,7 +28,8 @@ source_agrees address e = same_number address e.0
 
 -- ---- rows that are added
 
-pub lan_pushed : {A : Type 0} (ks : List (String A)) (k : String A) (old : List (List ℕ)) (name : List ℕ)
+pub lan_pushed : {A : Type 0} (ks : List (String A)) (k : String A) (old : List (List ℕ))
+    (name : List ℕ)
     → map string_bytes ks ≡ old → string_bytes k ≡ name → has_lan name old ≡ false
     → map string_bytes (insert_key string_eq ks k) ≡ old ++ name ∷ []
 lan_pushed ks k old name kept is new =

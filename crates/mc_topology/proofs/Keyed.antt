@@ -1,11 +1,12 @@
--- Rows that are kept by their keys: a look-up by key finds what a search of the rows finds, and a row with a
--- new key goes last.
-use Rattle.std.proofs.Common.{◌≡◌, ℕ, Bool, true, false, ◌||◌, ◌&&◌, cond, List, [], ◌∷◌, ◌++◌, map, Option, Some, None, option_map, is_some, refl, sym, ap, subst, ◌∙◌}
-use Rattle.std.specs.Prelude.{◌==◌, find, position, String, string_bytes}
+-- Rows that are kept by their keys: a look-up by key finds what a search of the rows finds, and a
+-- row with a new key goes last.
+use Rattle.std.proofs.Common.{◌≡◌, ℕ, Bool, true, false, List, [], ◌∷◌, ◌++◌, map}
+use Rattle.std.proofs.Common.{Option, Some, None, option_map, is_some, refl, sym, ap, ◌∙◌}
+use Rattle.std.specs.Prelude.{◌==◌, find, position}
 use Rattle.std.specs.Bool.{Decides}
 use Rattle.std.specs.Cmp.{unsigned_Decides}
 use Rattle.std.specs.List.{list_any, position_or_len}
-use Rattle.std.specs.Map.{lookup, keys_of, values_of}
+use Rattle.std.specs.Map.{lookup, keys_of}
 use Rattle.std.specs.Str.{bytes_eq}
 use Rattle.std.proofs.lemmas.Bool.Decides.{same_from_decides}
 use Rattle.std.proofs.lemmas.List.{map-append, length-map}
@@ -24,15 +25,18 @@ same_tests r s decides_p decides_q to from =
 
 pub same_text : (a b : List ℕ) → bytes_eq a b ≡ bytes_eq b a
 same_text a b =
-    same_tests (bytes_eq a b) (bytes_eq b a) (bytes_eq-Decides a b) (bytes_eq-Decides b a) (λ e. sym e) (λ e. sym e)
+    same_tests (bytes_eq a b) (bytes_eq b a) (bytes_eq-Decides a b) (bytes_eq-Decides b a)
+    (λ e. sym e) (λ e. sym e)
 
 pub same_number : (a b : ℕ) → (a == b) ≡ (b == a)
 same_number a b =
-    same_tests (a == b) (b == a) (unsigned_Decides a b) (unsigned_Decides b a) (λ e. sym e) (λ e. sym e)
+    same_tests (a == b) (b == a) (unsigned_Decides a b) (unsigned_Decides b a) (λ e. sym e)
+    (λ e. sym e)
 
 -- ---- keys alone
 
-module _ {K R : Type 0} (row : K → R) (test : K → Bool) (same : R → Bool) (agree : (k : K) → test k ≡ same (row k)) where
+module _ {K R : Type 0} (row : K → R) (test : K → Bool) (same : R → Bool)
+    (agree : (k : K) → test k ≡ same (row k)) where
   -- a key passes exactly if a row does
   pub any_of_rows : (ks : List K) → list_any test ks ≡ list_any same (map row ks)
   any_of_rows [] = refl
@@ -48,7 +52,8 @@ module _ {K R : Type 0} (row : K → R) (test : K → Bool) (same : R → Bool) 
   place_of_row ks = rw (before_row ks, length-map ks row) refl
 
 -- a new key goes last
-pub push_key : {K R : Type 0} (row : K → R) (eq : K → K → Bool) (same : R → Bool) (ks : List K) (k : K) → ((j : K) → eq k j ≡ same (row j))
+pub push_key : {K R : Type 0} (row : K → R) (eq : K → K → Bool) (same : R → Bool) (ks : List K)
+    (k : K) → ((j : K) → eq k j ≡ same (row j))
     → list_any same (map row ks) ≡ false → map row (insert_key eq ks k) ≡ map row ks ++ row k ∷ []
 push_key row eq same ks k agree new =
     let none = any_of_rows row (eq k) same agree ks ∙ new in
@@ -56,19 +61,24 @@ push_key row eq same ks k agree new =
 
 -- ---- keys with what is kept of each
 
-module _ {K V R : Type 0} (row : K × V → R) (test : K → Bool) (same : R → Bool) (agree : (e : K × V) → test e.0 ≡ same (row e)) where
+module _ {K V R : Type 0} (row : K × V → R) (test : K → Bool) (same : R → Bool)
+    (agree : (e : K × V) → test e.0 ≡ same (row e)) where
   -- the first entry whose key passes is that of the first row that does
-  value_first : (value : R → V) (e : K × V) (es : List (K × V)) (b : Bool) → same (row e) ≡ b → value (row e) ≡ e.1 → lookup test es ≡ option_map value (find same (map row es))
+  value_first : (value : R → V) (e : K × V) (es : List (K × V)) (b : Bool) → same (row e) ≡ b
+      → value (row e) ≡ e.1 → lookup test es ≡ option_map value (find same (map row es))
       → lookup test (e ∷ es) ≡ option_map value (find same (map row (e ∷ es)))
   value_first value e es true is of later = rw (agree e, is, of) refl
   value_first value e es false is of later = rw (agree e, is) later
 
-  pub value_of_row : (value : R → V) → ((e : K × V) → value (row e) ≡ e.1) → (es : List (K × V)) → lookup test es ≡ option_map value (find same (map row es))
+  pub value_of_row : (value : R → V) → ((e : K × V) → value (row e) ≡ e.1) → (es : List (K × V))
+      → lookup test es ≡ option_map value (find same (map row es))
   value_of_row value of [] = refl
-  value_of_row value of (e ∷ es) = value_first value e es (same (row e)) refl (of e) (value_of_row value of es)
+  value_of_row value of (e ∷ es) =
+      value_first value e es (same (row e)) refl (of e) (value_of_row value of es)
 
   -- a key passes exactly if a row does
-  any_first : (e : K × V) (es : List (K × V)) (b : Bool) → same (row e) ≡ b → is_some (lookup test es) ≡ list_any same (map row es)
+  any_first : (e : K × V) (es : List (K × V)) (b : Bool) → same (row e) ≡ b
+      → is_some (lookup test es) ≡ list_any same (map row es)
       → is_some (lookup test (e ∷ es)) ≡ list_any same (map row (e ∷ es))
   any_first e es true is later = rw (agree e, is) refl
   any_first e es false is later = rw (agree e, is) later
@@ -78,7 +88,8 @@ module _ {K V R : Type 0} (row : K × V → R) (test : K → Bool) (same : R →
   any_of_entries (e ∷ es) = any_first e es (same (row e)) refl (any_of_entries es)
 
   -- as many keys fail before the first that passes as rows do
-  before_entry : (es : List (K × V)) → position_or_len test (keys_of es) ≡ position_or_len same (map row es)
+  before_entry : (es : List (K × V))
+      → position_or_len test (keys_of es) ≡ position_or_len same (map row es)
   before_entry [] = refl
   before_entry (e ∷ es) = rw (agree e, before_entry es) refl
 
@@ -91,8 +102,11 @@ none_from None e = refl
 none_from (Some v) e = absurd cc
 
 -- an entry with a new key goes last
-pub push_entry : {K V R S : Type 0} (row : K × V → R) (eq : K → K → Bool) (same : R → Bool) (m : IndexMap K V S) (k : K) (v : V) → ((e : K × V) → eq k e.0 ≡ same (row e))
-    → list_any same (map row m.entries) ≡ false → map row (insert_entry eq m.entries k v) ≡ map row m.entries ++ row (k, v) ∷ []
+pub push_entry : {K V R S : Type 0} (row : K × V → R) (eq : K → K → Bool) (same : R → Bool)
+    (m : IndexMap K V S) (k : K) (v : V) → ((e : K × V) → eq k e.0 ≡ same (row e))
+    → list_any same (map row m.entries) ≡ false
+    → map row (insert_entry eq m.entries k v) ≡ map row m.entries ++ row (k, v) ∷ []
 push_entry row eq same m k v agree new =
-    let none = none_from (lookup (eq k) m.entries) (any_of_entries row (eq k) same agree m.entries ∙ new) in
+    let none = none_from (lookup (eq k) m.entries)
+    (any_of_entries row (eq k) same agree m.entries ∙ new) in
     ap (map row) (insert_entry-new eq m k v none) ∙ map-append row m.entries ((k, v) ∷ [])

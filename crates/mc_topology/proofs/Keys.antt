@@ -20,14 +20,16 @@ same_lan-Decides y x = bytes_eq-Decides y x
 abbrev pub same_router : RouterRow → RouterRow → Bool
 same_router y x = bytes_eq y.name x.name
 
-pub same_router-Decides : (y x : RouterRow) → Decides (same_router y x) (router_key y ≡ router_key x)
+pub same_router-Decides : (y x : RouterRow)
+    → Decides (same_router y x) (router_key y ≡ router_key x)
 same_router-Decides y x = bytes_eq-Decides y.name x.name
 
 abbrev pub same_interface : InterfaceRow → InterfaceRow → Bool
 same_interface y x = is_at x.router x.device y
 
 -- an interface is that of a router and a device exactly if it has their key
-pub is_at-Decides : (router : ℕ) (device : List ℕ) (i : InterfaceRow) → Decides (is_at router device i) (interface_key i ≡ (router, device))
+pub is_at-Decides : (router : ℕ) (device : List ℕ) (i : InterfaceRow)
+    → Decides (is_at router device i) (interface_key i ≡ (router, device))
 is_at-Decides router device i = (
   λ e.
       let (same_router, same_device) = and_parts _ _ e in
@@ -40,13 +42,15 @@ is_at-Decides router device i = (
       rw ((unsigned_Decides i.router router).1 one) ((bytes_eq-Decides i.device device).1 other),
 )
 
-pub same_interface-Decides : (y x : InterfaceRow) → Decides (same_interface y x) (interface_key y ≡ interface_key x)
+pub same_interface-Decides : (y x : InterfaceRow)
+    → Decides (same_interface y x) (interface_key y ≡ interface_key x)
 same_interface-Decides y x = is_at-Decides x.router x.device y
 
 abbrev pub same_source : SourceRow → SourceRow → Bool
 same_source y x = y.address == x.address
 
-pub same_source-Decides : (y x : SourceRow) → Decides (same_source y x) (source_key y ≡ source_key x)
+pub same_source-Decides : (y x : SourceRow)
+    → Decides (same_source y x) (source_key y ≡ source_key x)
 same_source-Decides y x = unsigned_Decides y.address x.address
 
 abbrev pub same_flow : Flow → Flow → Bool

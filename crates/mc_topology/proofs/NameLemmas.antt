@@ -1,5 +1,7 @@
 -- Names and numbers undo each other.
-use Rattle.std.proofs.Common.{◌≡◌, ℕ, ◌<◌, ◌≤◌, nat_le, not, codes, Bool, true, false, List, [], ◌∷◌, length, get_or, Option, Some, None, option_map, refl, ap, subst, ◌∙◌, arith}
+use Rattle.std.proofs.Common.{◌≡◌, ℕ, ◌<◌, ◌≤◌, nat_le, not, codes, Bool, true, false, List, []}
+use Rattle.std.proofs.Common.{◌∷◌, length, get_or, Option, Some, None, option_map, refl, ap, subst}
+use Rattle.std.proofs.Common.{◌∙◌, arith}
 use Rattle.std.specs.Prelude.{position, slice_get}
 use Rattle.std.specs.List.{position_or_len}
 use Rattle.std.specs.Str.{bytes_eq}
@@ -16,59 +18,80 @@ use Rattle.mc_topology.specs.Topology.{AreDistinctBy, lan_key, router_key}
 
 module _ {X : Type 0} where
   -- the place of an item that no earlier one is taken for
-  place_is : (p : X → Bool) (xs : List X) (k : ℕ) (x : X) → slice_get xs k ≡ Some x → p x ≡ true → ((j : ℕ) → j < k → p (get_or xs j x) ≡ false) → position p xs ≡ Some k
+  place_is : (p : X → Bool) (xs : List X) (k : ℕ) (x : X) → slice_get xs k ≡ Some x → p x ≡ true
+      → ((j : ℕ) → j < k → p (get_or xs j x) ≡ false) → position p xs ≡ Some k
   place_is p xs k x e passes before =
       let within = slice_get_within xs k x e in
-      let is : position_or_len p xs ≡ k = position_or_len_is p xs k x (omega (arith, within)) before (λ _. ap p (get_or_from_slice_get xs k x x e) ∙ passes) in
+      let is : position_or_len p xs ≡ k =
+      position_or_len_is p xs k x (omega (arith, within)) before
+      (λ _. ap p (get_or_from_slice_get xs k x x e) ∙ passes) in
       rw (is, lt-ltb k (length xs) within) refl
 
   -- the place of an item by its name, where no two have one
-  place_of_name : (name_of : X → List ℕ) (xs : List X) (k : ℕ) (x : X) → AreDistinctBy name_of xs → slice_get xs k ≡ Some x → position (λ y. bytes_eq (name_of y) (name_of x)) xs ≡ Some k
+  place_of_name : (name_of : X → List ℕ) (xs : List X) (k : ℕ) (x : X) → AreDistinctBy name_of xs
+      → slice_get xs k ≡ Some x → position (λ y. bytes_eq (name_of y) (name_of x)) xs ≡ Some k
   place_of_name name_of xs k x distinct e =
-      place_is (λ y. bytes_eq (name_of y) (name_of x)) xs k x e ((bytes_eq-Decides (name_of x) (name_of x)).1 refl)
+      place_is (λ y. bytes_eq (name_of y) (name_of x)) xs k x e
+      ((bytes_eq-Decides (name_of x) (name_of x)).1 refl)
       (λ j lt.
       false_from_ne_true _ (λ same.
       let within = slice_get_within xs k x e in
       let at = slice_get-get_or xs j x (omega (arith, lt, within)) in
-      let one : j ≡ k = distinct j k (get_or xs j x) x at e ((bytes_eq-Decides (name_of (get_or xs j x)) (name_of x)).0 same) in
+      let one : j ≡ k = distinct j k (get_or xs j x) x at e
+      ((bytes_eq-Decides (name_of (get_or xs j x)) (name_of x)).0 same) in
       omega (arith, lt, one)))
 
 -- ---- LANs
 
-pub number_of_lan : (lans : List (List ℕ)) (lan : ℕ) (name : List ℕ) → AreDistinctBy lan_key lans → slice_get lans lan ≡ Some name → index_of name lans ≡ Some lan
+pub number_of_lan : (lans : List (List ℕ)) (lan : ℕ) (name : List ℕ) → AreDistinctBy lan_key lans
+    → slice_get lans lan ≡ Some name → index_of name lans ≡ Some lan
 number_of_lan lans lan name distinct e = place_of_name lan_key lans lan name distinct e
 
-pub name_of_lan : (lans : List (List ℕ)) (lan : ℕ) (name : List ℕ) → index_of name lans ≡ Some lan → slice_get lans lan ≡ Some name
+pub name_of_lan : (lans : List (List ℕ)) (lan : ℕ) (name : List ℕ) → index_of name lans ≡ Some lan
+    → slice_get lans lan ≡ Some name
 name_of_lan lans lan name e =
     let at = position-Some (λ y. bytes_eq y name) lans lan name e in
-    slice_get-get_or lans lan name at.0 ∙ ap Some ((bytes_eq-Decides (get_or lans lan name) name).0 at.1)
+    slice_get-get_or lans lan name at.0
+    ∙ ap Some ((bytes_eq-Decides (get_or lans lan name) name).0 at.1)
 
 -- a name's number is below the number of LANs
-pub lan_within : (lans : List (List ℕ)) (lan : ℕ) (name : List ℕ) → index_of name lans ≡ Some lan → lan < length lans
+pub lan_within : (lans : List (List ℕ)) (lan : ℕ) (name : List ℕ) → index_of name lans ≡ Some lan
+    → lan < length lans
 lan_within lans lan name e = (position-Some (λ y. bytes_eq y name) lans lan name e).0
 
 -- ---- routers
 
 -- a name's number is below the number of routers
-pub router_within : (routers : List RouterRow) (router : ℕ) (name : List ℕ) → router_no_of name routers ≡ Some router → router < length routers
+pub router_within : (routers : List RouterRow) (router : ℕ) (name : List ℕ)
+    → router_no_of name routers ≡ Some router → router < length routers
 router_within [] router name e = absurd cc
-router_within (r ∷ routers) router name e = (position-Some (λ y. bytes_eq y.name name) (r ∷ routers) router r e).0
+router_within (r ∷ routers) router name e =
+    (position-Some (λ y. bytes_eq y.name name) (r ∷ routers) router r e).0
 
-named : (o : Option RouterRow) (name : List ℕ) → option_map (λ (r : RouterRow). r.name) o ≡ Some name → (r : RouterRow) × (o ≡ Some r) × (r.name ≡ name)
+named : (o : Option RouterRow) (name : List ℕ)
+    → option_map (λ (r : RouterRow). r.name) o ≡ Some name → (r : RouterRow) × (o ≡ Some r)
+    × (r.name ≡ name)
 named None name e = absurd cc
 named (Some r) name e = (r, refl, cc)
 
-pub number_of_router : (routers : List RouterRow) (router : ℕ) (name : List ℕ) → AreDistinctBy router_key routers → option_map (λ (r : RouterRow). r.name) (slice_get routers router) ≡ Some name → router_no_of name routers ≡ Some router
+pub number_of_router : (routers : List RouterRow) (router : ℕ) (name : List ℕ)
+    → AreDistinctBy router_key routers
+    → option_map (λ (r : RouterRow). r.name) (slice_get routers router) ≡ Some name
+    → router_no_of name routers ≡ Some router
 number_of_router routers router name distinct e =
     let (r, found, called) = named (slice_get routers router) name e in
-    subst (λ (n : List ℕ). router_no_of n routers ≡ Some router) called (place_of_name router_key routers router r distinct found)
+    subst (λ (n : List ℕ). router_no_of n routers ≡ Some router) called
+    (place_of_name router_key routers router r distinct found)
 
-pub name_of_router : (routers : List RouterRow) (router : ℕ) (name : List ℕ) → router_no_of name routers ≡ Some router → option_map (λ (r : RouterRow). r.name) (slice_get routers router) ≡ Some name
+pub name_of_router : (routers : List RouterRow) (router : ℕ) (name : List ℕ)
+    → router_no_of name routers ≡ Some router
+    → option_map (λ (r : RouterRow). r.name) (slice_get routers router) ≡ Some name
 name_of_router [] router name e = absurd cc
 name_of_router (r ∷ routers) router name e =
     let at = position-Some (λ y. bytes_eq y.name name) (r ∷ routers) router r e in
     let found = slice_get-get_or (r ∷ routers) router r at.0 in
-    ap (option_map (λ (x : RouterRow). x.name)) found ∙ ap Some ((bytes_eq-Decides (get_or (r ∷ routers) router r).name name).0 at.1)
+    ap (option_map (λ (x : RouterRow). x.name)) found
+    ∙ ap Some ((bytes_eq-Decides (get_or (r ∷ routers) router r).name name).0 at.1)
 
 -- ---- devices
 

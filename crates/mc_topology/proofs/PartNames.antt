@@ -1,5 +1,6 @@
 -- What is named for a LAN or a router can be the name of a part of a bundle.
-use Rattle.std.proofs.Common.{◌≡◌, ℕ, ◌<◌, ◌≤◌, Bool, true, false, not, IsTrue, List, [], ◌∷◌, ◌++◌, length, codes, refl, sym, ap, ◌∙◌, arith, length-append}
+use Rattle.std.proofs.Common.{◌≡◌, ℕ, ◌≤◌, true, not, List, [], ◌∷◌, ◌++◌}
+use Rattle.std.proofs.Common.{length, refl, arith, length-append}
 use Rattle.std.specs.Prelude.{◌==◌}
 use Rattle.std.specs.List.{list_all}
 use Rattle.std.proofs.lemmas.Bool.{and_parts, leb-true}
@@ -20,7 +21,8 @@ bytes_fit (b ∷ bs) e =
     rw (byte_fits b both.0, bytes_fit bs both.1) refl
 
 -- a name after a front of at most 32 such bytes
-pub part_name : (front name : List ℕ) → list_all is_part_byte front ≡ true → length front ≤ 32 → is_name name ≡ true → IsPartName (front ++ name)
+pub part_name : (front name : List ℕ) → list_all is_part_byte front ≡ true → length front ≤ 32
+    → is_name name ≡ true → IsPartName (front ++ name)
 unfolding is_name
 part_name front name fits short is =
     let all = and_parts _ (list_all is_name_byte name) is in
@@ -30,5 +32,6 @@ part_name front name fits short is =
     record {
       some = simp length-append (omega arith);
       short = simp length-append (omega arith);
-      bytes = AllPass-from_list_all is_part_byte (front ++ name) (rw (list_all-append, fits, bytes_fit name all.1) refl);
+      bytes = AllPass-from_list_all is_part_byte (front ++ name)
+          (rw (list_all-append, fits, bytes_fit name all.1) refl);
     }

@@ -1,5 +1,6 @@
 -- What `read` promises, from what it gives.
-use Rattle.std.proofs.Common.{◌≡◌, ◌≢◌, ℕ, ◌≤◌, Bool, true, false, List, length, None, Result, Ok, Err, le-leb, refl, sym, ◌∙◌}
+use Rattle.std.proofs.Common.{◌≡◌, ◌≢◌, ℕ, ◌≤◌, Bool, true, false, List, length, None, Result, Ok}
+use Rattle.std.proofs.Common.{Err, le-leb, refl, sym, ◌∙◌}
 use Rattle.std.specs.Prelude.{IfOk, IsUtf8}
 use Rattle.std.specs.Str.{is_utf8}
 use Rattle.std.proofs.lemmas.Str.{IsUtf8-from_is_utf8}
@@ -14,27 +15,34 @@ use Rattle.mc_topology.specs.Interfaces.{interfaces_in}
 use Rattle.mc_topology.specs.Sources.{sources_in}
 use Rattle.mc_topology.specs.Flows.{flows_in}
 use Rattle.mc_topology.specs.Answer.{out_of_memory}
-use Rattle.mc_topology.specs.Reading.{utf8_text, document_of, version_in, sections_in, topology_in, reading_of}
+use Rattle.mc_topology.specs.Reading.{utf8_text, document_of, version_in, sections_in, topology_in}
+use Rattle.mc_topology.specs.Reading.{reading_of}
 use Rattle.mc_topology.specs.Stands.{TopologyStands}
 use Rattle.mc_topology.specs.Topology.{TopologyValue}
 use Rattle.mc_topology.proofs.Steps.{ok_is}
 use Rattle.mc_topology.proofs.Whole.{reading_takes, reading_again}
 
 -- what was read stands there
-found_at : (text : List ℕ) (r : Result TopologyValue TopologyFault) → r ≡ reading_of text → IfOk r (TopologyStands text)
+found_at : (text : List ℕ) (r : Result TopologyValue TopologyFault) → r ≡ reading_of text
+    → IfOk r (TopologyStands text)
 found_at text (Ok t) gives = reading_takes text t (sym gives)
 found_at text (Err fault) gives = tt
 
-pub read_found : (text : List ℕ) (r : Result TopologyValue TopologyFault) → (r ≢ Err out_of_memory → r ≡ reading_of text) → IfOk r (TopologyStands text)
+pub read_found : (text : List ℕ) (r : Result TopologyValue TopologyFault)
+    → (r ≢ Err out_of_memory → r ≡ reading_of text) → IfOk r (TopologyStands text)
 read_found text (Ok t) gives = found_at text (Ok t) (gives (λ e. absurd cc))
 read_found text (Err fault) gives = tt
 
-pub read_only : (text : List ℕ) (r : Result TopologyValue TopologyFault) → (r ≢ Err out_of_memory → r ≡ reading_of text) → (t : TopologyValue) → TopologyStands text t → r ≢ Err out_of_memory → r ≡ Ok t
+pub read_only : (text : List ℕ) (r : Result TopologyValue TopologyFault)
+    → (r ≢ Err out_of_memory → r ≡ reading_of text) → (t : TopologyValue) → TopologyStands text t
+    → r ≢ Err out_of_memory → r ≡ Ok t
 read_only text r gives t is other = gives other ∙ reading_again text t is
 
 -- a text stands for one topology at most
-pub one_topology : (text : List ℕ) (t u : TopologyValue) → TopologyStands text t → TopologyStands text u → t ≡ u
-one_topology text t u is_t is_u = ok_is {E = TopologyFault} t u (sym (reading_again text t is_t) ∙ reading_again text u is_u)
+pub one_topology : (text : List ℕ) (t u : TopologyValue) → TopologyStands text t
+    → TopologyStands text u → t ≡ u
+one_topology text t u is_t is_u =
+    ok_is {E = TopologyFault} t u (sym (reading_again text t is_t) ∙ reading_again text u is_u)
 
 -- ---- refusals
 
@@ -52,18 +60,26 @@ pub document_refused : (text : List ℕ) → length text ≤ 16777216
 document_refused text few none = refused_by text (is_utf8 text) refl few none
 
 -- the first fault is among the sources
-pub refused_at_sources : (ms : Members) (lans : List (List ℕ)) (routers : List RouterRow) (interfaces : List InterfaceRow)
-    (fault : TopologyFault) → version_in ms ≡ Ok tt → lans_in ms ≡ Ok lans → routers_in ms ≡ Ok routers
-    → interfaces_in lans routers ms ≡ Ok interfaces → sources_in lans ms ≡ Err fault → topology_in ms ≡ Err fault
+pub refused_at_sources : (ms : Members) (lans : List (List ℕ)) (routers : List RouterRow)
+    (interfaces : List InterfaceRow)
+    (fault : TopologyFault) → version_in ms ≡ Ok tt → lans_in ms ≡ Ok lans
+    → routers_in ms ≡ Ok routers
+    → interfaces_in lans routers ms ≡ Ok interfaces → sources_in lans ms ≡ Err fault
+    → topology_in ms ≡ Err fault
 unfolding topology_in sections_in
-refused_at_sources ms lans routers interfaces fault version at_lans at_routers at_interfaces at_sources =
+refused_at_sources ms lans routers interfaces fault version at_lans at_routers at_interfaces
+    at_sources =
     rw (version, at_lans, at_routers, at_interfaces, at_sources) refl
 
 -- the first fault is among the flows
-pub refused_at_flows : (ms : Members) (lans : List (List ℕ)) (routers : List RouterRow) (interfaces : List InterfaceRow)
-    (sources : List SourceRow) (fault : TopologyFault) → version_in ms ≡ Ok tt → lans_in ms ≡ Ok lans
-    → routers_in ms ≡ Ok routers → interfaces_in lans routers ms ≡ Ok interfaces → sources_in lans ms ≡ Ok sources
+pub refused_at_flows : (ms : Members) (lans : List (List ℕ)) (routers : List RouterRow)
+    (interfaces : List InterfaceRow)
+    (sources : List SourceRow) (fault : TopologyFault) → version_in ms ≡ Ok tt
+    → lans_in ms ≡ Ok lans
+    → routers_in ms ≡ Ok routers → interfaces_in lans routers ms ≡ Ok interfaces
+    → sources_in lans ms ≡ Ok sources
     → flows_in sources ms ≡ Err fault → topology_in ms ≡ Err fault
 unfolding topology_in sections_in
-refused_at_flows ms lans routers interfaces sources fault version at_lans at_routers at_interfaces at_sources at_flows =
+refused_at_flows ms lans routers interfaces sources fault version at_lans at_routers at_interfaces
+    at_sources at_flows =
     rw (version, at_lans, at_routers, at_interfaces, at_sources, at_flows) refl

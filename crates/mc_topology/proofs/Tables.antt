@@ -1,5 +1,6 @@
 -- What stands in a table and in a list that TOML's reader gave.
-use Rattle.std.proofs.Common.{◌≡◌, ℕ, List, [], ◌∷◌, map, refl, ap, String, Global, string_bytes, Bool, ◌&&◌, ◌||◌, Bor}
+use Rattle.std.proofs.Common.{◌≡◌, ℕ, List, [], ◌∷◌, map, refl, ap, String, Global, string_bytes}
+use Rattle.std.proofs.Common.{Bool, ◌&&◌, ◌||◌, Bor}
 use Rattle.std.specs.List.{list_all, list_any}
 use Rattle.std.specs.Map.{keys_of}
 use Rattle.std.specs.Str.{bytes_eq}
@@ -13,7 +14,8 @@ rows_in-view [] = refl
 rows_in-view (v ∷ values) = ap (λ (ds : List _). view v ∷ ds) (rows_in-view values)
 
 -- a test of each text that references lead to
-pub list_any-now : (p : List ℕ → Bool) (texts : List (Bor (List ℕ))) → list_any (λ k. p k.now) texts ≡ list_any p (map (λ k. k.now) texts)
+pub list_any-now : (p : List ℕ → Bool) (texts : List (Bor (List ℕ)))
+    → list_any (λ k. p k.now) texts ≡ list_any p (map (λ k. k.now) texts)
 list_any-now p [] = refl
 list_any-now p (t ∷ texts) = ap (λ (b : Bool). p t.now || b) (list_any-now p texts)
 
@@ -21,7 +23,11 @@ abbrev known_in : List (List ℕ) → List ℕ → Bool
 known_in known key = list_any (λ k. bytes_eq k key) known
 
 -- a test of each key of a table, with the known keys behind references
-pub has_only-now : (known : List (Bor (List ℕ))) (es : List (String Global × Value)) → list_all (λ key. list_any (λ k. bytes_eq k.now (string_bytes key)) known) (keys_of es) ≡ has_only (map (λ k. k.now) known) (members_view es)
+pub has_only-now : (known : List (Bor (List ℕ))) (es : List (String Global × Value))
+    → list_all (λ key. list_any (λ k. bytes_eq k.now (string_bytes key)) known) (keys_of es)
+    ≡ has_only (map (λ k. k.now) known) (members_view es)
 has_only-now known [] = refl
 has_only-now known (e ∷ es) =
-    rw (list_any-now (λ k. bytes_eq k (string_bytes e.0)) known) (ap (λ (b : Bool). known_in (map (λ k. k.now) known) (string_bytes e.0) && b) (has_only-now known es))
+    rw (list_any-now (λ k. bytes_eq k (string_bytes e.0)) known)
+    (ap (λ (b : Bool). known_in (map (λ k. k.now) known) (string_bytes e.0) && b)
+    (has_only-now known es))

@@ -5,5 +5,6 @@ pub returns : goal.returns
 returns c =
     λ t router lan device is. (
       λ e. row_found t.interfaces router device lan e,
-      λ found. row_is_found t.interfaces found.0 (row_of router device lan) is.interfaces_differ found.1,
+      λ found. row_is_found t.interfaces found.0
+          (row_of router device lan) is.interfaces_differ found.1,
     )

@@ -8,9 +8,11 @@ pub returns-in-Ok-clause-found : goal.returns-in-Ok-clause-found
 unfolding document_of utf8_text
 returns-in-Ok-clause-found c =
     let (utf8, reads) = c.in-Ok.ensures.ok in
-    rw (le-leb _ _ c.if-text-gt-MAX_TEXT.false, is_utf8-from_IsUtf8 c.args.text.now utf8, reads) refl
+    rw (le-leb _ _ c.if-text-gt-MAX_TEXT.false, is_utf8-from_IsUtf8 c.args.text.now utf8, reads)
+    refl
 
 pub returns-in-Err-2-clause-fault : goal.returns-in-Err-2-clause-fault
 returns-in-Err-2-clause-fault c =
     let none = c.in-Err.ensures.refused (λ m. let memory = c.is_memory.ensures.1 m in absurd cc) in
-    rw (document_refused c.args.text.now c.if-text-gt-MAX_TEXT.false none, c.at-in-Err-2.ensures) (λ _. refl)
+    rw (document_refused c.args.text.now c.if-text-gt-MAX_TEXT.false none, c.at-in-Err-2.ensures)
+    (λ _. refl)

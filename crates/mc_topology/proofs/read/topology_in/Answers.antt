@@ -1,4 +1,4 @@
-use Rattle.std.proofs.Common.{◌≡◌, Ok, Err, refl, sym, ap, ◌∙◌}
+use Rattle.std.proofs.Common.{◌≡◌, Err, sym, ap, ◌∙◌}
 use Rattle.std.proofs.lemmas.Result.{err_from_is_err_and}
 use Rattle.toml.specs.View.{table_view}
 use Rattle.mc_topology.specs.declared.fault.Section.TheVariants as section
@@ -13,28 +13,38 @@ use Rattle.mc_topology.proofs.read.topology_in.Goals as goal
 pub returns-in_err-sources : goal.returns-in_err-sources
 returns-in_err-sources c =
     let ms = table_view c.args.table.now in
-    let passed = ap (place section.Top 0) (sym c.version_in.ensures) ∙ (sym c.place.ensures ∙ c.in_ok-place.was) in
+    let passed = ap (place section.Top 0) (sym c.version_in.ensures)
+    ∙ (sym c.place.ensures ∙ c.in_ok-place.was) in
     let version = place_ok section.Top 0 (version_in ms) _ passed in
-    let p = err_from_is_err_and c.from_residual-in_err-sources.result c.from_residual-in_err-sources.ensures.1 in
+    let p = err_from_is_err_and c.from_residual-in_err-sources.result
+    c.from_residual-in_err-sources.ensures.1 in
     let fault = c.in_err-sources.field-0.0 in
     rw (p.1, p.2) (λ other.
     let at_sources =
-    c.in_err-sources.ensures (λ e. let same : fault ≡ out_of_memory = cc in other (ap (λ (f : TopologyFault). Err f) same)) in
+    c.in_err-sources.ensures
+    (λ e. let same : fault
+    ≡ out_of_memory = cc in other (ap (λ (f : TopologyFault). Err f) same)) in
     sym
-    (refused_at_sources ms c.in_ok-lans.lans c.in_ok-routers.routers c.in_ok-interfaces.interfaces fault
-    version (sym (c.in_ok-lans.ensures.lans (λ e. cc))) (sym (c.in_ok-routers.ensures.routers (λ e. cc)))
+    (refused_at_sources ms c.in_ok-lans.lans c.in_ok-routers.routers c.in_ok-interfaces.interfaces
+    fault
+    version (sym (c.in_ok-lans.ensures.lans (λ e. cc)))
+    (sym (c.in_ok-routers.ensures.routers (λ e. cc)))
     (sym (c.in_ok-interfaces.ensures (λ e. cc))) (sym at_sources)))
 
 pub returns-in_err-flows : goal.returns-in_err-flows
 returns-in_err-flows c =
     let ms = table_view c.args.table.now in
-    let passed = ap (place section.Top 0) (sym c.version_in.ensures) ∙ (sym c.place.ensures ∙ c.in_ok-place.was) in
+    let passed = ap (place section.Top 0) (sym c.version_in.ensures)
+    ∙ (sym c.place.ensures ∙ c.in_ok-place.was) in
     let version = place_ok section.Top 0 (version_in ms) _ passed in
-    let p = err_from_is_err_and c.from_residual-in_err-flows.result c.from_residual-in_err-flows.ensures.1 in
+    let p = err_from_is_err_and c.from_residual-in_err-flows.result
+    c.from_residual-in_err-flows.ensures.1 in
     let fault = c.in_err-flows.field-0.0 in
     rw (p.1, p.2) (λ other.
     let at_flows =
-    c.in_err-flows.ensures (λ e. let same : fault ≡ out_of_memory = cc in other (ap (λ (f : TopologyFault). Err f) same)) in
+    c.in_err-flows.ensures
+    (λ e. let same : fault
+    ≡ out_of_memory = cc in other (ap (λ (f : TopologyFault). Err f) same)) in
     sym
     (refused_at_flows ms c.in_ok-lans.lans c.in_ok-routers.routers c.in_ok-interfaces.interfaces
     c.in_ok-sources.sources fault version (sym (c.in_ok-lans.ensures.lans (λ e. cc)))
@@ -44,7 +54,8 @@ returns-in_err-flows c =
 pub new-requires : goal.new-requires
 new-requires c =
     let ms = table_view c.args.table.now in
-    let passed = ap (place section.Top 0) (sym c.version_in.ensures) ∙ (sym c.place.ensures ∙ c.in_ok-place.was) in
+    let passed = ap (place section.Top 0) (sym c.version_in.ensures)
+    ∙ (sym c.place.ensures ∙ c.in_ok-place.was) in
     let version = place_ok section.Top 0 (version_in ms) _ passed in
     sections_kept ms
     (record {
@@ -54,6 +65,7 @@ new-requires c =
       sources = c.in_ok-sources.sources;
       flows = c.in_ok-flows.flows;
     })
-    version (sym (c.in_ok-lans.ensures.lans (λ e. cc))) (sym (c.in_ok-routers.ensures.routers (λ e. cc)))
+    version (sym (c.in_ok-lans.ensures.lans (λ e. cc)))
+    (sym (c.in_ok-routers.ensures.routers (λ e. cc)))
     (sym (c.in_ok-interfaces.ensures (λ e. cc))) (sym (c.in_ok-sources.ensures (λ e. cc)))
     (sym (c.in_ok-flows.ensures (λ e. cc)))

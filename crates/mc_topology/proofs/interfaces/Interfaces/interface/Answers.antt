@@ -1,4 +1,4 @@
-use Rattle.std.proofs.Common.{◌<◌, length, map, arith}
+use Rattle.std.proofs.Common.{◌<◌, length, map}
 use Rattle.std.proofs.lemmas.List.{length-map}
 use Rattle.mc_topology.specs.Kept.{interface_row}
 use Rattle.mc_topology.proofs.Places.{interface_at}
@@ -7,8 +7,10 @@ use Rattle.mc_topology.proofs.interfaces.Interfaces.interface.Goals as goal
 pub returns : goal.returns
 returns c =
     let entries = c.self.inside.lans.entries in
-    let rows : c.args.interface < length (map interface_row entries) = rw c.self.view_is c.requires in
+    let rows : c.args.interface < length (map interface_row entries) =
+    rw c.self.view_is c.requires in
     let within : c.args.interface < length entries = rw length-map at rows in
     let is = rw (c.as_slice.ensures, c.keys-keys.ensures.rest) at c.index-as_slice-interface.is in
-    let at = interface_at entries c.args.interface c.index-as_slice-interface.result c.index.result.now within is c.index.ensures in
+    let at = interface_at entries c.args.interface c.index-as_slice-interface.result
+    c.index.result.now within is c.index.ensures in
     rw (← c.self.view_is, c.as_slice-2.ensures.value) at

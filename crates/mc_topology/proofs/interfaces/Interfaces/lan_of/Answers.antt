@@ -9,7 +9,8 @@ pub returns-in_err-key : goal.returns-in_err-key
 returns-in_err-key c =
     let rows = map interface_row c.self.inside.lans.entries in
     let none =
-    lan_of_long_device rows c.args.router c.args.device.now _ c.self.invariant c.in_err-key.ensures refl in
+    lan_of_long_device rows c.args.router c.args.device.now _ c.self.invariant c.in_err-key.ensures
+    refl in
     rw (← c.self.view_is) (c.from_residual.ensures ∙ sym none)
 
 pub returns-in_err-lan : goal.returns-in_err-lan

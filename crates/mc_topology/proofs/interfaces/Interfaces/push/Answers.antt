@@ -20,5 +20,6 @@ invariant_of-self-2 c =
     let pushed = interface_pushed c.self.inside.lans c.args.key c.args.lan rows refl new in
     let all = ap (map interface_row) c.in_ok-insert.ensures.entries ∙ pushed in
     subst HaveShortDevices (sym all)
-    (All-push (λ (i : InterfaceRow). length i.device ≤ 15) rows (interface_row (c.args.key, c.args.lan))
+    (All-push (λ (i : InterfaceRow). length i.device ≤ 15) rows
+    (interface_row (c.args.key, c.args.lan))
     c.self.invariant c.requires.short)

@@ -8,4 +8,6 @@ use Rattle.mc_topology.proofs.lans.Lans.has.Goals as goal
 pub returns : goal.returns
 returns c =
     let name = c.args.name.now in
-    rw (← c.self.view_is) (c.contains.ensures ∙ any_of_rows string_bytes _ (λ x. bytes_eq x name) (lan_agrees name) c.self.inside.names.keys)
+    rw (← c.self.view_is)
+    (c.contains.ensures ∙ any_of_rows string_bytes _ (λ x. bytes_eq x name)
+    (lan_agrees name) c.self.inside.names.keys)

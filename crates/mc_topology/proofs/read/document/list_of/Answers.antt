@@ -1,4 +1,4 @@
-use Rattle.std.proofs.Common.{◌≡◌, Some, Ok, ap}
+use Rattle.std.proofs.Common.{Ok, ap}
 use Rattle.mc_topology.proofs.Tables.{rows_in-view}
 use Rattle.mc_topology.proofs.read.document.list_of.Goals as goal
 

@@ -14,5 +14,6 @@ returns-then-not-contains c =
 pub returns : goal.returns
 returns c =
     let same = to_z-of_z {w = w64} {z = c.args.number} c.ranges.number in
-    let (low, high) = rw (c.new.ensures.start, c.new.ensures.end, same) at c.if-not-contains.ensures.cases in
+    let (low, high) = rw (c.new.ensures.start, c.new.ensures.end, same) at
+    c.if-not-contains.ensures.cases in
     rw same (sym (ttl_inside c.args.number low high))

@@ -7,7 +7,8 @@ use Rattle.mc_topology.proofs.read.interfaces.each_interface.Given as goal
 
 abbrev pub invariant-loop-row : goal.invariant-loop-row
 invariant-loop-row l = record {
-  rows : each section.Interface (interface_of l.lans l.routers) l.interfaces (map view (drop l.row-index l.rows))
+  rows : each section.Interface (interface_of l.lans l.routers) l.interfaces
+      (map view (drop l.row-index l.rows))
       ≡ each section.Interface (interface_of l.lans l.routers) [] (map view l.rows);
   count : length l.interfaces ≡ l.row-index;
 }

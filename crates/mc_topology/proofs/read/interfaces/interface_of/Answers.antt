@@ -1,4 +1,4 @@
-use Rattle.std.proofs.Common.{◌<◌, ◌≤◌, length, arith, sym, ◌∙◌}
+use Rattle.std.proofs.Common.{arith, sym, ◌∙◌}
 use Rattle.mc_topology.proofs.NameLemmas.{device_short}
 use Rattle.mc_topology.proofs.read.interfaces.interface_of.Goals as goal
 

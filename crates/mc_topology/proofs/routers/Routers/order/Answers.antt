@@ -4,4 +4,5 @@ use Rattle.mc_topology.proofs.routers.Routers.order.Goals as goal
 pub returns : goal.returns
 returns c =
     let at = rw c.router.view_is at c.index.ensures in
-    rw (← c.self.view_is) (order_at c.self.inside.orders.entries c.args.router c.index.result.now at)
+    rw (← c.self.view_is)
+    (order_at c.self.inside.orders.entries c.args.router c.index.result.now at)

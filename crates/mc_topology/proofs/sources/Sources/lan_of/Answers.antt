@@ -1,4 +1,4 @@
-use Rattle.std.proofs.Common.{◌∙◌, sym, refl}
+use Rattle.std.proofs.Common.{◌∙◌, refl}
 use Rattle.std.specs.Prelude.{◌==◌}
 use Rattle.mc_topology.specs.Rows.{source_row}
 use Rattle.mc_topology.proofs.Keyed.{value_of_row}

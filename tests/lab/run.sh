@@ -1,8 +1,9 @@
 #!/bin/sh
 # From routers to a verdict, on a network of this machine's kernel: two routers with smcroute, three
 # LANs and two hosts, in network namespaces. The routers' tables are collected by mcaudit-collect, the
-# hosts' reports by mcaudit-reports; mcaudit makes a certificate, and judges it. Then one router gets
-# one entry too many, and mcaudit has to find the second copy that a host sees come.
+# hosts' reports by mcaudit-reports; mcaudit judges the folder, and its certificate is kept. Then one
+# router gets one entry too many, and mcaudit has to find the second copy that a host sees come, and to
+# say that the tables aren't those of the certificate any more.
 # Usage: run.sh PROGRAM. It needs root, and what is named below; what it made it takes away again.
 #
 #   source 10.77.0.5 -- l0 -- r1 -- l1 -- r2 -- l2 -- member 10.77.2.7
@@ -205,6 +206,11 @@ expect 0 send_packets <<'END'
 239.1.2.4 3
 END
 collect
+expect 0 "$mcaudit" audit "$site" <<'END'
+flow 10.77.0.5 239.1.2.3 ttl 4 yes copies 3
+flow 10.77.0.5 239.1.2.4 ttl 4 yes copies 3
+verdict yes
+END
 make_certificate > "$site/certificate" || fail 'no certificate for right tables'
 expect 0 check_certificate <<'END'
 flow 10.77.0.5 239.1.2.3 ttl 4 yes copies 3
@@ -220,13 +226,17 @@ expect 0 send_packets <<'END'
 239.1.2.4 6
 END
 collect
+expect 1 "$mcaudit" audit "$site" --travel <<'END'
+flow 10.77.0.5 239.1.2.3 ttl 4 yes copies 3
+flow 10.77.0.5 239.1.2.4 ttl 4 no certificate
+found ttl 255 Duplicate l2
+event r1 0 ttl 255 sent 2 strayed 0
+event r2 0 ttl 254 sent 1 strayed 0
+verdict no
+END
 expect 1 check_certificate <<'END'
 flow 10.77.0.5 239.1.2.3 ttl 4 yes copies 3
 flow 10.77.0.5 239.1.2.4 ttl 4 no Extra r2 1 l2
 verdict no
-END
-expect 1 make_certificate <<'END'
-flow 10.77.0.5 239.1.2.4 ttl 4 no certificate
-found ttl 255 Duplicate l2
 END
 echo 'lab: the verdicts are those of the network'

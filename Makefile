@@ -1,5 +1,5 @@
 # make            builds the proved program, crates/mcaudit/out/mcaudit
-# make example    shows the whole way on two folders of examples/, the second with a fault; by the program if it is built
+# make example    shows an audit of a fault and of its mending, and the whole way to a verdict; by the program if it is built
 # make test       the gate: every proof, the edits that must fail, the tests, the command-line cases, and those of tools/
 # make bench      does steps of a run on large texts, and prints what they took in time and memory (it needs python3)
 # make lab        from routers to a verdict, in network namespaces (it needs root, smcroute, tcpdump and python3)

@@ -11,8 +11,8 @@ use Rattle.mc_igmp.specs.Records.{AreRecords}
 abbrev pub record_count : List ℕ → ℕ
 record_count bytes = 256 * slice_index bytes 6 + slice_index bytes 7
 
--- A Version 3 report's records follow one another from byte 8, as many as it tells. Bytes after the last
--- record count for the checksum and say nothing (section 4.2.11).
+-- A Version 3 report's records follow one another from byte 8, as many as it tells. Bytes after the
+-- last record count for the checksum and say nothing (section 4.2.11).
 pub record IsReport (bytes : List ℕ) (records : List Record) : Type 0 where
   pub own : List ℕ
   pub ignored : List ℕ
@@ -25,11 +25,13 @@ pub record IsReport (bytes : List ℕ) (records : List Record) : Type 0 where
 abbrev pub IsReportType : ℕ → Type 0
 IsReportType type = (type ≡ 0x12) ⊎ ((type ≡ 0x16) ⊎ (type ≡ 0x22))
 
--- The bytes are this message. A message of another type than the reports' stands for its type alone.
+-- The bytes are this message. A message of another type than the reports' stands for its type
+-- alone.
 abbrev pub IsMessage : List ℕ → Message → Type 0
 IsMessage bytes (Report records) =
     IsWellFormed bytes × (IsReport bytes records ⊎ IsOlderReport bytes records)
-IsMessage bytes (Other type) = IsWellFormed bytes × (slice_index bytes 0 ≡ type) × (¬ (IsReportType type))
+IsMessage bytes (Other type) =
+    IsWellFormed bytes × (slice_index bytes 0 ≡ type) × (¬ (IsReportType type))
 
 -- the records that a message stands for
 abbrev pub records_of : Message → List Record

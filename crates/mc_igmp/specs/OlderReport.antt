@@ -12,9 +12,9 @@ abbrev pub older_records : Option ℕ → List Record
 older_records None = []
 older_records (Some group) = older_record group ∷ []
 
--- The bytes have the type 0x12 (version 1: RFC 1112, appendix I) or 0x16 (version 2: RFC 2236, section 2) and
--- their group in bytes 4 to 7. They stand for one record. Bytes after the eighth count for the checksum and
--- say nothing (RFC 2236, section 2.5).
+-- The bytes have the type 0x12 (version 1: RFC 1112, appendix I) or 0x16 (version 2: RFC 2236,
+-- section 2) and their group in bytes 4 to 7. They stand for one record. Bytes after the eighth
+-- count for the checksum and say nothing (RFC 2236, section 2.5).
 pub record IsOlderReport (bytes : List ℕ) (records : List Record) : Type 0 where
   pub type : (slice_index bytes 0 ≡ 0x12) ⊎ (slice_index bytes 0 ≡ 0x16)
   pub one : records ≡ older_record (group_at bytes) ∷ []

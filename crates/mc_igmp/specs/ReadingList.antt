@@ -1,5 +1,6 @@
 -- A report list read line by line, with the first fault that is met.
-use Rattle.std.specs.Prelude.{ℕ, ◌+◌, ◌||◌, not, nat_lt, List, [], ◌∷◌, ◌++◌, length, Option, Some, None, Result, Ok, Err, if◌then◌else◌}
+use Rattle.std.specs.Prelude.{ℕ, ◌+◌, ◌||◌, not, nat_lt, List, [], ◌∷◌, ◌++◌, length, Option, Some}
+use Rattle.std.specs.Prelude.{None, Result, Ok, Err, if◌then◌else◌}
 use Rattle.hex.specs.declared.error.FromHexError.{FromHexError}
 use Rattle.hex.specs.Hex.{decode_of}
 use Rattle.mc_text.specs.Lines.{LineText, lines_of}
@@ -11,7 +12,9 @@ use Rattle.mc_igmp.specs.declared.message.MessageFault.{MessageFault}
 use Rattle.mc_igmp.specs.declared.message.MessageFault.TheVariants as message
 use Rattle.mc_igmp.specs.declared.fault.ListFault.{ListFault}
 use Rattle.mc_igmp.specs.declared.fault.ListFaultKind.{ListFaultKind}
-use Rattle.mc_igmp.specs.declared.fault.ListFaultKind.TheVariants.{BadHex, Short, BadChecksum, Truncated, StateChange, TooLarge, Unended}
+use Rattle.mc_igmp.specs.declared.fault.ListFaultKind.TheVariants.{BadHex, Short, BadChecksum}
+use Rattle.mc_igmp.specs.declared.fault.ListFaultKind.TheVariants.{Truncated, StateChange, TooLarge}
+use Rattle.mc_igmp.specs.declared.fault.ListFaultKind.TheVariants.{Unended}
 use Rattle.mc_igmp.specs.Kind.{is_change}
 use Rattle.mc_igmp.specs.ReadingMessage.{read_message}
 
@@ -31,10 +34,12 @@ bytes_of_line line =
     then Err (fault_at line.number 0 TooLarge)
     else digits_read line.number (decode_of line.bytes)
 
--- the number of the first record that tells of a change, where the first record has the number `number`
+-- the number of the first record that tells of a change, where the first record has the number
+-- `number`
 unfoldable pub first_change : ℕ → List Record → Option ℕ
 first_change number [] = None
-first_change number (r ∷ rs) = if is_change r.kind then Some number else first_change (number + 1) rs
+first_change number (r ∷ rs) =
+    if is_change r.kind then Some number else first_change (number + 1) rs
 
 -- the records, if none tells of a change
 abbrev pub without_change : ℕ → List Record → Option ℕ → Result (List Record) ListFault

@@ -1,5 +1,6 @@
 -- A message read from the front, with the first fault that is met.
-use Rattle.std.specs.Prelude.{ℕ, ◌==◌, ◌%◌, ◌&&◌, ◌||◌, nat_lt, List, [], ◌∷◌, length, drop, slice_index, Result, Ok, Err, if◌then◌else◌}
+use Rattle.std.specs.Prelude.{ℕ, ◌==◌, ◌%◌, ◌&&◌, ◌||◌, nat_lt, List, [], ◌∷◌, length, drop}
+use Rattle.std.specs.Prelude.{slice_index, Result, Ok, Err, if◌then◌else◌}
 use Rattle.mc_igmp.specs.declared.message.Message.{Message}
 use Rattle.mc_igmp.specs.declared.message.Message.TheVariants.{Report, Other}
 use Rattle.mc_igmp.specs.declared.message.MessageFault.{MessageFault}

@@ -1,5 +1,6 @@
 -- A group record (RFC 3376, section 4.2.4 and on).
-use Rattle.std.specs.Prelude.{◌≡◌, ℕ, ◌+◌, ◌*◌, ◌<◌, ◌^◌, List, [], ◌∷◌, ◌++◌, length, drop, take, Option, Some, None, nat_lt, slice_index, if◌then◌else◌}
+use Rattle.std.specs.Prelude.{◌≡◌, ℕ, ◌+◌, ◌*◌, ◌<◌, ◌^◌, List, [], ◌∷◌, ◌++◌, length, drop, take}
+use Rattle.std.specs.Prelude.{Option, Some, None, nat_lt, slice_index, if◌then◌else◌}
 use Rattle.std.specs.Int.{w16, w32, to_be_bytes, from_be_bytes}
 use Rattle.std.specs.List.{flat_map, AllByRecursion}
 use Rattle.mc_text.specs.Addr.{IsAddr, octets_of}
@@ -7,8 +8,8 @@ use Rattle.mc_igmp.specs.declared.record.Record.{Record}
 use Rattle.mc_igmp.specs.Kind.{kind_of}
 use Rattle.mc_igmp.specs.Addresses.{addresses_in}
 
--- The bytes are this record, whole: its type, the length of its auxiliary data in words of 32 bits, the
--- number of its sources, its group, its sources, and the auxiliary data, which say nothing.
+-- The bytes are this record, whole: its type, the length of its auxiliary data in words of 32 bits,
+-- the number of its sources, its group, its sources, and the auxiliary data, which say nothing.
 pub record IsRecord (bytes : List ℕ) (r : Record) : Type 0 where
   pub type : ℕ
   pub auxiliary_words : ℕ
@@ -26,7 +27,8 @@ abbrev pub group_at : List ℕ → ℕ
 group_at bytes = from_be_bytes w32
     (slice_index bytes 4 ∷ slice_index bytes 5 ∷ slice_index bytes 6 ∷ slice_index bytes 7 ∷ [])
 
--- The number of sources of the record that the bytes begin with, and the bytes that the record takes.
+-- The number of sources of the record that the bytes begin with, and the bytes that the record
+-- takes.
 abbrev pub source_count : List ℕ → ℕ
 source_count bytes = 256 * slice_index bytes 2 + slice_index bytes 3
 

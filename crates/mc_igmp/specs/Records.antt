@@ -1,5 +1,6 @@
 -- Group records one after another, as a report has them (RFC 3376, sections 4.2.3 and 4.2.4).
-use Rattle.std.specs.Prelude.{◌≡◌, ℕ, zero, suc, ◌+◌, List, [], ◌∷◌, ◌++◌, Option, Some, None, Result, Ok, Err}
+use Rattle.std.specs.Prelude.{◌≡◌, ℕ, zero, suc, ◌+◌, List, [], ◌∷◌, ◌++◌, Option, Some, None}
+use Rattle.std.specs.Prelude.{Result, Ok, Err}
 use Rattle.mc_igmp.specs.declared.record.Record.{Record}
 use Rattle.mc_igmp.specs.Record.{IsRecord, read_record}
 
@@ -20,12 +21,13 @@ records_in zero bytes = []
 records_in (suc count) bytes = then_records (read_record bytes) (records_in count)
 
 -- what stands after the others, or the number of the record that wasn't read
-abbrev pub then_after : ℕ → Option (Record × List ℕ) → (List ℕ → Result (List ℕ) ℕ) → Result (List ℕ) ℕ
+abbrev pub then_after : ℕ → Option (Record × List ℕ) → (List ℕ → Result (List ℕ) ℕ)
+    → Result (List ℕ) ℕ
 then_after number None others = Err number
 then_after number (Some x) others = others x.1
 
--- the bytes after the first `count` records, or the number of the first that doesn't end within them,
--- where the first has the number `number`
+-- the bytes after the first `count` records, or the number of the first that doesn't end within
+-- them, where the first has the number `number`
 unfoldable pub after_records : ℕ → ℕ → List ℕ → Result (List ℕ) ℕ
 after_records number zero bytes = Ok bytes
 after_records number (suc count) bytes =

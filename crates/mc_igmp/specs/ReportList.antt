@@ -9,14 +9,15 @@ use Rattle.mc_igmp.specs.declared.message.Message.TheVariants.{Report, Other}
 use Rattle.mc_igmp.specs.Kind.{is_change}
 use Rattle.mc_igmp.specs.Message.{IsMessage, records_of}
 
--- The messages that a list takes. No record tells of a change (types 3 to 6, RFC 3376, section 4.2.12), since
--- its meaning hangs on what was reported before.
+-- The messages that a list takes. No record tells of a change (types 3 to 6, RFC 3376, section
+-- 4.2.12), since its meaning hangs on what was reported before.
 abbrev pub IsTaken : Message → Type 0
 IsTaken (Report records) = AllByRecursion (λ r. is_change r.kind ≡ false) records
 IsTaken (Other type) = Unit {0}
 
--- The line is the hexadecimal of this message, and nothing else. A message is the payload of one IP packet, of
--- at most 65,535 bytes less 20 of its header (RFC 791, section 3.1), each of two digits. A list has at most
+-- The line is the hexadecimal of this message, and nothing else. A message is the payload of one IP
+-- packet, of at most 65,535 bytes less 20 of its header (RFC 791, section 3.1), each of two digits.
+-- A list has at most
 -- 65,536 lines.
 pub record IsMessageLine (line : LineText) (message : Message) : Type 0 where
   pub bytes : List ℕ

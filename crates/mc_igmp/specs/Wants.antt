@@ -5,8 +5,8 @@ use Rattle.mc_igmp.specs.declared.record.Record.{Record}
 use Rattle.mc_igmp.specs.declared.record.Kind.{Kind}
 use Rattle.mc_igmp.specs.declared.record.Kind.TheVariants.{Include, Exclude, Change, Unknown}
 
--- A record of a kind with these sources admits a source. MODE_IS_INCLUDE admits the sources in its list, and
--- MODE_IS_EXCLUDE admits all others. The other types admit none.
+-- A record of a kind with these sources admits a source. MODE_IS_INCLUDE admits the sources in its
+-- list, and MODE_IS_EXCLUDE admits all others. The other types admit none.
 abbrev pub AdmitsBy : Kind → List ℕ → ℕ → Type 0
 AdmitsBy Include sources source = Contains sources source
 AdmitsBy Exclude sources source = ¬ (Contains sources source)

@@ -8,7 +8,8 @@ use byteorder::{BigEndian, ByteOrder};
 /// Ones in all sixteen bits.
 const ALL_ONES: u32 = 0xffff;
 
-/// The one's complement sum of a sum and a word: a carry out of the sixteen bits is added at their end.
+/// The one's complement sum of a sum and a word: a carry out of the sixteen bits is added at their
+/// end.
 fn add_with_carry(sum: u32, word: u16) -> u32
     requires { sum ≤ ALL_ONES }
     ensures bound { result ≤ ALL_ONES }
@@ -23,8 +24,8 @@ fn add_with_carry(sum: u32, word: u16) -> u32
     }
 }
 
-/// The one's complement sum of the big-endian words of a message, an odd last byte being taken with a
-/// zero byte after it.
+/// The one's complement sum of the big-endian words of a message, an odd last byte being taken with
+/// a zero byte after it.
 fn ones_complement_sum(message: &[u8]) -> u32
     ensures bound { result ≤ ALL_ONES }
     ensures congruent { result % 65535 ≡ word_sum message.now % 65535 }

@@ -25,8 +25,8 @@ pub enum ListFaultKind {
     #[error("StateChange")]
     StateChange,
     // (6) is no longer used: it refused reports of versions 1 and 2.
-    /// (7) The text has more than 16,777,216 bytes (line 0), or more than 65,536 lines, or the line has more
-    /// than 131,030 bytes.
+    /// (7) The text has more than 16,777,216 bytes (line 0), or more than 65,536 lines, or the line
+    /// has more than 131,030 bytes.
     #[error("TooLarge")]
     TooLarge,
     /// (8) No line feed ends the line.
@@ -37,8 +37,8 @@ pub enum ListFaultKind {
     Memory,
 }
 
-/// Why a text is no report list, with the line and the record that it is about. Both count from 1, and
-/// are 0 where no line or no record is meant.
+/// Why a text is no report list, with the line and the record that it is about. Both count from 1,
+/// and are 0 where no line or no record is meant.
 #[derive(Clone, Copy, Debug, PartialEq, Eq, Error)]
 #[error("line {line} record {record_no}: {kind}")]
 pub struct ListFault {

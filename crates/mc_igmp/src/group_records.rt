@@ -43,8 +43,8 @@ fn after_records_of(count: u16, bytes: &[u8]) -> Result<&[u8], u32>
 }
 
 impl<'a> GroupRecords<'a> {
-    /// The first `count` records of the bytes, or the number of the first, counted from 1, that doesn't
-    /// end within them.
+    /// The first `count` records of the bytes, or the number of the first, counted from 1, that
+    /// doesn't end within them.
     pub(crate) fn read(count: u16, bytes: &'a [u8]) -> Result<GroupRecords<'a>, u32>
         ensures { MatchResult result
             (λ records. (ignored : List ℕ) ×

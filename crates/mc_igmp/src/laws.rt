@@ -8,7 +8,8 @@ ghost use Rattle.mc_igmp.specs.ReadingMessage.{read_message};
 ghost use Rattle.mc_igmp.specs.ReportList.{IsReportList};
 ghost use Rattle.mc_igmp.specs.ReadingList.{read_list};
 
-/// Reading gives a message exactly where the bytes are that message, so bytes are one message at most.
+/// Reading gives a message exactly where the bytes are that message, so bytes are one message at
+/// most.
 pub fn messages_are_read_as_they_stand()
     ensures { (bytes : List ℕ) (message : Message) → ((i : ℕ) → slice_index bytes i < 256) →
         ((read_message bytes ≡ Ok message) ↔ IsMessage bytes message) }

@@ -1,6 +1,7 @@
 //! A report list: what the hosts of one LAN answer to one General Query, a message on each line.
 
-ghost use Rattle.std.specs.Prelude.{◌≡◌, ◌≢◌, ◌++◌, ◌∷◌, ◌<◌, ◌^◌, ◌⊎◌, List, [], length, unwrap_or};
+ghost use Rattle.std.specs.Prelude.{◌≡◌, ◌≢◌, ◌++◌, ◌∷◌, ◌<◌, ◌^◌, ◌⊎◌, List, [], length};
+ghost use Rattle.std.specs.Prelude.{unwrap_or};
 ghost use Rattle.std.specs.Prelude.{IfOk, IfErr, OnOk, OnErr, MatchResult};
 ghost use Rattle.mc_text.specs.LineView.{line_text};
 ghost use Rattle.mc_igmp.specs.declared.record.Record.{Record};
@@ -11,7 +12,8 @@ ghost use Rattle.mc_igmp.specs.OlderReport.{older_record};
 ghost use Rattle.mc_igmp.specs.Records.{records_in, IsWhole};
 ghost use Rattle.mc_igmp.specs.ReadingMessage.{read_message};
 ghost use Rattle.mc_igmp.specs.ReportList.{IsReportList};
-ghost use Rattle.mc_igmp.specs.ReadingList.{bytes_of_line, first_change, taken_records, read_line, read_list, fault_at};
+ghost use Rattle.mc_igmp.specs.ReadingList.{bytes_of_line, first_change, taken_records, read_line};
+ghost use Rattle.mc_igmp.specs.ReadingList.{read_list, fault_at};
 
 use crate::fault::{ListFault, ListFaultKind};
 use crate::group_records::GroupRecords;
@@ -29,7 +31,8 @@ const MAX_LINES: u32 = 65_536;
 /// The greatest line, in bytes: two digits for each byte of an IP packet's greatest payload.
 const MAX_LINE_LEN: usize = 131_030;
 
-/// The bytes of the record that a report of version 1 or 2 stands for (RFC 3376, sections 4.2.4 and 7.3.2).
+/// The bytes of the record that a report of version 1 or 2 stands for (RFC 3376, sections 4.2.4 and
+/// 7.3.2).
 fn bytes_of_older_record(group: Addr) -> [u8; 8]
     ensures whole { IsWhole 1 result }
     ensures record { records_in 1 result ≡ older_record group ∷ [] }
@@ -126,15 +129,15 @@ impl Model for ReportList {
 }
 
 impl ReportList {
-    /// Reads a report list: a message in hexadecimal on each line, with nothing else on it. The empty
-    /// text is a list without a record, and so is one of messages that are no reports. A report of version
-    /// 1 or 2 counts as one record, as [`Message`] has it.
+    /// Reads a report list: a message in hexadecimal on each line, with nothing else on it. The
+    /// empty text is a list without a record, and so is one of messages that are no reports. A
+    /// report of version 1 or 2 counts as one record, as [`Message`] has it.
     ///
     /// # Errors
-    /// `TooLarge` at line 0 for a text of more than 16,777,216 bytes. Else the first line that has a fault
-    /// is refused, for the first of `Unended`, `TooLarge` (line 65,537, or more than 131,030 bytes on the
-    /// line), `BadHex`, `Short`, `BadChecksum`, `Truncated` and `StateChange`. `Memory`
-    /// where a growth was refused.
+    /// `TooLarge` at line 0 for a text of more than 16,777,216 bytes. Else the first line that has
+    /// a fault is refused, for the first of `Unended`, `TooLarge` (line 65,537, or more than
+    /// 131,030 bytes on the line), `BadHex`, `Short`, `BadChecksum`, `Truncated` and `StateChange`.
+    /// `Memory` where a growth was refused.
     pub fn read(alloc: Global, text: &[u8]) -> Result<ReportList, ListFault>
         // What is read are the records of the text's messages.
         ensures found { IfOk result (λ records. IsReportList text.now records) }
@@ -203,7 +206,8 @@ impl ReportList {
     }
 }
 
-/// The records of a list, from the first. Its value in contracts is the list of those that are left.
+/// The records of a list, from the first. Its value in contracts is the list of those that are
+/// left.
 #[derive(Debug, Drop)]
 pub struct ListRecords<'a> {
     group_records: GroupRecords<'a>,

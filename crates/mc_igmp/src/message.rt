@@ -26,8 +26,8 @@ const VERSION_3_REPORT: u8 = 0x22;
 /// What a message stands for.
 #[derive(Debug, Drop)]
 pub enum Message<'a> {
-    /// A report, with its records. One of version 1 or 2 stands for one record: all sources of its group
-    /// are wanted (RFC 3376, section 7.3.2).
+    /// A report, with its records. One of version 1 or 2 stands for one record: all sources of its
+    /// group are wanted (RFC 3376, section 7.3.2).
     Report(Records<'a>),
     /// A message of another type, with its type byte.
     Other(u8),
@@ -67,8 +67,9 @@ fn message_in(bytes: &[u8]) -> Result<Message<'_>, MessageFault>
 }
 
 impl<'a> Message<'a> {
-    /// Reads a message. All types have the same checksum. Reports of versions 1 and 2 have the types 0x12
-    /// and 0x16, and one of version 3 has 0x22; of other types nothing else is looked at.
+    /// Reads a message. All types have the same checksum. Reports of versions 1 and 2 have the
+    /// types 0x12 and 0x16, and one of version 3 has 0x22; of other types nothing else is looked
+    /// at.
     pub fn parse(bytes: &'a [u8]) -> Result<Message<'a>, MessageFault>
         // What is read is the message that the bytes are.
         ensures found { IfOk result (λ message. IsMessage bytes.now message) }

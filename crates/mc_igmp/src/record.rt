@@ -43,7 +43,8 @@ impl Kind {
     }
 }
 
-/// The sources of a record, from the first. Its value in contracts is the list of those that are left.
+/// The sources of a record, from the first. Its value in contracts is the list of those that are
+/// left.
 #[derive(Debug, Drop)]
 pub struct Sources<'a> {
     bytes: &'a [u8],

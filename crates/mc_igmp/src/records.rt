@@ -9,7 +9,8 @@ use crate::record::Record;
 use mc_text::Addr;
 use std::marker::Model;
 
-/// The records of a report, from the first. Its value in contracts is the list of those that are left.
+/// The records of a report, from the first. Its value in contracts is the list of those that are
+/// left.
 #[derive(Debug, Drop)]
 pub struct Records<'a> {
     /// The group of a report of version 1 or 2, as long as its record is left.
@@ -29,8 +30,8 @@ impl<'a> Model for Records<'a> {
 }
 
 impl<'a> Records<'a> {
-    /// The first `count` group records of the bytes, or the number of the first, counted from 1, that
-    /// doesn't end within them.
+    /// The first `count` group records of the bytes, or the number of the first, counted from 1,
+    /// that doesn't end within them.
     pub(crate) fn read(count: u16, bytes: &'a [u8]) -> Result<Records<'a>, u32>
         ensures { MatchResult result
             (λ records. (ignored : List ℕ) ×
@@ -65,8 +66,8 @@ impl<'a> Records<'a> {
         }
     }
 
-    /// The group of a report of version 1 or 2, if its record is left, and the group records that are
-    /// left of a Version 3 report.
+    /// The group of a report of version 1 or 2, if its record is left, and the group records that
+    /// are left of a Version 3 report.
     pub(crate) fn parts(&self) -> (Option<Addr>, GroupRecords<'a>)
         ensures { self.now ≡ older_records result.0 ++ result.1 }
     {

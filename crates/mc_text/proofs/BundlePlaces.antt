@@ -15,9 +15,8 @@ use Rattle.mc_text.specs.Bundle.{PartText, IsPartName, part_line, part_spelling,
 use Rattle.mc_text.specs.BundleReading.{Place, line_at, part_said, part_bytes_at, part_room}
 use Rattle.mc_text.specs.BundleReading.{is_too_large, place_after, part_place, end_place, place_of}
 use Rattle.mc_text.proofs.StepLemmas.{bind_ok, ok_is}
-use Rattle.mc_text.proofs.BundleWords.{cut_at}
-use Rattle.mc_text.proofs.BundleLines.{IsLine, line_takes, line_again, said_take, said_again}
-use Rattle.mc_text.proofs.BundleLines.{Without-part_line}
+use Rattle.mc_text.proofs.BundleWords.{cut_at, IsLine, line_takes, line_again, said_take}
+use Rattle.mc_text.proofs.BundleWords.{said_again, Without-part_line}
 
 -- ---- a part's bytes
 

@@ -1,22 +1,31 @@
--- The words of a part line: names and lengths, where they end, and that they are read as written.
+-- The words and the lines of a bundle: what is read is written so, and what is written so is read.
 use Rattle.std.proofs.Common.{arith, ◌≡◌, ℕ, zero, suc, ◌+◌, ◌^◌, ◌<◌, Bool, true, false, eqb, ltb}
 use Rattle.std.proofs.Common.{leb, List, [], ◌∷◌, ◌++◌, length, get_or, take, drop, Option, Some}
-use Rattle.std.proofs.Common.{None, refl, sym, ap, subst, ◌∙◌}
-use Rattle.std.specs.Prelude.{position, ◌&&◌}
+use Rattle.std.proofs.Common.{None, refl, sym, ap, subst, ◌∙◌, ◌-◌, Ok, min}
+use Rattle.std.specs.Prelude.{position, ◌&&◌, codes}
 use Rattle.std.specs.Char.{is_ascii_digit}
 use Rattle.std.specs.Fmt.{decimal}
 use Rattle.std.specs.List.{list_all, position_or_len}
 use Rattle.std.specs.Str.Parse.{digits_value}
 use Rattle.std.proofs.lemmas.Bool.{and_parts, eqb-true, leb-true, ne_eqb, false_from_ne_true}
+use Rattle.std.proofs.lemmas.Bool.{and_from}
 use Rattle.std.proofs.lemmas.Bool.Decides.{nat_tests}
 use Rattle.std.proofs.lemmas.Fmt.{decimal_digit, digits_decimal, decimal-digits_value}
 use Rattle.std.proofs.lemmas.Fmt.{decimal_is_IsNumeral, first_decimal}
-use Rattle.std.proofs.lemmas.List.{length-append, take-append-drop, drop_more}
+use Rattle.std.proofs.lemmas.List.{length-append, take-append-drop, drop_more, take_at, length-take}
+use Rattle.std.proofs.lemmas.List.{get_or-take, take_min}
 use Rattle.std.proofs.lemmas.List.Sums.{AllPass-from_list_all, list_all-from_AllPass}
 use Rattle.mc_text.specs.Number.{is_decimal}
-use Rattle.mc_text.specs.Bundle.{is_name_byte, IsPartName}
-use Rattle.mc_text.specs.BundleReading.{is_part_name, is_length}
+use Rattle.mc_text.specs.Bundle.{is_name_byte, IsPartName, part_line, max_line}
+use Rattle.mc_text.specs.BundleReading.{is_part_name, is_length, cut_words, words_said, part_said}
+use Rattle.mc_text.specs.BundleReading.{cut_line, line_at}
 use Rattle.mc_text.proofs.NumberReading.{numerals}
+use Rattle.std.specs.Str.{bytes_eq}
+use Rattle.std.proofs.Math.Seq.{take-append-add, drop-append-add}
+use Rattle.std.proofs.lemmas.List.Quantifiers.{position-Some}
+use Rattle.std.proofs.lemmas.Option.{cond_some}
+use Rattle.std.proofs.lemmas.Slice.Eq.{bytes_eq-Decides}
+use Rattle.mc_text.proofs.StepLemmas.{ok_is}
 
 -- no byte of the text is this one
 abbrev pub Without : ℕ → List ℕ → Type 0
@@ -115,3 +124,108 @@ pub Without-decimal : (c : ℕ) → is_ascii_digit c ≡ false → (n : ℕ) →
     → Without c (decimal n)
 Without-decimal c fails n small =
     Without-from_list_all is_ascii_digit c fails (decimal n) (digits_decimal numerals n small)
+
+-- ---- what a line says
+
+-- words that are a part's name and its length
+abbrev AreWords : List ℕ → List ℕ × ℕ → Type 0
+AreWords words said = said.1 < 2 ^ 64
+    → IsPartName said.0 × (words ≡ said.0 ++ (codes " " ++ decimal said.1))
+
+-- what two words say stands in them
+cut_take : (words : List ℕ) (o : Option ℕ) (said : List ℕ × ℕ) → position (λ b. eqb b 32) words ≡ o
+    → cut_words words o ≡ Some said → AreWords words said
+cut_take words None said at e = absurd cc
+cut_take words (Some n) said at e =
+    let after = drop (n + 1) words in
+    let chosen = cond_some (is_part_name (take n words) && is_length after) _ said e in
+    let (named, long) = and_parts (is_part_name (take n words)) (is_length after) chosen.0 in
+    let space = position-Some (λ b. eqb b 32) words n 0 at in
+    subst (AreWords words) chosen.1 (λ small. (
+      IsPartName-from_test (take n words) named,
+      cut_at 32 words n space.0 space.1 ∙ ap (λ (l : List ℕ). take n words ++ 32 ∷ l)
+          (sym (decimal-length_word after long small)),
+    ))
+
+-- what a line says stands in it
+pub said_take : (line : List ℕ) (said : List ℕ × ℕ) → part_said line ≡ Some said → said.1 < 2 ^ 64
+    → IsPartName said.0 × (line ≡ part_line said.0 said.1)
+unfolding part_said words_said
+said_take line said e small =
+    let begins : bytes_eq (take 5 line) (codes "part ") ≡ true = grind arith in
+    let words = cut_take (drop 5 line) _ said refl (rw begins at e) small in
+    let front = (bytes_eq-Decides (take 5 line) (codes "part ")).0 begins in
+    (words.0, sym (take-append-drop 5 line) ∙ rw (front, words.1) refl)
+
+-- a part's line says its name and length
+pub said_again : (name : List ℕ) (size : ℕ) → IsPartName name → size < 2 ^ 64
+    → part_said (part_line name size) ≡ Some (name, size)
+unfolding part_said words_said
+said_again name size h small =
+    let at = position-Some_after 32 name (decimal size) (Without-name 32 refl name h) in
+    let front = take_at name (32 ∷ decimal size) (length name) refl in
+    let back = drop-append-add name (32 ∷ decimal size) 1 in
+    let tests : (is_part_name name && is_length (decimal size)) ≡ true =
+    and_from _ _ (test-from_IsPartName name h) (is_length-decimal size small) in
+    let value = (decimal_is_IsNumeral size small).1 in
+    rw (at, front, back, tests, value) refl
+
+-- ---- where a line ends
+
+-- a line with its line feed, and the bytes after it
+pub record IsLine (rest line after : List ℕ) : Type 0 where
+  pub parts : rest ≡ line ++ (codes "\n" ++ after)
+  pub short : length line < max_line
+
+-- where no line feed is in sight no line is read
+no_line : (rest : List ℕ) (cut : List ℕ × List ℕ) → cut_line rest None ≡ Ok cut → ⊥
+no_line rest cut e = grind (arith, nat_tests)
+
+-- a line that was cut was cut at its line feed
+cut_takes : (rest : List ℕ) (o : Option ℕ) (cut : List ℕ × List ℕ)
+    → position (λ b. eqb b 10) (take 96 rest) ≡ o → cut_line rest o ≡ Ok cut
+    → IsLine rest cut.0 cut.1
+cut_takes rest None cut at e = absurd (no_line rest cut e)
+cut_takes rest (Some n) cut at e =
+    let (within, here, first) = position-Some (λ b. eqb b 10) (take 96 rest) n 0 at in
+    let short : n < 96 = omega (arith, within, length-take 96 rest) in
+    let feed : eqb (get_or rest n 0) 10 ≡ true = rw (← get_or-take 96 rest n 0 short) here in
+    subst (λ (p : List ℕ × List ℕ). IsLine rest p.0 p.1) (ok_is _ cut e) (record {
+      parts = cut_at 10 rest n (omega (arith, within, length-take 96 rest)) feed;
+      short = omega (arith, short, length-take n rest);
+    })
+
+-- what is read as a line stands there
+pub line_takes : (rest : List ℕ) (cut : List ℕ × List ℕ) → line_at rest ≡ Ok cut
+    → IsLine rest cut.0 cut.1
+unfolding line_at
+line_takes rest cut e = cut_takes rest _ cut refl e
+
+-- a line that stands there is read
+pub line_again : (line after : List ℕ) → Without 10 line → length line < max_line
+    → line_at (line ++ (codes "\n" ++ after)) ≡ Ok (line, after)
+unfolding line_at
+line_again line after h short =
+    let left = 95 - length line in
+    let sight : 96 ≡ length line + suc left = omega arith in
+    let front : take 96 (line ++ 10 ∷ after) ≡ line ++ 10 ∷ take left after =
+    rw sight (take-append-add line (10 ∷ after) (suc left)) in
+    let at = position-Some_after 10 line (take left after) h in
+    let back = drop-append-add line (10 ∷ after) 1 in
+    rw (front, at, take_at line (10 ∷ after) (length line) refl, back) refl
+
+-- the line that the code finds, which looks among the next 96 bytes or those that are left
+pub line_found : (rest : List ℕ) (cut : ℕ) (o : Option ℕ) → cut ≡ min (length rest) 96
+    → o ≡ position (λ b. eqb b 10) (take cut rest) → line_at rest ≡ cut_line rest o
+unfolding line_at
+line_found rest cut o h at =
+    let same : cut ≡ min 96 (length rest) = omega (arith, h) in
+    rw (at, same, take_min 96 rest) refl
+
+-- a part's line has no line feed
+pub Without-part_line : (name : List ℕ) (size : ℕ) → IsPartName name → size < 2 ^ 64
+    → Without 10 (part_line name size)
+Without-part_line name size h small =
+    let words = Without-append 10 name (codes " " ++ decimal size) (Without-name 10 refl name h)
+    (refl, Without-decimal 10 refl size small) in
+    (refl, (refl, (refl, (refl, (refl, words)))))

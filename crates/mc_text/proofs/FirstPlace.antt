@@ -1,6 +1,5 @@
 -- A search for a byte ends where the byte first stands.
-use Rattle.std.proofs.Common.{◌≡◌, ℕ, List, Option, None, Some, length, eqb, refl}
-use Rattle.std.proofs.Common.{arith, le_refl}
+use Rattle.std.proofs.Common.{◌≡◌, ℕ, List, Option, None, Some, length, eqb, refl, arith, le_refl}
 use Rattle.std.specs.Prelude.{position}
 use Rattle.std.proofs.lemmas.Bool.{false_from_ne_true, lt-ltb, le-ltb}
 use Rattle.std.proofs.lemmas.List.Sums.{position_or_len_is}

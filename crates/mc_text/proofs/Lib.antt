@@ -6,9 +6,7 @@ pub mod AddressReading
 pub mod AddressTests
 pub mod NumberReading
 pub mod BundleWords
-pub mod BundleLines
 pub mod BundlePlaces
 pub mod BundleLaws
 pub mod Pieces
 mod FirstPlace
-mod NumberSteps

@@ -15,12 +15,6 @@ module _ {A E : Type 0} where
   bind_ok (Ok x) f y e = (x, refl, e)
   bind_ok (Err d) f y e = absurd cc
 
-  -- a test that refuses let pass
-  pub refusal_ok : (b : Bool) (d : E) (r : Result A E) (y : A) → cond b (Err d) r ≡ Ok y
-      → (b ≡ false) × (r ≡ Ok y)
-  refusal_ok true d r y e = absurd cc
-  refusal_ok false d r y e = (refl, e)
-
   -- a value under a test that was met
   pub if_ok : (b : Bool) (d : E) (x y : A) → cond b (Ok x) (Err d) ≡ Ok y → (b ≡ true) × (x ≡ y)
   if_ok true d x y e = (refl, cc)

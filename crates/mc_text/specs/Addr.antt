@@ -1,6 +1,7 @@
--- An address is the number of 32 bits whose most significant octet is its first, so that addresses are
--- ordered by their octets as the numbers are.
-use Rattle.std.specs.Prelude.{◌≢◌, ℕ, ◌+◌, ◌*◌, ◌/◌, ◌<◌, ◌≤◌, ◌^◌, ◌==◌, ◌&&◌, not, nat_lt, nat_le, Bool, List}
+-- An address is the number of 32 bits whose most significant octet is its first, so that addresses
+-- are ordered by their octets as the numbers are.
+use Rattle.std.specs.Prelude.{◌≢◌, ℕ, ◌+◌, ◌*◌, ◌/◌, ◌<◌, ◌≤◌, ◌^◌, ◌==◌, ◌&&◌, not, nat_lt, nat_le}
+use Rattle.std.specs.Prelude.{Bool, List}
 use Rattle.std.specs.Int.{w32, to_be_bytes}
 use Rattle.std.specs.Net.Text.{ipv4_text}
 
@@ -27,7 +28,8 @@ is_forwarded_group a = nat_le (224 * 2 ^ 24 + 2 ^ 8) a && nat_lt a (240 * 2 ^ 24
 abbrev pub first_octet : ℕ → ℕ
 first_octet a = a / 2 ^ 24
 
--- an address that a host may send from: its first octet is 1 to 223, and not 127 (RFC 1122, section 3.2.1.3)
+-- an address that a host may send from: its first octet is 1 to 223, and not 127 (RFC 1122, section
+-- 3.2.1.3)
 abbrev pub IsSource : ℕ → Type 0
 IsSource a = (1 ≤ first_octet a) × (first_octet a ≤ 223) × (first_octet a ≢ 127)
 

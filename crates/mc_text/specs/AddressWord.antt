@@ -1,13 +1,14 @@
--- How a kernel shows an address: the eight hexadecimal digits of the four network-order bytes, which
--- its machine takes as one number (`%08X` of `mfc_mcastgrp` and `mfc_origin` in net/ipv4/ipmr.c).
+-- How a kernel shows an address: the eight hexadecimal digits of the four network-order bytes,
+-- which its machine takes as one number (`%08X` of `mfc_mcastgrp` and `mfc_origin` in
+-- net/ipv4/ipmr.c).
 use Rattle.std.specs.Prelude.{◌≡◌, ℕ, List, reverse, Ok}
 use Rattle.hex.specs.Hex.{decode_of}
 use Rattle.mc_text.specs.declared.addr.Order.{Order}
 use Rattle.mc_text.specs.declared.addr.Order.TheVariants.{Little, Big}
 use Rattle.mc_text.specs.Addr.{octets_of}
 
--- the bytes as the digits have them from left to right: first to last on a big-endian machine, last to
--- first on a little-endian one
+-- the bytes as the digits have them from left to right: first to last on a big-endian machine, last
+-- to first on a little-endian one
 abbrev pub printed_octets : Order → ℕ → List ℕ
 printed_octets Big a = octets_of a
 printed_octets Little a = reverse (octets_of a)

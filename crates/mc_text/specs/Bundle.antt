@@ -45,17 +45,20 @@ pub record IsPartName (name : List ℕ) : Type 0 where
   pub short : length name ≤ max_name
   pub bytes : AllPass is_name_byte name
 
--- The line of a part, without its line feed. The length is in decimal without a needless leading zero.
+-- The line of a part, without its line feed. The length is in decimal without a needless leading
+-- zero.
 abbrev pub part_line : List ℕ → ℕ → List ℕ
 part_line name size = codes "part " ++ (name ++ (codes " " ++ decimal size))
 
 -- the part's line and its bytes, each followed by a line feed
 abbrev pub part_spelling : PartText → List ℕ
-part_spelling part = (part_line part.name (length part.bytes) ++ codes "\n") ++ (part.bytes ++ codes "\n")
+part_spelling part =
+    (part_line part.name (length part.bytes) ++ codes "\n") ++ (part.bytes ++ codes "\n")
 
 -- the first line, the parts in order, and the last line
 abbrev pub bundle_spelling : List PartText → List ℕ
-bundle_spelling parts = codes "mcaudit bundle 1\n" ++ (flat_map part_spelling parts ++ codes "end\n")
+bundle_spelling parts =
+    codes "mcaudit bundle 1\n" ++ (flat_map part_spelling parts ++ codes "end\n")
 
 -- A part has at most 16,777,216 bytes, and a bundle 268,435,456 bytes and 1,538 parts.
 pub record AreWithinLimits (parts : List PartText) : Type 0 where

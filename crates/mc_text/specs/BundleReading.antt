@@ -1,5 +1,7 @@
 -- Reading a bundle from the front, with the first fault that is met.
-use Rattle.std.specs.Prelude.{◌≡◌, ℕ, zero, suc, ◌+◌, ◌-◌, ◌==◌, ◌&&◌, ◌||◌, nat_lt, nat_le, not, Bool, List, [], ◌∷◌, length, take, drop, slice_index, position, codes, Option, Some, None, Result, Ok, Err, if◌then◌else◌}
+use Rattle.std.specs.Prelude.{◌≡◌, ℕ, zero, suc, ◌+◌, ◌-◌, ◌==◌, ◌&&◌, ◌||◌, nat_lt, nat_le, not}
+use Rattle.std.specs.Prelude.{Bool, List, [], ◌∷◌, length, take, drop, slice_index, position, codes}
+use Rattle.std.specs.Prelude.{Option, Some, None, Result, Ok, Err, if◌then◌else◌}
 use Rattle.std.specs.List.{list_all}
 use Rattle.std.specs.Str.{bytes_eq}
 use Rattle.std.specs.Str.Parse.{digits_value}
@@ -7,7 +9,8 @@ use Rattle.mc_text.specs.declared.bundle_fault.BundleFault.{BundleFault}
 use Rattle.mc_text.specs.declared.bundle_fault.BundleFault.TheVariants as faults
 use Rattle.mc_text.specs.Number.{is_decimal}
 use Rattle.mc_text.specs.Steps.{◌>>=◌}
-use Rattle.mc_text.specs.Bundle.{PartText, is_name_byte, max_name, max_line, max_part, max_bundle, max_parts}
+use Rattle.mc_text.specs.Bundle.{PartText, is_name_byte, max_name, max_line, max_part, max_bundle}
+use Rattle.mc_text.specs.Bundle.{max_parts}
 
 -- A function's fault is the one that reading gives. Want of memory says nothing of reading.
 abbrev pub Fails : {Y : Type 0} → BundleFault → Result Y BundleFault → Type 0
@@ -21,11 +24,12 @@ Gives view (Err fault) read = Fails fault read
 
 -- ---- lines
 
--- The bytes before the line feed, which stands here, and those after it. With none in sight it is decided
--- by whether the input has a whole line's bytes left.
+-- The bytes before the line feed, which stands here, and those after it. With none in sight it is
+-- decided by whether the input has a whole line's bytes left.
 abbrev pub cut_line : List ℕ → Option ℕ → Result (List ℕ × List ℕ) BundleFault
 cut_line rest (Some n) = Ok (take n rest, drop (n + 1) rest)
-cut_line rest None = if nat_lt (length rest) max_line then Err faults.NoEnd else Err faults.BadPartLine
+cut_line rest None =
+    if nat_lt (length rest) max_line then Err faults.NoEnd else Err faults.BadPartLine
 
 -- the line at the front, whose line feed is the first one, and the bytes after it
 unfoldable pub line_at : List ℕ → Result (List ℕ × List ℕ) BundleFault

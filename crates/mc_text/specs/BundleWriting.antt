@@ -5,7 +5,8 @@ use Rattle.mc_text.specs.declared.bundle_fault.BundleFault.{BundleFault}
 use Rattle.mc_text.specs.declared.bundle_fault.BundleFault.TheVariants as faults
 use Rattle.mc_text.specs.Bundle.{PartText, IsBundle}
 
--- it ends with the first write that fails, and a bundle that is too large is no failure of the device
+-- it ends with the first write that fails, and a bundle that is too large is no failure of the
+-- device
 abbrev pub failed_by_writing : {X : Type 0} → Result X BundleFault → ℕ → ℕ
 failed_by_writing (Ok x) before = before
 failed_by_writing (Err faults.Write) before = before + 1

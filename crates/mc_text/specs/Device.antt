@@ -1,5 +1,6 @@
 -- What a call does to the number of a device's calls that failed.
-use Rattle.std.specs.Prelude.{ℕ, ◌+◌, ◌<◌, ◌==◌, ◌&&◌, nat_lt, List, length, take, Option, Result, Ok, Err, if◌then◌else◌}
+use Rattle.std.specs.Prelude.{ℕ, ◌+◌, ◌<◌, ◌==◌, ◌&&◌, nat_lt, List, length, take, Option, Result}
+use Rattle.std.specs.Prelude.{Ok, Err, if◌then◌else◌}
 use Rattle.std.specs.Io.KnownBytes.{Appends}
 use Rattle.mc_text.specs.declared.device.DeviceFault.{DeviceFault}
 
@@ -10,7 +11,8 @@ failed_by_read (Err e) before = before + 1
 
 -- a write fails where it answers an error, and where it takes no byte of a text that has one
 abbrev pub failed_by_write : Result ℕ DeviceFault → List ℕ → ℕ → ℕ
-failed_by_write (Ok n) text before = if (n == 0) && nat_lt 0 (length text) then before + 1 else before
+failed_by_write (Ok n) text before =
+    if (n == 0) && nat_lt 0 (length text) then before + 1 else before
 failed_by_write (Err e) text before = before + 1
 
 -- a call that writes a whole text ends with the first write that fails

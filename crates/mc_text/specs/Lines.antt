@@ -1,5 +1,6 @@
 -- The lines of a text: what stands between its line feeds, numbered from 1.
-use Rattle.std.specs.Prelude.{◌≢◌, ℕ, ◌+◌, ◌<◌, ◌==◌, IsTrue, MatchBool, Bool, true, false, List, [], ◌∷◌, ◌++◌, length, if◌then◌else◌}
+use Rattle.std.specs.Prelude.{◌≢◌, ℕ, ◌+◌, ◌<◌, ◌==◌, IsTrue, MatchBool, Bool, true, false, List}
+use Rattle.std.specs.Prelude.{[], ◌∷◌, ◌++◌, length, if◌then◌else◌}
 use Rattle.std.specs.List.{slice_split, flat_map, AllByRecursion}
 
 -- the greatest length of a text that is read as lines, in bytes
@@ -12,8 +13,8 @@ pub record LineText : Type 0 where
   pub bytes : List ℕ
   pub ended : Bool
 
--- Of the parts between line feeds each but the last is a line that one ends. What stands after the last
--- line feed is a line that none ends, if it is not empty.
+-- Of the parts between line feeds each but the last is a line that one ends. What stands after the
+-- last line feed is a line that none ends, if it is not empty.
 abbrev pub numbered : ℕ → List (List ℕ) → List LineText
 numbered n [] = []
 numbered n (part ∷ []) =

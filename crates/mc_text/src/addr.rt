@@ -1,9 +1,11 @@
 //! IPv4 addresses, as people write them and as a kernel's tables show them.
 
-ghost use Rattle.std.specs.Prelude.{◌≡◌, ℕ, ◌<◌, ◌^◌, ◌==◌, ◌↔◌, List, length, IsTrue, IfSome, Some, Ok};
+ghost use Rattle.std.specs.Prelude.{◌≡◌, ℕ, ◌<◌, ◌^◌, ◌==◌, ◌↔◌, List, length, IsTrue, IfSome};
+ghost use Rattle.std.specs.Prelude.{Some, Ok};
 ghost use Rattle.std.specs.Int.{w32, from_be_bytes};
 ghost use Rattle.hex.specs.Hex.{decode_of};
-ghost use Rattle.mc_text.specs.Addr.{IsAddr, IsForwardedGroup, IsSource, is_forwarded_group, is_source, octets_of, dotted};
+ghost use Rattle.mc_text.specs.Addr.{IsAddr, IsForwardedGroup, IsSource, is_forwarded_group};
+ghost use Rattle.mc_text.specs.Addr.{is_source, octets_of, dotted};
 ghost use Rattle.mc_text.specs.AddressReading.{address_of_text, address_of_word};
 ghost use Rattle.mc_text.specs.AddressWord.{IsAddressWord};
 
@@ -86,9 +88,9 @@ impl Addr {
         address_written(text)
     }
 
-    /// Reads an address word of `/proc/net/ip_mr_vif` and `/proc/net/ip_mr_cache`: eight hexadecimal
-    /// digits of either case, which the kernel prints of the four network-order bytes taken as one
-    /// number of its machine (`%08X` in net/ipv4/ipmr.c).
+    /// Reads an address word of `/proc/net/ip_mr_vif` and `/proc/net/ip_mr_cache`: eight
+    /// hexadecimal digits of either case, which the kernel prints of the four network-order bytes
+    /// taken as one number of its machine (`%08X` in net/ipv4/ipmr.c).
     pub fn from_hex_word(word: &[u8], order: Order) -> Option<Addr>
         ensures found { IfSome result (λ a. IsAddressWord order word.now a) }
         ensures in_range { IfSome result IsAddr }

@@ -1,8 +1,10 @@
 //! Reading a bundle.
 
-ghost use Rattle.std.specs.Prelude.{◌≡◌, ◌≢◌, ◌-◌, ◌<◌, ◌≤◌, List, length, min, IfOk, Ok, Err, Some, slice_get, option_map, None};
+ghost use Rattle.std.specs.Prelude.{◌≡◌, ◌≢◌, ◌-◌, ◌<◌, ◌≤◌, List, length, min, IfOk, Ok, Err};
+ghost use Rattle.std.specs.Prelude.{Some, slice_get, option_map, None};
 ghost use Rattle.mc_text.specs.Bundle.{PartText, IsBundle, max_bundle, max_parts};
-ghost use Rattle.mc_text.specs.BundleReading.{Gives, part_bytes_at as part_bytes_of, part_place, end_place, place_of, parts_from, bundle_of};
+ghost use Rattle.mc_text.specs.BundleReading.{Gives, part_bytes_at as part_bytes_of, part_place};
+ghost use Rattle.mc_text.specs.BundleReading.{end_place, place_of, parts_from, bundle_of};
 ghost use Rattle.mc_text.specs.PartView.{part_text, part_texts};
 ghost use Rattle.mc_text.specs.PlaceView.{place_text, found_text};
 
@@ -149,10 +151,11 @@ impl<'a> Model for Bundle<'a> {
 }
 
 impl<'a> Bundle<'a> {
-    /// Reads a bundle: at most 1,538 parts of at most 16,777,216 bytes, and 268,435,456 bytes in all.
+    /// Reads a bundle: at most 1,538 parts of at most 16,777,216 bytes, and 268,435,456 bytes in
+    /// all.
     ///
-    /// The first line is `mcaudit bundle 1`. A part is a line `part`, its name and its length, the bytes,
-    /// and a line feed. The line `end` stands last.
+    /// The first line is `mcaudit bundle 1`. A part is a line `part`, its name and its length, the
+    /// bytes, and a line feed. The line `end` stands last.
     ///
     /// # Errors
     ///

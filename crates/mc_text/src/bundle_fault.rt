@@ -8,8 +8,8 @@ pub enum BundleFault {
     /// (1) The first line isn't `mcaudit bundle 1`.
     #[error("NoMagic")]
     NoMagic,
-    /// (2) At a line's place: no line feed among the next 96 bytes, or a line that is neither `end` nor a
-    /// part's. After a part: another byte than a line feed.
+    /// (2) At a line's place: no line feed among the next 96 bytes, or a line that is neither `end`
+    /// nor a part's. After a part: another byte than a line feed.
     #[error("BadPartLine")]
     BadPartLine,
     /// (3) The input ends before a part's last byte or its line feed.
@@ -21,7 +21,8 @@ pub enum BundleFault {
     /// (5) A byte stands after the line `end`.
     #[error("AfterEnd")]
     AfterEnd,
-    /// (6) A part passes 16,777,216 bytes, the bundle 268,435,456 bytes, or there are more than 1,538 parts.
+    /// (6) A part passes 16,777,216 bytes, the bundle 268,435,456 bytes, or there are more than
+    /// 1,538 parts.
     #[error("TooLarge")]
     TooLarge,
     /// (7) The input failed. No call answers this yet.

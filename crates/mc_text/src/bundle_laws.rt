@@ -2,7 +2,8 @@
 
 ghost use Rattle.std.specs.Prelude.{◌≡◌, ℕ, List, Ok};
 ghost use Rattle.std.specs.List.{AllByRecursion};
-ghost use Rattle.mc_text.specs.Bundle.{PartText, IsPartName, bundle_spelling, AreWithinLimits, IsBundle};
+ghost use Rattle.mc_text.specs.Bundle.{PartText, IsPartName, bundle_spelling, AreWithinLimits};
+ghost use Rattle.mc_text.specs.Bundle.{IsBundle};
 ghost use Rattle.mc_text.specs.BundleReading.{bundle_of};
 
 /// A text is the bundle of one list of parts at most: no two lists of parts have the same bytes.

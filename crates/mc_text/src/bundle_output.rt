@@ -1,6 +1,7 @@
 //! Writing a bundle.
 
-ghost use Rattle.std.specs.Prelude.{◌≡◌, ◌≢◌, ◌+◌, ◌++◌, codes, flat_map, ◌↔◌, ◌⊎◌, ◌<◌, ◌≤◌, length, OnOk, OnErr, IfErr, IsErrOf};
+ghost use Rattle.std.specs.Prelude.{◌≡◌, ◌≢◌, ◌+◌, ◌++◌, codes, flat_map, ◌↔◌, ◌⊎◌, ◌<◌, ◌≤◌};
+ghost use Rattle.std.specs.Prelude.{length, OnOk, OnErr, IfErr, IsErrOf};
 ghost use Rattle.std.specs.Bool.{OnTrue, OnFalse};
 ghost use Rattle.std.specs.Io.KnownBytes.{Appends};
 ghost use Rattle.std.specs.List.{AllByRecursion};
@@ -16,13 +17,13 @@ use crate::output_bytes::{write_all, write_pieces};
 use crate::part::Part;
 use itoa::Buffer;
 
-/// Writes the bundle of the parts: at most 1,538 parts of at most 16,777,216 bytes, and 268,435,456 bytes
-/// in all. It takes no memory. The output's count of failures has to be below `u64::MAX`.
+/// Writes the bundle of the parts: at most 1,538 parts of at most 16,777,216 bytes, and 268,435,456
+/// bytes in all. It takes no memory. The output's count of failures has to be below `u64::MAX`.
 ///
 /// # Errors
 ///
-/// `TooLarge` where the parts pass a limit, and nothing is written. `Write` at the first call that answers
-/// an error or takes no byte; a proper part of the bundle was written then, from its front.
+/// `TooLarge` where the parts pass a limit, and nothing is written. `Write` at the first call that
+/// answers an error or takes no byte; a proper part of the bundle was written then, from its front.
 pub fn write_bundle<W: Output>(parts: &[Part<'_>], output: &mut W) -> Result<(), BundleFault>
     requires { W.failed output.old < u64.MAX }
     ensures same { W.names output.new ≡ W.names output.old }
@@ -32,11 +33,13 @@ pub fn write_bundle<W: Output>(parts: &[Part<'_>], output: &mut W) -> Result<(),
     // It fails for two reasons only.
     ensures faults { IfErr result
         (λ fault. (fault ≡ BundleFault.TooLarge) ⊎ (fault ≡ BundleFault.Write)) }
-    ensures too_large { IsErrOf result BundleFault.TooLarge ↔ ¬ AreWithinLimits (part_texts parts.now) }
+    ensures too_large { IsErrOf result BundleFault.TooLarge
+        ↔ ¬ AreWithinLimits (part_texts parts.now) }
     ensures unwritten { IfErr result
         (λ fault. fault ≢ BundleFault.Write → output.new ≡ output.old) }
     ensures cut { IsErrOf result BundleFault.Write
-        → AppendsPart (W.took output.old) (W.took output.new) (bundle_spelling (part_texts parts.now)) }
+        → AppendsPart
+        (W.took output.old) (W.took output.new) (bundle_spelling (part_texts parts.now)) }
     ensures cut_within { IsErrOf result BundleFault.Write → AreWithinLimits (part_texts parts.now) }
     ensures failures { W.failed output.new ≡ failed_by_writing result (W.failed output.old) }
 {
@@ -85,8 +88,8 @@ fn write_parts<W: Output>(output: &mut W, parts: &[Part<'_>]) -> Result<(), Devi
     ensures same { W.names output.new ≡ W.names output.old }
     ensures ok { OnOk result
         (Appends (W.took output.old) (W.took output.new) (bundle_spelling (part_texts parts.now))) }
-    ensures err { OnErr result
-        (AppendsPart (W.took output.old) (W.took output.new) (bundle_spelling (part_texts parts.now))) }
+    ensures err { OnErr result (AppendsPart
+        (W.took output.old) (W.took output.new) (bundle_spelling (part_texts parts.now))) }
     ensures failures { W.failed output.new ≡ failed_by_write_all result (W.failed output.old) }
 {
     write_all(output, MAGIC)?;
@@ -114,7 +117,8 @@ fn write_part<W: Output>(output: &mut W, part: &Part<'_>) -> Result<(), DeviceFa
 /// The pieces of a part.
 fn pieces_of<'a>(name: &'a [u8], digits: &'a [u8], bytes: &'a [u8]) -> [&'a [u8]; 7]
     ensures { flat_map (λ piece. piece.now) result
-        ≡ (codes "part " ++ (name.now ++ (codes " " ++ digits.now)) ++ codes "\n") ++ (bytes.now ++ codes "\n") }
+        ≡ (codes "part " ++ (name.now ++ (codes " " ++ digits.now)) ++ codes "\n")
+        ++ (bytes.now ++ codes "\n") }
 {
     [b"part ", name, b" ", digits, b"\n", bytes, b"\n"]
 }

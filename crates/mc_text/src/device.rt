@@ -1,4 +1,5 @@
-//! What bytes come from and go to: inputs and outputs, which may fail, and count how often they did.
+//! What bytes come from and go to: inputs and outputs, which may fail, and count how often they
+//! did.
 
 ghost use Rattle.std.specs.Prelude.{◌≡◌, ◌<◌, ◌∷◌, ℕ, List, [], Option, Some, codes};
 ghost use Rattle.std.specs.Borrow.{GName};
@@ -33,9 +34,9 @@ pub trait Input {
     // the references that it is reached through
     ghost names: { Self → List GName } = { λ _. [] };
 
-    /// Puts the next bytes at the buffer's front, and answers how many. It answers 0 only at the end of
-    /// the input or for an empty buffer. A call that answers an error took no byte. It may be called while
-    /// the count of failures is below `u64::MAX`.
+    /// Puts the next bytes at the buffer's front, and answers how many. It answers 0 only at the
+    /// end of the input or for an empty buffer. A call that answers an error took no byte. It may
+    /// be called while the count of failures is below `u64::MAX`.
     fn read(&mut self, buffer: &mut [u8]) -> Result<usize, DeviceFault>
         requires { failed self.old < u64.MAX }
         ensures same { names self.new ≡ names self.old }
@@ -75,8 +76,8 @@ pub trait Output {
     // the references that it is reached through
     ghost names: { Self → List GName } = { λ _. [] };
 
-    /// Takes bytes from the text's front, and answers how many. A call that answers an error took none. It
-    /// may be called while the count of failures is below `u64::MAX`.
+    /// Takes bytes from the text's front, and answers how many. A call that answers an error took
+    /// none. It may be called while the count of failures is below `u64::MAX`.
     fn write(&mut self, text: &[u8]) -> Result<usize, DeviceFault>
         requires { failed self.old < u64.MAX }
         ensures same { names self.new ≡ names self.old }

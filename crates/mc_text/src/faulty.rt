@@ -1,4 +1,5 @@
-//! Devices that give and take little, or fail on the way: for the tests of whoever reads and writes.
+//! Devices that give and take little, or fail on the way: for the tests of whoever reads and
+//! writes.
 
 ghost use Rattle.std.specs.Prelude.{◌≡◌, [], Some};
 

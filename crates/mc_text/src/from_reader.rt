@@ -1,4 +1,5 @@
-//! Inputs over the readers of std. Standard input tells no bytes; a reader of what lies in memory does.
+//! Inputs over the readers of std. Standard input tells no bytes; a reader of what lies in memory
+//! does.
 
 ghost use Rattle.std.specs.Prelude.{◌≡◌};
 

@@ -1,6 +1,7 @@
 //! Reading a whole input, up to a limit.
 
-ghost use Rattle.std.specs.Prelude.{◌≡◌, ◌<◌, ◌≤◌, ◌-◌, ◌++◌, length, vec_len, take, IfOk, IfSome, OnOk};
+ghost use Rattle.std.specs.Prelude.{◌≡◌, ◌<◌, ◌≤◌, ◌-◌, ◌++◌, length, vec_len, take, IfOk, IfSome};
+ghost use Rattle.std.specs.Prelude.{OnOk};
 ghost use Rattle.std.specs.Io.KnownBytes.{Consumes, IsAtEnd};
 ghost use Rattle.mc_text.specs.ReadFault.{ConsumesUpTo, failed_by_reading, ReadsMore};
 
@@ -19,13 +20,14 @@ pub enum ReadFault {
     Memory,
 }
 
-/// Reads until the end of the input, or until it has read `limit` bytes. It asks for at most 65,536 bytes
-/// at once, and never for a byte past the limit. The input's count of failures has to be below `u64::MAX`.
+/// Reads until the end of the input, or until it has read `limit` bytes. It asks for at most 65,536
+/// bytes at once, and never for a byte past the limit. The input's count of failures has to be
+/// below `u64::MAX`.
 ///
 /// # Errors
 ///
-/// `Read` at the first error of the input, and `Memory` where what was read finds no room. The bytes that
-/// were read are lost then.
+/// `Read` at the first error of the input, and `Memory` where what was read finds no room. The
+/// bytes that were read are lost then.
 pub fn read_to_limit<R: Input>(
     alloc: Global,
     input: &mut R,
@@ -38,7 +40,8 @@ pub fn read_to_limit<R: Input>(
     ensures bytes { IfOk result
         (λ bytes. IfSome (R.told input.old) (λ text. bytes.items ≡ take limit text)) }
     // The rest is left in the input, and where less than the limit was read there is none.
-    ensures rest { IfOk result (λ bytes. Consumes (R.told input.old) (R.told input.new) bytes.items) }
+    ensures rest { IfOk result
+        (λ bytes. Consumes (R.told input.old) (R.told input.new) bytes.items) }
     // Whatever the answer, no more than the limit was read.
     ensures consumed { ConsumesUpTo limit (R.told input.old) (R.told input.new) }
     ensures end { IfOk result (λ bytes. vec_len bytes < limit → IsAtEnd (R.told input.new)) }
@@ -50,7 +53,8 @@ pub fn read_to_limit<R: Input>(
     Ok(bytes)
 }
 
-/// Reads on, through the buffer, until the bytes are as many as the limit or the input is at its end.
+/// Reads on, through the buffer, until the bytes are as many as the limit or the input is at its
+/// end.
 fn fill_to_limit<R: Input>(
     input: &mut R,
     bytes: &mut Vec<u8>,
@@ -64,7 +68,8 @@ fn fill_to_limit<R: Input>(
     ensures bound { OnOk result (vec_len bytes.new ≤ limit) }
     ensures bytes { OnOk result
         (ReadsMore (R.told input.old) (R.told input.new) bytes.old.items bytes.new.items) }
-    ensures consumed { ConsumesUpTo (limit - length bytes.old.items) (R.told input.old) (R.told input.new) }
+    ensures consumed { ConsumesUpTo
+        (limit - length bytes.old.items) (R.told input.old) (R.told input.new) }
     ensures end { OnOk result (vec_len bytes.new < limit → IsAtEnd (R.told input.new)) }
     ensures failures { R.failed input.new ≡ failed_by_reading result (R.failed input.old) }
 {

@@ -7,7 +7,8 @@ ghost use Rattle.std.specs.Ordering.{nat_cmp};
 ghost use Rattle.mc_text.specs.Addr.{IsAddr, octets_of, dotted};
 ghost use Rattle.mc_text.specs.AddressReading.{address_of_text, address_of_word};
 ghost use Rattle.mc_text.specs.AddressWord.{IsAddressWord};
-ghost use Rattle.mc_text.specs.Lines.{HasNoLineFeed, OnlyLastMayBeUnended, joined, lines_of, max_text};
+ghost use Rattle.mc_text.specs.Lines.{HasNoLineFeed, OnlyLastMayBeUnended, joined, lines_of};
+ghost use Rattle.mc_text.specs.Lines.{max_text};
 ghost use Rattle.mc_text.specs.Number.{IsDecimal, number_up_to};
 ghost use Rattle.mc_text.specs.declared.addr.Order.{Order};
 
@@ -30,7 +31,8 @@ pub fn lines_end_at_line_feeds()
     ensures ended { (text : List ℕ) → OnlyLastMayBeUnended (lines_of text) }
 {}
 
-/// Addresses are ordered by their octets, of which the first counts most. Their numbers are ordered so too.
+/// Addresses are ordered by their octets, of which the first counts most. Their numbers are ordered
+/// so too.
 pub fn addresses_are_ordered_by_octets()
     ensures order { (a b : ℕ) → IsAddr a → IsAddr b
         → ⟦<Addr as Ord>⟧.cmp a b ≡ slice_cmp nat_cmp (octets_of a) (octets_of b) }

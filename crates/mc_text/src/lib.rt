@@ -1,7 +1,7 @@
-//! Texts as operators and kernels write them: addresses, lines, words and numbers; the devices that bytes
-//! come from and go to; the names of network devices; and the bundle, the one stream of named parts. Of
-//! multicast it knows two ranges of addresses alone: the groups that routers forward and the sources that
-//! hosts may send from. Nothing here knows of a domain.
+//! Texts as operators and kernels write them: addresses, lines, words and numbers; the devices that
+//! bytes come from and go to; the names of network devices; and the bundle, the one stream of named
+//! parts. Of multicast it knows two ranges of addresses alone: the groups that routers forward and
+//! the sources that hosts may send from. Nothing here knows of a domain.
 #![tactic(auto)]
 
 mod addr;

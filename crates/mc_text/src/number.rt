@@ -5,8 +5,8 @@ ghost use Rattle.std.specs.Option.{SomeIff};
 ghost use Rattle.std.specs.Char.{digit_value, is_ascii_digit};
 ghost use Rattle.mc_text.specs.Number.{IsDecimal, number_up_to};
 
-/// Reads one or more decimal digits whose number is at most `max`. Leading zeros are allowed, however
-/// many, and nothing else stands in the word.
+/// Reads one or more decimal digits whose number is at most `max`. Leading zeros are allowed,
+/// however many, and nothing else stands in the word.
 pub fn decimal(word: &[u8], max: u64) -> Option<u64>
     ensures found { IfSome result (λ n. IsDecimal word.now n) }
     ensures bound { IfSome result (λ n. n ≤ max) }

@@ -6,13 +6,13 @@ ghost use Rattle.mc_text.specs.Device.{failed_by_write_all, AppendsPart};
 
 use crate::device::{DeviceFault, Output};
 
-/// Writes the whole text, by as many calls of `write` as it takes. The output's count of failures has to
-/// be below `u64::MAX`.
+/// Writes the whole text, by as many calls of `write` as it takes. The output's count of failures
+/// has to be below `u64::MAX`.
 ///
 /// # Errors
 ///
-/// At the first call of `write` that answers an error or takes no byte. A proper part of the text was taken
-/// then, from its front.
+/// At the first call of `write` that answers an error or takes no byte. A proper part of the text
+/// was taken then, from its front.
 pub fn write_all<W: Output>(output: &mut W, text: &[u8]) -> Result<(), DeviceFault>
     requires { W.failed output.old < u64.MAX }
     ensures same { W.names output.new ≡ W.names output.old }
@@ -35,8 +35,8 @@ pub fn write_all<W: Output>(output: &mut W, text: &[u8]) -> Result<(), DeviceFau
 pub(crate) fn write_pieces<W: Output>(output: &mut W, pieces: &[&[u8]]) -> Result<(), DeviceFault>
     requires { W.failed output.old < u64.MAX }
     ensures same { W.names output.new ≡ W.names output.old }
-    ensures ok { OnOk result
-        (Appends (W.took output.old) (W.took output.new) (flat_map (λ piece. piece.now) pieces.now)) }
+    ensures ok { OnOk result (Appends
+        (W.took output.old) (W.took output.new) (flat_map (λ piece. piece.now) pieces.now)) }
     ensures err { OnErr result (AppendsPart
         (W.took output.old) (W.took output.new) (flat_map (λ piece. piece.now) pieces.now)) }
     ensures failures { W.failed output.new ≡ failed_by_write_all result (W.failed output.old) }

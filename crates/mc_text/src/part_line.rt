@@ -4,7 +4,9 @@ ghost use Rattle.std.specs.Prelude.{◌≡◌, min, true, option_map};
 ghost use Rattle.std.specs.Char.{is_ascii_digit};
 ghost use Rattle.std.specs.List.{list_all};
 ghost use Rattle.std.specs.Str.Parse.{digits_value};
-ghost use Rattle.mc_text.specs.BundleReading.{Gives, line_at as line_of, is_length as is_length_word, part_said as said_by, words_said as said_by_words};
+ghost use Rattle.mc_text.specs.BundleReading.{Gives, line_at as line_of};
+ghost use Rattle.mc_text.specs.BundleReading.{is_length as is_length_word, part_said as said_by};
+ghost use Rattle.mc_text.specs.BundleReading.{words_said as said_by_words};
 ghost use Rattle.mc_text.specs.Number.{is_decimal};
 
 use crate::bundle_fault::BundleFault;
@@ -28,8 +30,8 @@ pub(crate) fn line_at(rest: &[u8]) -> Result<(&[u8], &[u8]), BundleFault>
     }
 }
 
-/// The name and the length that a part line says. A length of more than 64 bits is told as the greatest
-/// one of 64.
+/// The name and the length that a part line says. A length of more than 64 bits is told as the
+/// greatest one of 64.
 #[tactic(auto, unfolding(crate::specs::BundleReading::part_said))]
 pub(crate) fn part_said(line: &[u8]) -> Option<(PartName, u64)>
     ensures { result ≡ option_map (λ said. (said.0, min said.1 u64.MAX)) (said_by line.now) }

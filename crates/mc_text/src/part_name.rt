@@ -39,7 +39,8 @@ impl Model for PartName {
 }
 
 impl PartName {
-    /// The name of these bytes. There is none where they are no byte, more than 64, or not all of those.
+    /// The name of these bytes. There is none where they are no byte, more than 64, or not all of
+    /// those.
     pub fn new(bytes: &[u8]) -> Option<PartName>
         ensures found { IfSome result (λ name. name ≡ bytes.now) }
         ensures is_name { IfSome result IsPartName }

@@ -70,8 +70,8 @@ fn goes_through_memory(rt: HostRuntime) -> Result<(), Fail> {
     Ok(())
 }
 
-/// Reads up to four bytes through a reference to the input. Its clauses show that the lender knows its
-/// device afterwards.
+/// Reads up to four bytes through a reference to the input. Its clauses show that the lender knows
+/// its device afterwards.
 fn read_lent<R: Input>(alloc: Global, input: &mut R) -> Result<Vec<u8>, ReadFault>
     requires { R.failed input.old < u64.MAX }
     ensures same { R.names input.new ≡ R.names input.old }

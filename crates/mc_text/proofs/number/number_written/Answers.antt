@@ -1,6 +1,6 @@
 use Rattle.std.proofs.Common.{arith, length, sym, rules}
 use Rattle.std.proofs.lemmas.Bool.{eqb-false}
-use Rattle.mc_text.proofs.NumberSteps.{one_more, not_more, all_read}
+use Rattle.mc_text.proofs.NumberReading.{one_more, not_more, all_read}
 use Rattle.mc_text.proofs.number.number_written.Goals as goal
 
 pub returns-in_err-number-clause-only : goal.returns-in_err-number-clause-only

@@ -1,5 +1,5 @@
 use Rattle.std.proofs.Common.{drop}
-use Rattle.mc_text.proofs.NumberSteps.{IsReadTo}
+use Rattle.mc_text.proofs.NumberReading.{IsReadTo}
 use Rattle.mc_text.proofs.number.number_written.Given as goal
 
 -- after the number so far the bytes left are read as the whole word is

@@ -2,7 +2,7 @@ use Rattle.std.proofs.Common.{ℕ, ◌+◌, List, take, ap, sym, ◌∙◌, Ok, 
 use Rattle.std.proofs.lemmas.Bool.{lt-ltb, cond-true}
 use Rattle.std.proofs.lemmas.List.{take_rest}
 use Rattle.mc_text.specs.declared.bundle_fault.BundleFault.TheVariants.{NoEnd, BadPartLine}
-use Rattle.mc_text.proofs.BundleLines.{line_found}
+use Rattle.mc_text.proofs.BundleWords.{line_found}
 use Rattle.mc_text.proofs.part_line.line_at.Goals as goal
 
 pub returns-in-Some : goal.returns-in-Some

@@ -1,5 +1,8 @@
 -- The JSON value that a certificate's text is, and what it stands for.
-use Rattle.std.proofs.Common.{◌≡◌, ℕ, zero, suc, ◌+◌, ◌^◌, ◌<◌, ◌≤◌, All, Bool, true, false, cond, List, [], ◌∷◌, ◌++◌, length, get_or, fold, map, codes, decimal, Option, Some, None, option_map, unwrap_or, IfSome, is_some, IsUtf8, refl, sym, ap, ap₂, subst, ◌∙◌, arith, append_assoc, lit<}
+use Rattle.std.proofs.Common.{◌≡◌, ℕ, zero, suc, ◌+◌, ◌^◌, ◌<◌, ◌≤◌, All, Bool, true, false, cond}
+use Rattle.std.proofs.Common.{List, [], ◌∷◌, ◌++◌, length, get_or, fold, map, codes, decimal}
+use Rattle.std.proofs.Common.{Option, Some, None, option_map, unwrap_or, IfSome, is_some, IsUtf8}
+use Rattle.std.proofs.Common.{refl, sym, ap, ap₂, subst, ◌∙◌, arith, append_assoc, lit<}
 use Rattle.std.specs.Prelude.{slice_get}
 use Rattle.std.specs.List.{AllByRecursion, zip}
 use Rattle.std.proofs.lemmas.Fmt.{decimal_digit}
@@ -8,10 +11,12 @@ use Rattle.std.proofs.lemmas.List.Quantifiers.{position-Some}
 use Rattle.std.proofs.lemmas.Option.{slice_get-get_or}
 use Rattle.json.specs.Print.{escape, escape_byte, quoted}
 use Rattle.json.proofs.Printed.Utf8.{IsUtf8-are_ascii}
-use Rattle.serde_json.specs.Data.{Data, unsigned, number, string, array, object, Items, Members, no_members, member}
+use Rattle.serde_json.specs.Data.{Data, unsigned, number, string, array, object, Items, Members}
+use Rattle.serde_json.specs.Data.{no_members, member}
 use Rattle.serde_json.specs.Find.{get_member}
 use Rattle.serde_json.specs.Read.{read, of_items, of_members}
-use Rattle.serde_json.specs.Written.{items_outline, members_outline, compact_text, items_text, members_text, comma_if}
+use Rattle.serde_json.specs.Written.{items_outline, members_outline, compact_text, items_text}
+use Rattle.serde_json.specs.Written.{members_text, comma_if}
 use Rattle.serde_json.proofs.Numbers.{number_of-decimal}
 use Rattle.mc_text.specs.Addr.{dotted}
 use Rattle.mc_theory.specs.Nets.{Interface}
@@ -22,24 +27,32 @@ use Rattle.mc_topology.specs.Topology.{TopologyValue, IsTopology}
 use Rattle.mc_topology.proofs.NameLemmas.{number_of_lan, number_of_router}
 use Rattle.mc_cert.specs.declared.version.Version.TheVariants.{Two}
 use Rattle.mc_cert.specs.Certificate.{Tree, IsListed, IsList, IsOfBytes, IsEntryOf, BelongsTo}
-use Rattle.mc_cert.specs.CertificateText.{lan_name, router_name, listed_after, listed, forwarder_text, entry_text, tree_text, flow_text, flow_texts, text_of, certificate_text}
+use Rattle.mc_cert.specs.CertificateText.{lan_name, router_name, listed_after, listed}
+use Rattle.mc_cert.specs.CertificateText.{forwarder_text, entry_text, tree_text, flow_text}
+use Rattle.mc_cert.specs.CertificateText.{flow_texts, text_of, certificate_text}
 use Rattle.mc_cert.specs.Distinct.{same_tree, place_in, with_tree, distinct_trees, place_of}
 use Rattle.mc_cert.specs.Entries.{entry_keys}
 use Rattle.mc_cert.specs.Object.{has_only, rows_in}
-use Rattle.mc_cert.specs.Stands.{EachStands, IsForwarder, IsEntry, IsTree, IsSharedFlow, CertificateStands}
-use Rattle.mc_cert.proofs.JsonValues.{IsPlain, escape_plain, name_plain, dotted_plain, IsGood, good_string, good_number, good_array, items_from, good_items, HasGood, good_none, good_member, good_object, good_reads}
-use Rattle.mc_cert.proofs.PlaceLemmas.{tree_decides, with_known, with_new, place_of_new, place_stays, distinct_belong}
+use Rattle.mc_cert.specs.Stands.{EachStands, IsForwarder, IsEntry, IsTree, IsSharedFlow}
+use Rattle.mc_cert.specs.Stands.{CertificateStands}
+use Rattle.mc_cert.proofs.JsonValues.{IsPlain, escape_plain, name_plain, dotted_plain, IsGood}
+use Rattle.mc_cert.proofs.JsonValues.{good_string, good_number, good_array, items_from, good_items}
+use Rattle.mc_cert.proofs.JsonValues.{HasGood, good_none, good_member, good_object, good_reads}
+use Rattle.mc_cert.proofs.PlaceLemmas.{tree_decides, with_known, with_new, place_of_new}
+use Rattle.mc_cert.proofs.PlaceLemmas.{place_stays, distinct_belong}
 
 -- ---- the value
 
 abbrev forwarder_members : TopologyValue → Option Interface → Members
 forwarder_members t None = no_members
-forwarder_members t (Some i) = member (codes "router") (string (router_name t i.0)) (member (codes "vif") (number (unsigned i.1)) no_members)
+forwarder_members t (Some i) = member (codes "router") (string (router_name t i.0))
+    (member (codes "vif") (number (unsigned i.1)) no_members)
 
 abbrev entry_members : TopologyValue → Entry → Members
 entry_members t e =
     member (codes "lan") (string (lan_name t e.lan))
-    (member (codes "need") (number (unsigned e.need)) (member (codes "rank") (number (unsigned e.rank)) (forwarder_members t e.forwarder)))
+    (member (codes "need") (number (unsigned e.need))
+    (member (codes "rank") (number (unsigned e.rank)) (forwarder_members t e.forwarder)))
 
 abbrev entry_data : TopologyValue → Entry → Data
 entry_data t e = object (entry_members t e)
@@ -49,7 +62,9 @@ tree_data t es = array (items_from (entry_data t) es)
 
 abbrev flow_members : Flow × ℕ → Members
 flow_members p =
-    member (codes "group") (string (dotted p.0.group)) (member (codes "source") (string (dotted p.0.source)) (member (codes "tree") (number (unsigned p.1)) no_members))
+    member (codes "group") (string (dotted p.0.group))
+    (member (codes "source") (string (dotted p.0.source))
+    (member (codes "tree") (number (unsigned p.1)) no_members))
 
 abbrev flow_data : Flow × ℕ → Data
 flow_data p = object (flow_members p)
@@ -57,130 +72,193 @@ flow_data p = object (flow_members p)
 abbrev document : TopologyValue → List ℕ → List Tree → Members
 document t places trees =
     member (codes "flows") (array (items_from flow_data (zip t.flows places)))
-    (member (codes "trees") (array (items_from (tree_data t) trees)) (member (codes "version") (number (unsigned 2)) no_members))
+    (member (codes "trees") (array (items_from (tree_data t) trees))
+    (member (codes "version") (number (unsigned 2)) no_members))
 
 -- ---- its text
 
-forwarder_spelled : (t : TopologyValue) (forwarder : Option Interface) → IfSome forwarder (λ i. escape (router_name t i.0) ≡ router_name t i.0) → forwarder_text t forwarder ++ codes "}" ≡ members_text true (forwarder_members t forwarder)
+forwarder_spelled : (t : TopologyValue) (forwarder : Option Interface)
+    → IfSome forwarder (λ i. escape (router_name t i.0) ≡ router_name t i.0)
+    → forwarder_text t forwarder ++ codes "}" ≡ members_text true
+    (forwarder_members t forwarder)
 unfolding escape_byte
 forwarder_spelled t None plain = refl
-forwarder_spelled t (Some i) plain = spelled (router_name t i.0) (escape (router_name t i.0)) (decimal i.1) plain where
-  spelled : (name escaped vif : List ℕ) → escaped ≡ name → (codes ",\"router\":\"" ++ name ++ codes "\",\"vif\":" ++ vif) ++ codes "}"
-      ≡ 44 ∷ (quoted (codes "router") ++ 58 ∷ ((34 ∷ (escaped ++ 34 ∷ [])) ++ (44 ∷ (quoted (codes "vif") ++ 58 ∷ (vif ++ 125 ∷ [])))))
-  spelled name escaped vif e =
-      let start = codes ",\"router\":\"" in
-      let tail = 44 ∷ (quoted (codes "vif") ++ 58 ∷ (vif ++ 125 ∷ [])) in
-      let flat : (start ++ name ++ codes "\",\"vif\":" ++ vif) ++ codes "}" ≡ start ++ (name ++ 34 ∷ tail) = simp append_assoc in
-      flat ∙ ap (λ s. start ++ s) (sym (append_assoc name (34 ∷ []) tail)) ∙ ap (λ n. start ++ ((n ++ 34 ∷ []) ++ tail)) (sym e)
+forwarder_spelled t (Some i) plain = spelled (router_name t i.0) (escape (router_name t i.0))
+    (decimal i.1) plain where
+      spelled : (name escaped vif : List ℕ) → escaped ≡ name
+          → (codes ",\"router\":\"" ++ name ++ codes "\",\"vif\":" ++ vif) ++ codes "}"
+          ≡ 44 ∷ (quoted (codes "router") ++ 58 ∷ ((34 ∷ (escaped ++ 34 ∷ []))
+          ++ (44 ∷ (quoted (codes "vif") ++ 58 ∷ (vif ++ 125 ∷ [])))))
+      spelled name escaped vif e =
+          let start = codes ",\"router\":\"" in
+          let tail = 44 ∷ (quoted (codes "vif") ++ 58 ∷ (vif ++ 125 ∷ [])) in
+          let flat : (start ++ name ++ codes "\",\"vif\":" ++ vif) ++ codes "}"
+          ≡ start ++ (name ++ 34 ∷ tail) = simp append_assoc in
+          flat ∙ ap (λ s. start ++ s) (sym (append_assoc name (34 ∷ []) tail))
+          ∙ ap (λ n. start ++ ((n ++ 34 ∷ []) ++ tail)) (sym e)
 
-entry_spelled : (t : TopologyValue) (e : Entry) → escape (lan_name t e.lan) ≡ lan_name t e.lan → IfSome e.forwarder (λ i. escape (router_name t i.0) ≡ router_name t i.0) → entry_text t e ≡ compact_text (entry_data t e)
+entry_spelled : (t : TopologyValue) (e : Entry) → escape (lan_name t e.lan) ≡ lan_name t e.lan
+    → IfSome e.forwarder (λ i. escape (router_name t i.0) ≡ router_name t i.0)
+    → entry_text t e ≡ compact_text (entry_data t e)
 unfolding escape_byte
 entry_spelled t e plain plain_router =
-    spelled (lan_name t e.lan) (escape (lan_name t e.lan)) (decimal e.need) (decimal e.rank) (forwarder_text t e.forwarder) plain
+    spelled (lan_name t e.lan) (escape (lan_name t e.lan)) (decimal e.need) (decimal e.rank)
+    (forwarder_text t e.forwarder) plain
     ∙ ap
-    (λ rest. 123 ∷ (quoted (codes "lan") ++ 58 ∷ (quoted (lan_name t e.lan) ++ (44 ∷ (quoted (codes "need") ++ 58 ∷ (decimal e.need ++ (44 ∷ (quoted (codes "rank") ++ 58 ∷ (decimal e.rank ++ rest)))))))))
+    (λ rest. 123 ∷ (quoted
+    (codes "lan") ++ 58 ∷ (quoted (lan_name t e.lan)
+    ++ (44 ∷ (quoted (codes "need") ++ 58
+    ∷ (decimal e.need ++ (44 ∷ (quoted (codes "rank")
+    ++ 58 ∷ (decimal e.rank ++ rest)))))))))
     (forwarder_spelled t e.forwarder plain_router) where
       spelled : (name escaped need rank forwarder : List ℕ) → escaped ≡ name
-          → codes "{\"lan\":\"" ++ name ++ codes "\",\"need\":" ++ need ++ codes ",\"rank\":" ++ rank ++ forwarder ++ codes "}"
-          ≡ 123 ∷ (quoted (codes "lan") ++ 58 ∷ ((34 ∷ (escaped ++ 34 ∷ [])) ++ (44 ∷ (quoted (codes "need") ++ 58 ∷ (need ++ (44 ∷ (quoted (codes "rank") ++ 58 ∷ (rank ++ (forwarder ++ codes "}")))))))))
+          → codes "{\"lan\":\"" ++ name ++ codes "\",\"need\":" ++ need ++ codes
+          ",\"rank\":" ++ rank ++ forwarder ++ codes "}"
+          ≡ 123 ∷ (quoted (codes "lan") ++ 58 ∷ ((34 ∷ (escaped ++ 34 ∷ []))
+          ++ (44 ∷ (quoted (codes "need") ++ 58
+          ∷ (need ++ (44 ∷ (quoted (codes "rank") ++ 58
+          ∷ (rank ++ (forwarder ++ codes "}")))))))))
       spelled name escaped need rank forwarder e =
           let start = codes "{\"lan\":\"" in
-          let tail = 44 ∷ (quoted (codes "need") ++ 58 ∷ (need ++ (44 ∷ (quoted (codes "rank") ++ 58 ∷ (rank ++ (forwarder ++ codes "}")))))) in
-          let flat : start ++ name ++ codes "\",\"need\":" ++ need ++ codes ",\"rank\":" ++ rank ++ forwarder ++ codes "}" ≡ start ++ (name ++ 34 ∷ tail) = simp append_assoc in
-          flat ∙ ap (λ s. start ++ s) (sym (append_assoc name (34 ∷ []) tail)) ∙ ap (λ n. start ++ ((n ++ 34 ∷ []) ++ tail)) (sym e)
+          let tail = 44 ∷ (quoted (codes "need")
+          ++ 58 ∷ (need ++ (44 ∷ (quoted (codes "rank") ++ 58
+          ∷ (rank ++ (forwarder ++ codes "}")))))) in
+          let flat : start ++ name ++ codes "\",\"need\":" ++ need ++ codes
+          ",\"rank\":" ++ rank ++ forwarder ++ codes "}" ≡ start ++ (name ++ 34 ∷ tail) =
+          simp append_assoc in
+          flat ∙ ap (λ s. start ++ s) (sym (append_assoc name (34 ∷ []) tail))
+          ∙ ap (λ n. start ++ ((n ++ 34 ∷ []) ++ tail)) (sym e)
 
 flow_spelled : (p : Flow × ℕ) → flow_text p.0 p.1 ≡ compact_text (flow_data p)
 unfolding escape_byte
 flow_spelled p =
-    spelled (dotted p.0.group) (escape (dotted p.0.group)) (dotted p.0.source) (escape (dotted p.0.source)) (decimal p.1) (escape_plain _ (dotted_plain p.0.group)) (escape_plain _ (dotted_plain p.0.source)) where
-      spelled : (group escaped_group source escaped_source place : List ℕ) → escaped_group ≡ group → escaped_source ≡ source
-          → codes "{\"group\":\"" ++ group ++ codes "\",\"source\":\"" ++ source ++ codes "\",\"tree\":" ++ place ++ codes "}"
-          ≡ 123 ∷ (quoted (codes "group") ++ 58 ∷ ((34 ∷ (escaped_group ++ 34 ∷ [])) ++ (44 ∷ (quoted (codes "source") ++ 58 ∷ ((34 ∷ (escaped_source ++ 34 ∷ [])) ++ (44 ∷ (quoted (codes "tree") ++ 58 ∷ (place ++ 125 ∷ []))))))))
+    spelled (dotted p.0.group) (escape (dotted p.0.group)) (dotted p.0.source)
+    (escape (dotted p.0.source)) (decimal p.1) (escape_plain _ (dotted_plain p.0.group))
+    (escape_plain _ (dotted_plain p.0.source)) where
+      spelled : (group escaped_group source escaped_source place : List ℕ) → escaped_group ≡ group
+          → escaped_source ≡ source
+          → codes "{\"group\":\"" ++ group ++ codes "\",\"source\":\"" ++ source ++ codes
+          "\",\"tree\":" ++ place ++ codes "}"
+          ≡ 123 ∷ (quoted (codes "group") ++ 58 ∷ ((34 ∷ (escaped_group ++ 34 ∷ []))
+          ++ (44 ∷ (quoted (codes "source") ++ 58
+          ∷ ((34 ∷ (escaped_source ++ 34 ∷ []))
+          ++ (44 ∷ (quoted (codes "tree") ++ 58 ∷ (place ++ 125 ∷ []))))))))
       spelled group escaped_group source escaped_source place e f =
           let start = codes "{\"group\":\"" in
           let middle = codes ",\"source\":\"" in
           let tail = 44 ∷ (quoted (codes "tree") ++ 58 ∷ (place ++ 125 ∷ [])) in
-          let flat : start ++ group ++ codes "\",\"source\":\"" ++ source ++ codes "\",\"tree\":" ++ place ++ codes "}" ≡ start ++ (group ++ 34 ∷ (middle ++ (source ++ 34 ∷ tail))) = simp append_assoc in
-          flat ∙ ap (λ s. start ++ (group ++ 34 ∷ (middle ++ s))) (sym (append_assoc source (34 ∷ []) tail))
-          ∙ ap (λ s. start ++ s) (sym (append_assoc group (34 ∷ []) (middle ++ ((source ++ 34 ∷ []) ++ tail))))
-          ∙ ap₂ (λ g s. start ++ ((g ++ 34 ∷ []) ++ (middle ++ ((s ++ 34 ∷ []) ++ tail)))) (sym e) (sym f)
+          let flat : start ++ group ++ codes "\",\"source\":\"" ++ source ++ codes
+          "\",\"tree\":" ++ place ++ codes "}"
+          ≡ start ++ (group ++ 34 ∷ (middle ++ (source ++ 34 ∷ tail))) =
+          simp append_assoc in
+          flat ∙ ap (λ s. start ++ (group ++ 34 ∷ (middle ++ s)))
+          (sym (append_assoc source (34 ∷ []) tail))
+          ∙ ap (λ s. start ++ s)
+          (sym (append_assoc group (34 ∷ []) (middle ++ ((source ++ 34 ∷ []) ++ tail))))
+          ∙ ap₂ (λ g s. start ++ ((g ++ 34 ∷ []) ++ (middle ++ ((s ++ 34 ∷ []) ++ tail)))) (sym e)
+          (sym f)
 
 module _ {A : Type 0} (text : A → List ℕ) (f : A → Data) where
-  list_spelled : (later : Bool) (xs : List A) → AllByRecursion (λ x. text x ≡ compact_text (f x)) xs → listed_after (comma_if later) (map text xs) ++ 93 ∷ [] ≡ items_text later (items_from f xs)
+  list_spelled : (later : Bool) (xs : List A) → AllByRecursion (λ x. text x ≡ compact_text (f x)) xs
+      → listed_after (comma_if later) (map text xs) ++ 93 ∷ [] ≡ items_text later (items_from f xs)
   list_spelled later [] all = refl
   list_spelled later (x ∷ xs) (here, all) =
-      append_assoc (comma_if later ++ text x) (listed_after (codes ",") (map text xs)) (93 ∷ []) ∙ append_assoc (comma_if later) (text x) _
+      append_assoc (comma_if later ++ text x) (listed_after (codes ",") (map text xs)) (93 ∷ [])
+      ∙ append_assoc (comma_if later) (text x) _
       ∙ ap₂ (λ s rest. comma_if later ++ (s ++ rest)) here (list_spelled true xs all)
 
-document_spelled : (flows trees flow_items tree_items : List ℕ) → flows ++ 93 ∷ [] ≡ flow_items → trees ++ 93 ∷ [] ≡ tree_items
+document_spelled : (flows trees flow_items tree_items : List ℕ) → flows ++ 93 ∷ [] ≡ flow_items
+    → trees ++ 93 ∷ [] ≡ tree_items
     → codes "{\"flows\":[" ++ flows ++ codes "],\"trees\":[" ++ trees ++ codes "],\"version\":2}"
-    ≡ 123 ∷ (quoted (codes "flows") ++ 58 ∷ ((91 ∷ flow_items) ++ (44 ∷ (quoted (codes "trees") ++ 58 ∷ ((91 ∷ tree_items) ++ (44 ∷ (quoted (codes "version") ++ 58 ∷ (decimal 2 ++ 125 ∷ []))))))))
+    ≡ 123 ∷ (quoted (codes "flows") ++ 58 ∷ ((91 ∷ flow_items)
+    ++ (44 ∷ (quoted (codes "trees") ++ 58 ∷ ((91 ∷ tree_items)
+    ++ (44 ∷ (quoted (codes "version") ++ 58 ∷ (decimal 2 ++ 125 ∷ []))))))))
 unfolding escape_byte
 document_spelled flows trees flow_items tree_items e f =
     let start = codes "{\"flows\":[" in
     let middle = codes ",\"trees\":[" in
     let tail = codes ",\"version\":2}" in
-    let flat : start ++ flows ++ codes "],\"trees\":[" ++ trees ++ codes "],\"version\":2}" ≡ start ++ (flows ++ 93 ∷ (middle ++ (trees ++ 93 ∷ tail))) = simp append_assoc in
-    flat ∙ ap (λ s. start ++ (flows ++ 93 ∷ (middle ++ s))) (sym (append_assoc trees (93 ∷ []) tail))
-    ∙ ap (λ s. start ++ s) (sym (append_assoc flows (93 ∷ []) (middle ++ ((trees ++ 93 ∷ []) ++ tail))))
+    let flat : start ++ flows ++ codes "],\"trees\":[" ++ trees ++ codes "],\"version\":2}"
+    ≡ start ++ (flows ++ 93 ∷ (middle ++ (trees ++ 93 ∷ tail))) = simp append_assoc in
+    flat ∙ ap (λ s. start ++ (flows ++ 93 ∷ (middle ++ s)))
+    (sym (append_assoc trees (93 ∷ []) tail))
+    ∙ ap (λ s. start ++ s)
+    (sym (append_assoc flows (93 ∷ []) (middle ++ ((trees ++ 93 ∷ []) ++ tail))))
     ∙ ap₂ (λ x y. start ++ (x ++ (middle ++ (y ++ tail)))) e f
-    ∙ ap (λ two. start ++ (flow_items ++ (middle ++ (tree_items ++ (codes ",\"version\":" ++ (two ++ codes "}")))))) (sym (decimal_digit 2 (lit< tt)))
+    ∙ ap (λ two. start ++ (flow_items
+    ++ (middle ++ (tree_items ++ (codes ",\"version\":" ++ (two ++ codes "}"))))))
+    (sym (decimal_digit 2 (lit< tt)))
 
 -- ---- elements one by one
 
 module _ {A : Type 0} (P : A → Type 0) where
   each_of : (xs : List A) → All P xs → AllByRecursion P xs
   each_of [] all = tt
-  each_of (x ∷ xs) all = (all zero x (omega arith), each_of xs (λ k d lt. all (suc k) d (omega (arith, lt))))
+  each_of (x ∷ xs) all =
+      (all zero x (omega arith), each_of xs (λ k d lt. all (suc k) d (omega (arith, lt))))
 
   each_always : ((x : A) → P x) → (xs : List A) → AllByRecursion P xs
   each_always holds [] = tt
   each_always holds (x ∷ xs) = (holds x, each_always holds xs)
 
-  each_follows : (Q : A → Type 0) → ((x : A) → P x → Q x) → (xs : List A) → AllByRecursion P xs → AllByRecursion Q xs
+  each_follows : (Q : A → Type 0) → ((x : A) → P x → Q x) → (xs : List A) → AllByRecursion P xs
+      → AllByRecursion Q xs
   each_follows Q follows [] all = tt
   each_follows Q follows (x ∷ xs) (here, all) = (follows x here, each_follows Q follows xs all)
 
-each_map : {A B : Type 0} (P : B → Type 0) (f : A → B) (xs : List A) → AllByRecursion (λ x. P (f x)) xs → AllByRecursion P (map f xs)
+each_map : {A B : Type 0} (P : B → Type 0) (f : A → B) (xs : List A)
+    → AllByRecursion (λ x. P (f x)) xs → AllByRecursion P (map f xs)
 each_map P f [] all = tt
 each_map P f (x ∷ xs) (here, all) = (here, each_map P f xs all)
 
-each_second : {A B : Type 0} (P : B → Type 0) (xs : List A) (ys : List B) → AllByRecursion P ys → AllByRecursion (λ (p : A × B). P p.1) (zip xs ys)
+each_second : {A B : Type 0} (P : B → Type 0) (xs : List A) (ys : List B) → AllByRecursion P ys
+    → AllByRecursion (λ (p : A × B). P p.1) (zip xs ys)
 each_second P [] ys all = tt
 each_second P (x ∷ xs) [] all = tt
 each_second P (x ∷ xs) (y ∷ ys) (here, all) = (here, each_second P xs ys all)
 
-zip_length : {A B : Type 0} (xs : List A) (ys : List B) → length ys ≡ length xs → length (zip xs ys) ≡ length xs
+zip_length : {A B : Type 0} (xs : List A) (ys : List B) → length ys ≡ length xs
+    → length (zip xs ys) ≡ length xs
 zip_length [] ys e = refl
 zip_length (x ∷ xs) [] e = absurd (omega (arith, e))
-zip_length (x ∷ xs) (y ∷ ys) e = let rest = zip_length xs ys (omega (arith, e)) in omega (arith, rest)
+zip_length (x ∷ xs) (y ∷ ys) e = let rest = zip_length xs ys (omega (arith, e)) in omega
+    (arith, rest)
 
-rows_length : {A : Type 0} (f : A → Data) (xs : List A) → length (rows_in (items_from f xs)) ≡ length xs
+rows_length : {A : Type 0} (f : A → Data) (xs : List A)
+    → length (rows_in (items_from f xs)) ≡ length xs
 rows_length f [] = refl
 rows_length f (x ∷ xs) = ap suc (rows_length f xs)
 
 -- ---- names
 
-known_at : (names : List (List ℕ)) (n : ℕ) → n < length names → slice_get names n ≡ Some (unwrap_or (slice_get names n) [])
+known_at : (names : List (List ℕ)) (n : ℕ) → n < length names
+    → slice_get names n ≡ Some (unwrap_or (slice_get names n) [])
 known_at [] n lt = absurd (omega (arith, lt))
 known_at (x ∷ names) zero lt = refl
 known_at (x ∷ names) (suc n) lt = known_at names n (omega (arith, lt))
 
-row_at : (routers : List RouterRow) (n : ℕ) → n < length routers → (r : RouterRow) × (slice_get routers n ≡ Some r)
+row_at : (routers : List RouterRow) (n : ℕ) → n < length routers
+    → (r : RouterRow) × (slice_get routers n ≡ Some r)
 row_at [] n lt = absurd (omega (arith, lt))
 row_at (r ∷ routers) zero lt = (r, refl)
 row_at (r ∷ routers) (suc n) lt = row_at routers n (omega (arith, lt))
 
-lan_plain : (t : TopologyValue) (lan : ℕ) → IsTopology t → lan < length t.lans → All IsPlain (lan_name t lan)
-lan_plain t lan rules lt = name_plain (lan_name t lan) (rules.lans_named lan (lan_name t lan) (known_at t.lans lan lt))
+lan_plain : (t : TopologyValue) (lan : ℕ) → IsTopology t → lan < length t.lans
+    → All IsPlain (lan_name t lan)
+lan_plain t lan rules lt = name_plain (lan_name t lan)
+    (rules.lans_named lan (lan_name t lan) (known_at t.lans lan lt))
 
-router_is : (t : TopologyValue) (n : ℕ) (r : RouterRow) → slice_get t.routers n ≡ Some r → router_name t n ≡ r.name
-router_is t n r e = ap (λ (o : Option RouterRow). unwrap_or (option_map (λ (x : RouterRow). x.name) o) []) e
+router_is : (t : TopologyValue) (n : ℕ) (r : RouterRow) → slice_get t.routers n ≡ Some r
+    → router_name t n ≡ r.name
+router_is t n r e = ap
+    (λ (o : Option RouterRow). unwrap_or (option_map (λ (x : RouterRow). x.name) o) []) e
 
-router_plain : (t : TopologyValue) (n : ℕ) → IsTopology t → n < length t.routers → All IsPlain (router_name t n)
+router_plain : (t : TopologyValue) (n : ℕ) → IsTopology t → n < length t.routers
+    → All IsPlain (router_name t n)
 router_plain t n rules lt =
     let (r, at) = row_at t.routers n lt in
-    subst (λ (s : List ℕ). All IsPlain s) (sym (router_is t n r at)) (name_plain r.name (rules.routers_named n r at))
+    subst (λ (s : List ℕ). All IsPlain s) (sym (router_is t n r at))
+    (name_plain r.name (rules.routers_named n r at))
 
 -- ---- entries
 
@@ -194,38 +272,57 @@ record IsWritten (t : TopologyValue) (e : Entry) : Type 0 where
 abbrev IsKnown : TopologyValue → Interface → Type 0
 IsKnown t i = (i.0 < length t.routers) × (i.1 ≤ 31)
 
-known : (t : TopologyValue) (forwarder : Option Interface) → IfSome forwarder (λ i. i.0 < length t.routers) → IfSome forwarder (λ i. i.1 ≤ 31) → IfSome forwarder (IsKnown t)
+known : (t : TopologyValue) (forwarder : Option Interface)
+    → IfSome forwarder (λ i. i.0 < length t.routers) → IfSome forwarder (λ i. i.1 ≤ 31)
+    → IfSome forwarder (IsKnown t)
 known t None router vif = tt
 known t (Some i) router vif = (router, vif)
 
-plain_forwarder : (t : TopologyValue) → IsTopology t → (forwarder : Option Interface) → IfSome forwarder (IsKnown t) → IfSome forwarder (λ i. escape (router_name t i.0) ≡ router_name t i.0)
+plain_forwarder : (t : TopologyValue) → IsTopology t → (forwarder : Option Interface)
+    → IfSome forwarder (IsKnown t) → IfSome forwarder
+    (λ i. escape (router_name t i.0) ≡ router_name t i.0)
 plain_forwarder t rules None is = tt
-plain_forwarder t rules (Some i) is = escape_plain (router_name t i.0) (router_plain t i.0 rules is.0)
+plain_forwarder t rules (Some i) is = escape_plain (router_name t i.0)
+    (router_plain t i.0 rules is.0)
 
-good_forwarder : (t : TopologyValue) → IsTopology t → (forwarder : Option Interface) → IfSome forwarder (IsKnown t) → HasGood 0 (forwarder_members t forwarder)
+good_forwarder : (t : TopologyValue) → IsTopology t → (forwarder : Option Interface)
+    → IfSome forwarder (IsKnown t) → HasGood 0 (forwarder_members t forwarder)
 good_forwarder t rules None is = good_none 0
 good_forwarder t rules (Some i) is =
-    good_member 0 (codes "router") _ _ (IsUtf8-are_ascii _ refl) (good_string 0 (router_name t i.0) (router_plain t i.0 rules is.0))
-    (good_member 0 (codes "vif") _ no_members (IsUtf8-are_ascii _ refl) (good_number 0 i.1 (omega (arith, is.1))) (good_none 0))
+    good_member 0 (codes "router") _ _ (IsUtf8-are_ascii _ refl)
+    (good_string 0 (router_name t i.0) (router_plain t i.0 rules is.0))
+    (good_member 0 (codes "vif") _ no_members (IsUtf8-are_ascii _ refl)
+    (good_number 0 i.1 (omega (arith, is.1))) (good_none 0))
 
 -- the members of an entry
 abbrev fields : TopologyValue → List ℕ → ℕ → ℕ → Option Interface → Members
 fields t name need rank forwarder =
-    member (codes "lan") (string name) (member (codes "need") (number (unsigned need)) (member (codes "rank") (number (unsigned rank)) (forwarder_members t forwarder)))
+    member (codes "lan") (string name) (member (codes "need") (number (unsigned need))
+    (member (codes "rank") (number (unsigned rank)) (forwarder_members t forwarder)))
 
-fields_read : (t : TopologyValue) (name : List ℕ) (need rank : ℕ) (forwarder : Option Interface) → need < 2 ^ 64 → rank < 2 ^ 64 → IfSome forwarder (IsKnown t)
-    → of_members (members_outline (fields t name need rank forwarder)) no_members ≡ Some (fields t name need rank forwarder)
-fields_read t name need rank None need_small rank_small is = rw (number_of-decimal need need_small, number_of-decimal rank rank_small) refl
+fields_read : (t : TopologyValue) (name : List ℕ) (need rank : ℕ) (forwarder : Option Interface)
+    → need < 2 ^ 64 → rank < 2 ^ 64 → IfSome forwarder (IsKnown t)
+    → of_members (members_outline (fields t name need rank forwarder)) no_members
+    ≡ Some (fields t name need rank forwarder)
+fields_read t name need rank None need_small rank_small is =
+    rw (number_of-decimal need need_small, number_of-decimal rank rank_small) refl
 fields_read t name need rank (Some i) need_small rank_small is =
     let vif_small : i.1 < 2 ^ 64 = omega (arith, is.1) in
-    rw (number_of-decimal need need_small, number_of-decimal rank rank_small, number_of-decimal i.1 vif_small) refl
+    rw (
+      number_of-decimal need need_small,
+      number_of-decimal rank rank_small,
+      number_of-decimal i.1 vif_small,
+    ) refl
 
-fields_known : (t : TopologyValue) (name : List ℕ) (need rank : ℕ) (forwarder : Option Interface) → has_only entry_keys (fields t name need rank forwarder) ≡ true
+fields_known : (t : TopologyValue) (name : List ℕ) (need rank : ℕ) (forwarder : Option Interface)
+    → has_only entry_keys (fields t name need rank forwarder) ≡ true
 fields_known t name need rank None = refl
 fields_known t name need rank (Some i) = refl
 
-forwarder_stands : (t : TopologyValue) → IsTopology t → (name : List ℕ) (need rank : ℕ) (forwarder : Option Interface) → IfSome forwarder (IsKnown t)
-    → IsForwarder t.routers (get_member (codes "router") (fields t name need rank forwarder)) (get_member (codes "vif") (fields t name need rank forwarder)) forwarder
+forwarder_stands : (t : TopologyValue) → IsTopology t
+    → (name : List ℕ) (need rank : ℕ) (forwarder : Option Interface) → IfSome forwarder (IsKnown t)
+    → IsForwarder t.routers (get_member (codes "router") (fields t name need rank forwarder))
+    (get_member (codes "vif") (fields t name need rank forwarder)) forwarder
 forwarder_stands t rules name need rank None is = refl
 forwarder_stands t rules name need rank (Some i) is =
     let (r, at) = row_at t.routers i.0 is.0 in (
@@ -234,46 +331,61 @@ forwarder_stands t rules name need rank (Some i) is =
       record {
         name = router_name t i.0;
         router_text = refl;
-        router = number_of_router t.routers i.0 (router_name t i.0) rules.router_names (ap (option_map (λ (x : RouterRow). x.name)) at ∙ ap Some (sym (router_is t i.0 r at)));
+        router = number_of_router t.routers i.0 (router_name t i.0) rules.router_names
+            (ap (option_map (λ (x : RouterRow). x.name)) at ∙ ap Some (sym (router_is t i.0 r at)));
         vif = refl;
         vif_to = is.1;
       },
     )
 
-good_entry : (t : TopologyValue) (e : Entry) → IsTopology t → IsWritten t e → IsGood 1 (entry_data t e)
+good_entry : (t : TopologyValue) (e : Entry) → IsTopology t → IsWritten t e
+    → IsGood 1 (entry_data t e)
 good_entry t e rules is =
     let forwarder = known t e.forwarder is.among.router is.listed.vif in
     let need_small : e.need < 2 ^ 64 = omega (arith, is.need) in
     let rank_small : e.rank < 2 ^ 64 = omega (arith, is.rank) in
-    good_object 0 (entry_members t e) (fields_read t (lan_name t e.lan) e.need e.rank e.forwarder need_small rank_small forwarder)
-    (good_member 0 (codes "lan") _ _ (IsUtf8-are_ascii _ refl) (good_string 0 (lan_name t e.lan) (lan_plain t e.lan rules is.among.lan))
+    good_object 0 (entry_members t e) (fields_read t (lan_name t e.lan) e.need e.rank e.forwarder
+    need_small rank_small forwarder)
+    (good_member 0 (codes "lan") _ _ (IsUtf8-are_ascii _ refl)
+    (good_string 0 (lan_name t e.lan) (lan_plain t e.lan rules is.among.lan))
     (good_member 0 (codes "need") _ _ (IsUtf8-are_ascii _ refl) (good_number 0 e.need need_small)
-    (good_member 0 (codes "rank") _ _ (IsUtf8-are_ascii _ refl) (good_number 0 e.rank rank_small) (good_forwarder t rules e.forwarder forwarder))))
+    (good_member 0 (codes "rank") _ _ (IsUtf8-are_ascii _ refl) (good_number 0 e.rank rank_small)
+    (good_forwarder t rules e.forwarder forwarder))))
 
-written_entry : (t : TopologyValue) (e : Entry) → IsTopology t → IsWritten t e → entry_text t e ≡ compact_text (entry_data t e)
+written_entry : (t : TopologyValue) (e : Entry) → IsTopology t → IsWritten t e
+    → entry_text t e ≡ compact_text (entry_data t e)
 written_entry t e rules is =
-    entry_spelled t e (escape_plain (lan_name t e.lan) (lan_plain t e.lan rules is.among.lan)) (plain_forwarder t rules e.forwarder (known t e.forwarder is.among.router is.listed.vif))
+    entry_spelled t e (escape_plain (lan_name t e.lan) (lan_plain t e.lan rules is.among.lan))
+    (plain_forwarder t rules e.forwarder (known t e.forwarder is.among.router is.listed.vif))
 
-entry_stands : (t : TopologyValue) (e : Entry) → IsTopology t → IsWritten t e → IsEntry t (entry_data t e) e
+entry_stands : (t : TopologyValue) (e : Entry) → IsTopology t → IsWritten t e
+    → IsEntry t (entry_data t e) e
 entry_stands t e rules is =
     record {
       members = entry_members t e;
       lan_name = lan_name t e.lan;
-      is_object = record { members = refl; keys = fields_known t (lan_name t e.lan) e.need e.rank e.forwarder };
+      is_object = record {
+        members = refl;
+        keys =
+            fields_known t (lan_name t e.lan) e.need e.rank e.forwarder;
+      };
       lan_text = refl;
-      lan = number_of_lan t.lans e.lan (lan_name t e.lan) rules.lan_names (known_at t.lans e.lan is.among.lan);
+      lan = number_of_lan t.lans e.lan (lan_name t e.lan) rules.lan_names
+          (known_at t.lans e.lan is.among.lan);
       need = refl;
       need_from = is.listed.need;
       need_to = is.need;
       rank = refl;
       rank_to = is.rank;
-      forwarder = forwarder_stands t rules (lan_name t e.lan) e.need e.rank e.forwarder (known t e.forwarder is.among.router is.listed.vif);
+      forwarder = forwarder_stands t rules (lan_name t e.lan) e.need e.rank e.forwarder
+          (known t e.forwarder is.among.router is.listed.vif);
     }
 
 -- ---- trees
 
 module _ {X : Type 0} (Stands : ℕ → Data → X → Type 0) (f : X → Data) where
-  each_stands : (n : ℕ) (xs : List X) → AllByRecursion (λ x. (m : ℕ) → Stands m (f x) x) xs → EachStands Stands n (rows_in (items_from f xs)) xs
+  each_stands : (n : ℕ) (xs : List X) → AllByRecursion (λ x. (m : ℕ) → Stands m (f x) x) xs
+      → EachStands Stands n (rows_in (items_from f xs)) xs
   each_stands n [] all = tt
   each_stands n (x ∷ xs) (here, all) = (here n, each_stands (n + 1) xs all)
 
@@ -281,17 +393,23 @@ record IsWrittenTree (t : TopologyValue) (es : Tree) : Type 0 where
   pub few : length es ≤ 1024
   pub each : AllByRecursion (IsWritten t) es
 
-good_tree : (t : TopologyValue) (es : Tree) → IsTopology t → IsWrittenTree t es → IsGood 2 (tree_data t es)
+good_tree : (t : TopologyValue) (es : Tree) → IsTopology t → IsWrittenTree t es
+    → IsGood 2 (tree_data t es)
 good_tree t es rules is =
-    good_array 1 _ (good_items (entry_data t) 1 es (each_follows (IsWritten t) (λ e. IsGood 1 (entry_data t e)) (λ e written. good_entry t e rules written) es is.each))
+    good_array 1 _ (good_items (entry_data t) 1 es
+    (each_follows (IsWritten t) (λ e. IsGood 1 (entry_data t e))
+    (λ e written. good_entry t e rules written) es is.each))
 
-written_tree : (t : TopologyValue) (es : Tree) → IsTopology t → IsWrittenTree t es → tree_text t es ≡ compact_text (tree_data t es)
+written_tree : (t : TopologyValue) (es : Tree) → IsTopology t → IsWrittenTree t es
+    → tree_text t es ≡ compact_text (tree_data t es)
 written_tree t es rules is =
     ap (λ s. 91 ∷ s)
     (list_spelled (entry_text t) (entry_data t) false es
-    (each_follows (IsWritten t) (λ e. entry_text t e ≡ compact_text (entry_data t e)) (λ e written. written_entry t e rules written) es is.each))
+    (each_follows (IsWritten t) (λ e. entry_text t e ≡ compact_text (entry_data t e))
+    (λ e written. written_entry t e rules written) es is.each))
 
-tree_stands : (t : TopologyValue) (es : Tree) → IsTopology t → IsWrittenTree t es → IsTree t (tree_data t es) es
+tree_stands : (t : TopologyValue) (es : Tree) → IsTopology t → IsWrittenTree t es
+    → IsTree t (tree_data t es) es
 tree_stands t es rules is =
     record {
       rows = rows_in (items_from (entry_data t) es);
@@ -299,34 +417,55 @@ tree_stands t es rules is =
       entries = record {
         few = let same = rows_length (entry_data t) es in omega (arith, same, is.few);
         each = each_stands (λ _. IsEntry t) (entry_data t) 0 es
-            (each_follows (IsWritten t) (λ e. (m : ℕ) → IsEntry t (entry_data t e) e) (λ e written m. entry_stands t e rules written) es is.each);
+            (each_follows (IsWritten t) (λ e. (m : ℕ) → IsEntry t (entry_data t e) e)
+            (λ e written m. entry_stands t e rules written) es is.each);
       };
     }
 
 -- ---- the different trees
 
 -- each flow's tree is one of them
-found_all : (trees flows : List Tree) → AllByRecursion (λ es. (k : ℕ) × (place_in (fold with_tree trees flows) es ≡ Some k)) flows
+found_all : (trees flows : List Tree) → AllByRecursion
+    (λ es. (k : ℕ) × (place_in (fold with_tree trees flows) es ≡ Some k)) flows
 found_all trees [] = tt
-found_all trees (es ∷ flows) = (first (place_in trees es) refl, found_all (with_tree trees es) flows) where
-  first : (o : Option ℕ) → place_in trees es ≡ o → (k : ℕ) × (place_in (fold with_tree (with_tree trees es) flows) es ≡ Some k)
-  first (Some k) e = (k, place_stays (with_tree trees es) es k flows (ap (λ (ts : List Tree). place_in ts es) (with_known trees es k e) ∙ e))
-  first None e = (length trees, place_stays (with_tree trees es) es (length trees) flows (ap (λ (ts : List Tree). place_in ts es) (with_new trees es e) ∙ place_of_new trees es e))
+found_all trees (es ∷ flows) = (
+  first (place_in trees es) refl,
+  found_all (with_tree trees es) flows,
+) where
+  first : (o : Option ℕ) → place_in trees es ≡ o
+      → (k : ℕ) × (place_in (fold with_tree (with_tree trees es) flows) es ≡ Some k)
+  first (Some k) e = (
+    k,
+    place_stays (with_tree trees es) es k flows
+        (ap (λ (ts : List Tree). place_in ts es) (with_known trees es k e) ∙ e),
+  )
+  first None e = (
+    length trees,
+    place_stays (with_tree trees es) es (length trees) flows
+        (ap (λ (ts : List Tree). place_in ts es) (with_new trees es e) ∙ place_of_new trees es e),
+  )
 
-with_few : (b : Bool) (trees : List Tree) (es : Tree) → length (cond b trees (trees ++ es ∷ [])) ≤ length trees + 1
+with_few : (b : Bool) (trees : List Tree) (es : Tree)
+    → length (cond b trees (trees ++ es ∷ [])) ≤ length trees + 1
 with_few true trees es = omega arith
 with_few false trees es = omega (arith, length-append trees (es ∷ []))
 
-distinct_few : (trees flows : List Tree) → length (fold with_tree trees flows) ≤ length trees + length flows
+distinct_few : (trees flows : List Tree) → length (fold with_tree trees flows) ≤ length trees +
+    length flows
 distinct_few trees [] = omega arith
-distinct_few trees (es ∷ flows) = omega (arith, with_few (is_some (place_in trees es)) trees es, distinct_few (with_tree trees es) flows)
+distinct_few trees (es ∷ flows) = omega (
+  arith,
+  with_few (is_some (place_in trees es)) trees es,
+  distinct_few (with_tree trees es) flows,
+)
 
 -- a tree stands at its place
 record IsPlaced (trees : List Tree) (es : Tree) : Type 0 where
   within : place_of trees es < length trees
   there : slice_get trees (place_of trees es) ≡ Some es
 
-placed : (trees : List Tree) (es : Tree) → (k : ℕ) × (place_in trees es ≡ Some k) → IsPlaced trees es
+placed : (trees : List Tree) (es : Tree) → (k : ℕ) × (place_in trees es ≡ Some k)
+    → IsPlaced trees es
 placed trees es (k, e) =
     let at = position-Some (same_tree es) trees k es e in
     let place : place_of trees es ≡ k = ap (λ o. unwrap_or o 0) e in
@@ -341,11 +480,16 @@ placed trees es (k, e) =
 good_flow : (p : Flow × ℕ) → p.1 < 2 ^ 64 → IsGood 2 (flow_data p)
 good_flow p small =
     good_object 1 (flow_members p) (rw (number_of-decimal p.1 small) refl)
-    (good_member 1 (codes "group") _ _ (IsUtf8-are_ascii _ refl) (good_string 1 (dotted p.0.group) (dotted_plain p.0.group))
-    (good_member 1 (codes "source") _ _ (IsUtf8-are_ascii _ refl) (good_string 1 (dotted p.0.source) (dotted_plain p.0.source))
-    (good_member 1 (codes "tree") _ no_members (IsUtf8-are_ascii _ refl) (good_number 1 p.1 small) (good_none 1))))
+    (good_member 1 (codes "group") _ _ (IsUtf8-are_ascii _ refl)
+    (good_string 1 (dotted p.0.group) (dotted_plain p.0.group))
+    (good_member 1 (codes "source") _ _ (IsUtf8-are_ascii _ refl)
+    (good_string 1 (dotted p.0.source) (dotted_plain p.0.source))
+    (good_member 1 (codes "tree") _ no_members (IsUtf8-are_ascii _ refl) (good_number 1 p.1 small)
+    (good_none 1))))
 
-flow_stands : (t : TopologyValue) (trees : List Tree) (n : ℕ) (f : Flow) (es : Tree) → slice_get t.flows n ≡ Some f → IsPlaced trees es → IsSharedFlow t trees n (flow_data (f, place_of trees es)) es
+flow_stands : (t : TopologyValue) (trees : List Tree) (n : ℕ) (f : Flow) (es : Tree)
+    → slice_get t.flows n ≡ Some f → IsPlaced trees es
+    → IsSharedFlow t trees n (flow_data (f, place_of trees es)) es
 flow_stands t trees n f es listed is =
     record {
       flow = f;
@@ -359,64 +503,105 @@ flow_stands t trees n f es listed is =
       tree = is.there;
     }
 
-flows_stand : (t : TopologyValue) (trees : List Tree) (n : ℕ) (fs : List Flow) (flows : List Tree) → ((k : ℕ) (f : Flow) → slice_get fs k ≡ Some f → slice_get t.flows (n + k) ≡ Some f)
+flows_stand : (t : TopologyValue) (trees : List Tree) (n : ℕ) (fs : List Flow) (flows : List Tree)
+    → ((k : ℕ) (f : Flow) → slice_get fs k ≡ Some f → slice_get t.flows (n + k) ≡ Some f)
     → length flows ≡ length fs → AllByRecursion (IsPlaced trees) flows
-    → EachStands (IsSharedFlow t trees) n (rows_in (items_from flow_data (zip fs (map (place_of trees) flows)))) flows
+    → EachStands (IsSharedFlow t trees) n
+    (rows_in (items_from flow_data (zip fs (map (place_of trees) flows)))) flows
 flows_stand t trees n [] [] listed count all = tt
 flows_stand t trees n [] (es ∷ flows) listed count all = absurd (omega (arith, count))
 flows_stand t trees n (f ∷ fs) [] listed count all = absurd (omega (arith, count))
 flows_stand t trees n (f ∷ fs) (es ∷ flows) listed count (here, all) =
     let now : n + 0 ≡ n = omega arith in (
-      flow_stands t trees n f es (subst (λ (k : ℕ). slice_get t.flows k ≡ Some f) now (listed zero f refl)) here,
+      flow_stands t trees n f es (subst (λ (k : ℕ). slice_get t.flows k ≡ Some f) now
+          (listed zero f refl)) here,
       flows_stand t trees (n + 1) fs flows
-          (λ k g at. let next : n + suc k ≡ (n + 1) + k = omega arith in subst (λ (m : ℕ). slice_get t.flows m ≡ Some g) next (listed (suc k) g at))
+          (λ k g at. let next : n + suc k ≡ (n + 1) + k =
+          omega arith in subst (λ (m : ℕ). slice_get t.flows m ≡ Some g) next
+          (listed (suc k) g at))
           (omega (arith, count)) all,
     )
 
 -- ---- the text as a whole
 
 no_deeper : (n m : ℕ) (d : Data) → n ≤ m → IsGood n d → IsGood m d
-no_deeper n m d le good = record { reads = good.reads; numbers = good.numbers; shallow = omega (arith, good.shallow, le); utf8 = good.utf8 }
+no_deeper n m d le good = record {
+  reads = good.reads;
+  numbers = good.numbers;
+  shallow =
+      omega (arith, good.shallow, le);
+  utf8 = good.utf8;
+}
 
-document_read : (flows trees : Items) (n : ℕ) → of_items (items_outline flows) ≡ Some flows → of_items (items_outline trees) ≡ Some trees → n < 2 ^ 64
-    → of_members (members_outline (member (codes "flows") (array flows) (member (codes "trees") (array trees) (member (codes "version") (number (unsigned n)) no_members)))) no_members
-    ≡ Some (member (codes "flows") (array flows) (member (codes "trees") (array trees) (member (codes "version") (number (unsigned n)) no_members)))
+document_read : (flows trees : Items) (n : ℕ) → of_items (items_outline flows) ≡ Some flows
+    → of_items (items_outline trees) ≡ Some trees → n < 2 ^ 64
+    → of_members (members_outline (member (codes "flows") (array flows)
+    (member (codes "trees") (array trees) (member (codes "version")
+    (number (unsigned n)) no_members)))) no_members
+    ≡ Some (member (codes "flows") (array flows)
+    (member (codes "trees") (array trees) (member (codes "version")
+    (number (unsigned n)) no_members)))
 document_read flows trees n e f small = rw (e, f, number_of-decimal n small) refl
 
-good_document : (t : TopologyValue) (places : List ℕ) (trees : List Tree) → IsTopology t → AllByRecursion (λ n. n < 2 ^ 64) places → AllByRecursion (IsWrittenTree t) trees → IsGood 127 (object (document t places trees))
+good_document : (t : TopologyValue) (places : List ℕ) (trees : List Tree) → IsTopology t
+    → AllByRecursion (λ n. n < 2 ^ 64) places → AllByRecursion (IsWrittenTree t) trees
+    → IsGood 127 (object (document t places trees))
 good_document t places trees rules small written =
     let flows_good =
     good_items flow_data 2 (zip t.flows places)
-    (each_follows (λ (p : Flow × ℕ). p.1 < 2 ^ 64) (λ (p : Flow × ℕ). IsGood 2 (flow_data p)) good_flow (zip t.flows places) (each_second (λ n. n < 2 ^ 64) t.flows places small)) in
-    let trees_good = good_items (tree_data t) 2 trees (each_follows (IsWrittenTree t) (λ es. IsGood 2 (tree_data t es)) (λ es is. good_tree t es rules is) trees written) in
+    (each_follows (λ (p : Flow × ℕ). p.1 < 2 ^ 64) (λ (p : Flow × ℕ). IsGood 2 (flow_data p))
+    good_flow (zip t.flows places) (each_second (λ n. n < 2 ^ 64) t.flows places small)) in
+    let trees_good = good_items (tree_data t) 2 trees
+    (each_follows (IsWrittenTree t) (λ es. IsGood 2 (tree_data t es))
+    (λ es is. good_tree t es rules is) trees written) in
     no_deeper 4 127 _ (omega arith)
-    (good_object 3 (document t places trees) (document_read _ _ 2 flows_good.reads trees_good.reads (omega arith))
+    (good_object 3 (document t places trees) (document_read _ _ 2 flows_good.reads trees_good.reads
+    (omega arith))
     (good_member 3 (codes "flows") _ _ (IsUtf8-are_ascii _ refl) (good_array 2 _ flows_good)
     (good_member 3 (codes "trees") _ _ (IsUtf8-are_ascii _ refl) (good_array 2 _ trees_good)
-    (good_member 3 (codes "version") _ no_members (IsUtf8-are_ascii _ refl) (good_number 3 2 (omega arith)) (good_none 3)))))
+    (good_member 3 (codes "version") _ no_members (IsUtf8-are_ascii _ refl)
+    (good_number 3 2 (omega arith)) (good_none 3)))))
 
-written_document : (t : TopologyValue) (places : List ℕ) (trees : List Tree) → IsTopology t → AllByRecursion (IsWrittenTree t) trees → text_of t places trees ≡ compact_text (object (document t places trees))
+written_document : (t : TopologyValue) (places : List ℕ) (trees : List Tree) → IsTopology t
+    → AllByRecursion (IsWrittenTree t) trees → text_of t places trees
+    ≡ compact_text (object (document t places trees))
 unfolding escape_byte
 written_document t places trees rules written =
     document_spelled (listed (flow_texts t.flows places)) (listed (map (tree_text t) trees)) _ _
-    (list_spelled (λ p. flow_text p.0 p.1) flow_data false (zip t.flows places) (each_always (λ p. flow_text p.0 p.1 ≡ compact_text (flow_data p)) flow_spelled (zip t.flows places)))
-    (list_spelled (tree_text t) (tree_data t) false trees (each_follows (IsWrittenTree t) (λ es. tree_text t es ≡ compact_text (tree_data t es)) (λ es is. written_tree t es rules is) trees written))
+    (list_spelled (λ p. flow_text p.0 p.1) flow_data false (zip t.flows places)
+    (each_always (λ p. flow_text p.0 p.1 ≡ compact_text (flow_data p)) flow_spelled
+    (zip t.flows places)))
+    (list_spelled (tree_text t) (tree_data t) false trees
+    (each_follows (IsWrittenTree t) (λ es. tree_text t es ≡ compact_text (tree_data t es))
+    (λ es is. written_tree t es rules is) trees written))
 
 -- what is written stands for the certificate
-written_stands : (t : TopologyValue) (flows : List Tree) → IsTopology t → length flows ≡ length t.flows → All (IsWrittenTree t) (distinct_trees flows) → length (certificate_text t flows) ≤ 16777216
+written_stands : (t : TopologyValue) (flows : List Tree) → IsTopology t
+    → length flows ≡ length t.flows → All (IsWrittenTree t) (distinct_trees flows)
+    → length (certificate_text t flows) ≤ 16777216
     → CertificateStands t (certificate_text t flows) flows
 written_stands t flows rules count all few =
     let trees = distinct_trees flows in
     let places = map (place_of trees) flows in
     let written : AllByRecursion (IsWrittenTree t) trees = each_of (IsWrittenTree t) trees all in
-    let few_trees : length trees ≤ 4096 = omega (arith, distinct_few [] flows, count, rules.few_flows) in
-    let at : AllByRecursion (IsPlaced trees) flows = each_follows (λ es. (k : ℕ) × (place_in trees es ≡ Some k)) (IsPlaced trees) (placed trees) flows (found_all [] flows) in
+    let few_trees : length trees ≤ 4096 = omega (
+      arith,
+      distinct_few [] flows,
+      count,
+      rules.few_flows,
+    ) in
+    let at : AllByRecursion (IsPlaced trees) flows =
+    each_follows (λ es. (k : ℕ) × (place_in trees es ≡ Some k)) (IsPlaced trees)
+    (placed trees) flows (found_all [] flows) in
     let small : AllByRecursion (λ n. n < 2 ^ 64) places =
-    each_map (λ n. n < 2 ^ 64) (place_of trees) flows (each_follows (IsPlaced trees) (λ es. place_of trees es < 2 ^ 64) (λ es is. omega (arith, is.within, few_trees)) flows at) in
+    each_map (λ n. n < 2 ^ 64) (place_of trees) flows
+    (each_follows (IsPlaced trees) (λ es. place_of trees es < 2 ^ 64)
+    (λ es is. omega (arith, is.within, few_trees)) flows at) in
     let good = good_document t places trees rules small written in
     let text = written_document t places trees rules written in
     let flow_count = rows_length flow_data (zip t.flows places) in
-    let zipped = zip_length t.flows places (omega (arith, length-map flows (place_of trees), count)) in
+    let zipped = zip_length t.flows places
+    (omega (arith, length-map flows (place_of trees), count)) in
     let tree_count = rows_length (tree_data t) trees in
     record {
       document = document t places trees;
@@ -430,35 +615,63 @@ written_stands t flows rules count all few =
         rows = rows_in (items_from flow_data (zip t.flows places));
         tree_rows = rows_in (items_from (tree_data t) trees);
         trees = trees;
-        list = (array (items_from flow_data (zip t.flows places)), refl, (items_from flow_data (zip t.flows places), refl, refl));
+        list = (
+          array (items_from flow_data (zip t.flows places)),
+          refl,
+          (items_from flow_data (zip t.flows places), refl, refl),
+        );
         count = omega (arith, flow_count, zipped);
-        tree_list = (array (items_from (tree_data t) trees), refl, (items_from (tree_data t) trees, refl, refl));
+        tree_list = (
+          array (items_from (tree_data t) trees),
+          refl,
+          (items_from (tree_data t) trees, refl, refl),
+        );
         few_trees = omega (arith, tree_count, few_trees);
         each_tree = each_stands (λ _. IsTree t) (tree_data t) 0 trees
-            (each_follows (IsWrittenTree t) (λ es. (m : ℕ) → IsTree t (tree_data t es) es) (λ es is m. tree_stands t es rules is) trees written);
-        each = flows_stand t trees 0 t.flows flows (λ k f here. let same : k ≡ 0 + k = omega arith in subst (λ (m : ℕ). slice_get t.flows m ≡ Some f) same here) count at;
+            (each_follows (IsWrittenTree t) (λ es. (m : ℕ) → IsTree t (tree_data t es) es)
+            (λ es is m. tree_stands t es rules is) trees written);
+        each = flows_stand t trees 0 t.flows flows
+            (λ k f here. let same : k ≡ 0 + k = omega arith in subst
+            (λ (m : ℕ). slice_get t.flows m ≡ Some f) same here) count at;
       };
     }
 
-written_tree_is : (t : TopologyValue) (es : Tree) → IsList es → All IsOfBytes es → All (IsEntryOf t) es → IsWrittenTree t es
+written_tree_is : (t : TopologyValue) (es : Tree) → IsList es → All IsOfBytes es
+    → All (IsEntryOf t) es → IsWrittenTree t es
 written_tree_is t es list bytes among =
     record {
       few = list.few;
-      each = each_of (IsWritten t) es (λ k d lt. record { listed = list.each k d lt; among = among k d lt; need = (bytes k d lt).need; rank = (bytes k d lt).rank });
+      each = each_of (IsWritten t) es
+          (λ k d lt. record {
+            listed = list.each k d lt;
+            among = among k d lt;
+            need =
+                (bytes k d lt).need;
+            rank = (bytes k d lt).rank;
+          });
     }
 
 -- the same by the different trees
-pub text_stands : (t : TopologyValue) (flows trees : List Tree) (text : List ℕ) → IsTopology t → BelongsTo t flows → trees ≡ distinct_trees flows → All IsList trees → All (All IsOfBytes) trees
+pub text_stands : (t : TopologyValue) (flows trees : List Tree) (text : List ℕ) → IsTopology t
+    → BelongsTo t flows → trees ≡ distinct_trees flows → All IsList trees
+    → All (All IsOfBytes) trees
     → text ≡ certificate_text t flows → length text ≤ 16777216 → CertificateStands t text flows
 text_stands t flows trees text rules belongs made lists bytes is few =
-    let among : All (All (IsEntryOf t)) trees = distinct_belong (All (IsEntryOf t)) flows flows trees refl belongs.entries made in
-    let written : All (IsWrittenTree t) trees = λ k d lt. written_tree_is t (get_or trees k d) (lists k d lt) (bytes k d lt) (among k d lt) in
-    let short : length (certificate_text t flows) ≤ 16777216 = subst (λ (s : List ℕ). length s ≤ 16777216) is few in
-    subst (λ (s : List ℕ). CertificateStands t s flows) (sym is) (written_stands t flows rules belongs.count (subst (λ (ts : List Tree). All (IsWrittenTree t) ts) made written) short)
+    let among : All (All (IsEntryOf t)) trees = distinct_belong
+    (All (IsEntryOf t)) flows flows trees refl belongs.entries made in
+    let written : All (IsWrittenTree t) trees = λ k d lt. written_tree_is t (get_or trees k d)
+    (lists k d lt) (bytes k d lt) (among k d lt) in
+    let short : length (certificate_text t flows) ≤ 16777216 =
+    subst (λ (s : List ℕ). length s ≤ 16777216) is few in
+    subst (λ (s : List ℕ). CertificateStands t s flows) (sym is)
+    (written_stands t flows rules belongs.count
+    (subst (λ (ts : List Tree). All (IsWrittenTree t) ts) made written) short)
 
-pub texts_stand : (t : TopologyValue) (flows : List Tree) → IsTopology t → BelongsTo t flows → All IsList flows → All (All IsOfBytes) flows → length (certificate_text t flows) ≤ 16777216
+pub texts_stand : (t : TopologyValue) (flows : List Tree) → IsTopology t → BelongsTo t flows
+    → All IsList flows → All (All IsOfBytes) flows → length (certificate_text t flows) ≤ 16777216
     → CertificateStands t (certificate_text t flows) flows
 texts_stand t flows rules belongs lists bytes few =
     let trees = distinct_trees flows in
-    text_stands t flows trees (certificate_text t flows) rules belongs refl (distinct_belong IsList flows flows trees refl lists refl)
+    text_stands t flows trees (certificate_text t flows) rules belongs refl
+    (distinct_belong IsList flows flows trees refl lists refl)
     (distinct_belong (All IsOfBytes) flows flows trees refl bytes refl) refl few

@@ -1,12 +1,16 @@
 -- What stands under a key is read, and what is read stands there.
-use Rattle.std.proofs.Common.{◌≡◌, ℕ, ◌≤◌, cond, List, length, Option, Some, None, Ok, Err, nat_le, ◌&&◌, le-leb, refl, sym, ap, subst, ◌∙◌}
+use Rattle.std.proofs.Common.{◌≡◌, ℕ, ◌≤◌, cond, List, length, Option, Some, None, Ok, Err, nat_le}
+use Rattle.std.proofs.Common.{◌&&◌, le-leb, refl, sym, ap, subst, ◌∙◌}
 use Rattle.std.specs.Option.{ok_or}
 use Rattle.std.proofs.lemmas.Bool.{leb-true, and_parts}
-use Rattle.serde_json.specs.Data.{Num, unsigned, negative, float, Data, null, boolean, number, string, array, object, Items, Members}
+use Rattle.serde_json.specs.Data.{Num, unsigned, negative, float, Data, null, boolean, number}
+use Rattle.serde_json.specs.Data.{string, array, object, Items, Members}
 use Rattle.serde_json.specs.Find.{get_member, as_str, as_number, as_array, as_object, as_u64}
 use Rattle.mc_topology.proofs.Steps.{bind_ok, test_ok, ok_or_ok, ok_is}
-use Rattle.mc_cert.specs.declared.fault.CertFaultKind.TheVariants.{MissingKey, BadKind, BadNumber, UnknownKey, TooMany}
-use Rattle.mc_cert.specs.Object.{has_only, rows_in, text_of, number_of, list_of, object_of, at_key, text_at, number_at, list_at, within, whole_at, at_most}
+use Rattle.mc_cert.specs.declared.fault.CertFaultKind.TheVariants.{MissingKey, BadKind, BadNumber}
+use Rattle.mc_cert.specs.declared.fault.CertFaultKind.TheVariants.{UnknownKey, TooMany}
+use Rattle.mc_cert.specs.Object.{has_only, rows_in, text_of, number_of, list_of, object_of, at_key}
+use Rattle.mc_cert.specs.Object.{text_at, number_at, list_at, within, whole_at, at_most}
 use Rattle.mc_cert.specs.Stands.{IsObject, AreRows, HasRows, HasText, HasNumber}
 
 as_str-is : (d : Data) (s : List ℕ) → as_str d ≡ Some s → d ≡ string s
@@ -54,56 +58,69 @@ text_of-takes d text e = as_str-is d text (ok_or_ok (as_str d) BadKind text e)
 pub number_of-takes : (d : Data) (n : Num) → number_of d ≡ Ok n → d ≡ number n
 number_of-takes d n e = as_number-is d n (ok_or_ok (as_number d) BadKind n e)
 
-pub text_at-takes : (key : List ℕ) (ms : Members) (text : List ℕ) → text_at key ms ≡ Ok text → HasText key ms text
+pub text_at-takes : (key : List ℕ) (ms : Members) (text : List ℕ) → text_at key ms ≡ Ok text
+    → HasText key ms text
 unfolding text_at
 text_at-takes key ms text e =
     let a = bind_ok (at_key key ms) text_of text e in
     ok_or_ok (get_member key ms) MissingKey a.0 a.1 ∙ ap Some (text_of-takes a.0 text a.2)
 
-pub text_at-again : (key : List ℕ) (ms : Members) (text : List ℕ) → HasText key ms text → text_at key ms ≡ Ok text
+pub text_at-again : (key : List ℕ) (ms : Members) (text : List ℕ) → HasText key ms text
+    → text_at key ms ≡ Ok text
 unfolding text_at
 text_at-again key ms text e = rw e refl
 
-pub number_at-takes : (key : List ℕ) (ms : Members) (n : Num) → number_at key ms ≡ Ok n → get_member key ms ≡ Some (number n)
+pub number_at-takes : (key : List ℕ) (ms : Members) (n : Num) → number_at key ms ≡ Ok n
+    → get_member key ms ≡ Some (number n)
 unfolding number_at
 number_at-takes key ms n e =
     let a = bind_ok (at_key key ms) number_of n e in
     ok_or_ok (get_member key ms) MissingKey a.0 a.1 ∙ ap Some (number_of-takes a.0 n a.2)
 
-pub number_at-again : (key : List ℕ) (ms : Members) (n : Num) → get_member key ms ≡ Some (number n) → number_at key ms ≡ Ok n
+pub number_at-again : (key : List ℕ) (ms : Members) (n : Num) → get_member key ms ≡ Some (number n)
+    → number_at key ms ≡ Ok n
 unfolding number_at
 number_at-again key ms n e = rw e refl
 
 -- ---- whole numbers
 
-pub within-takes : (low high : ℕ) (o : Option ℕ) (n : ℕ) → within low high o ≡ Ok n → (o ≡ Some n) × (low ≤ n) × (n ≤ high)
+pub within-takes : (low high : ℕ) (o : Option ℕ) (n : ℕ) → within low high o ≡ Ok n
+    → (o ≡ Some n) × (low ≤ n) × (n ≤ high)
 within-takes low high None n e = absurd cc
 within-takes low high (Some m) n e =
     let t = test_ok (nat_le low m && nat_le m high) BadNumber (Ok m) n e in
     let same : m ≡ n = ok_is m n t.1 in
-    let (from, to) = and_parts _ _ t.0 in
-    (ap Some same, subst (λ k. low ≤ k) same (leb-true _ _ from), subst (λ k. k ≤ high) same (leb-true _ _ to))
+    let (from, to) = and_parts _ _ t.0 in (
+      ap Some same,
+      subst (λ k. low ≤ k) same (leb-true _ _ from),
+      subst (λ k. k ≤ high) same (leb-true _ _ to),
+    )
 
 pub within-again : (low high n : ℕ) → low ≤ n → n ≤ high → within low high (Some n) ≡ Ok n
 within-again low high n from to = rw (le-leb low n from, le-leb n high to) refl
 
-pub whole_at-takes : (key : List ℕ) (low high : ℕ) (ms : Members) (n : ℕ) → whole_at key low high ms ≡ Ok n → HasNumber key ms n × (low ≤ n) × (n ≤ high)
+pub whole_at-takes : (key : List ℕ) (low high : ℕ) (ms : Members) (n : ℕ)
+    → whole_at key low high ms ≡ Ok n → HasNumber key ms n × (low ≤ n) × (n ≤ high)
 unfolding whole_at
 whole_at-takes key low high ms n e =
     let a = bind_ok (number_at key ms) (λ m. within low high (as_u64 m)) n e in
     let w = within-takes low high (as_u64 a.0) n a.2 in
     (number_at-takes key ms a.0 a.1 ∙ ap (λ m. Some (number m)) (as_u64-is a.0 n w.0), w.1, w.2)
 
-pub whole_at-again : (key : List ℕ) (low high : ℕ) (ms : Members) (n : ℕ) → HasNumber key ms n → low ≤ n → n ≤ high → whole_at key low high ms ≡ Ok n
+pub whole_at-again : (key : List ℕ) (low high : ℕ) (ms : Members) (n : ℕ) → HasNumber key ms n
+    → low ≤ n → n ≤ high → whole_at key low high ms ≡ Ok n
 unfolding whole_at
-whole_at-again key low high ms n has from to = rw (number_at-again key ms (unsigned n) has) (within-again low high n from to)
+whole_at-again key low high ms n has from to = rw (number_at-again key ms (unsigned n) has)
+    (within-again low high n from to)
 
 -- ---- objects
 
-pub object_of-takes : (known : List (List ℕ)) (d : Data) (ms : Members) → object_of known d ≡ Ok ms → IsObject known d ms
+pub object_of-takes : (known : List (List ℕ)) (d : Data) (ms : Members) → object_of known d ≡ Ok ms
+    → IsObject known d ms
 unfolding object_of
 object_of-takes known d ms e =
-    let a = bind_ok (ok_or (as_object d) BadKind) (λ ns. cond (has_only known ns) (Ok ns) (Err UnknownKey)) ms e in
+    let a = bind_ok (ok_or (as_object d) BadKind)
+    (λ ns. cond (has_only known ns) (Ok ns) (Err UnknownKey)) ms e in
     let t = test_ok (has_only known a.0) UnknownKey (Ok a.0) ms a.2 in
     let same : a.0 ≡ ms = ok_is a.0 ms t.1 in
     record {
@@ -111,7 +128,8 @@ object_of-takes known d ms e =
       keys = ap (has_only known) (sym same) ∙ t.0;
     }
 
-pub object_of-again : (known : List (List ℕ)) (d : Data) (ms : Members) → IsObject known d ms → object_of known d ≡ Ok ms
+pub object_of-again : (known : List (List ℕ)) (d : Data) (ms : Members) → IsObject known d ms
+    → object_of known d ≡ Ok ms
 unfolding object_of
 object_of-again known d ms is = rw (is.members, is.keys) refl
 
@@ -119,23 +137,29 @@ object_of-again known d ms is = rw (is.members, is.keys) refl
 
 pub list_of-takes : (d : Data) (rows : List Data) → list_of d ≡ Ok rows → AreRows d rows
 list_of-takes d rows e =
-    let a = bind_ok (ok_or (as_array d) BadKind) (λ items. Ok (rows_in items)) rows e in
-    (a.0, as_array-is d a.0 (ok_or_ok (as_array d) BadKind a.0 a.1), sym (ok_is (rows_in a.0) rows a.2))
+    let a = bind_ok (ok_or (as_array d) BadKind) (λ items. Ok (rows_in items)) rows e in (
+      a.0,
+      as_array-is d a.0 (ok_or_ok (as_array d) BadKind a.0 a.1),
+      sym (ok_is (rows_in a.0) rows a.2),
+    )
 
 pub list_of-again : (d : Data) (rows : List Data) → AreRows d rows → list_of d ≡ Ok rows
 list_of-again d rows are = rw (are.1, are.2) refl
 
-pub list_at-takes : (key : List ℕ) (ms : Members) (rows : List Data) → list_at key ms ≡ Ok rows → HasRows key ms rows
+pub list_at-takes : (key : List ℕ) (ms : Members) (rows : List Data) → list_at key ms ≡ Ok rows
+    → HasRows key ms rows
 unfolding list_at
 list_at-takes key ms rows e =
     let a = bind_ok (at_key key ms) list_of rows e in
     (a.0, ok_or_ok (get_member key ms) MissingKey a.0 a.1, list_of-takes a.0 rows a.2)
 
-pub list_at-again : (key : List ℕ) (ms : Members) (rows : List Data) → HasRows key ms rows → list_at key ms ≡ Ok rows
+pub list_at-again : (key : List ℕ) (ms : Members) (rows : List Data) → HasRows key ms rows
+    → list_at key ms ≡ Ok rows
 unfolding list_at
 list_at-again key ms rows has = rw has.1 (list_of-again has.0 rows has.2)
 
-pub at_most-takes : (most : ℕ) (rows taken : List Data) → at_most most rows ≡ Ok taken → (rows ≡ taken) × (length taken ≤ most)
+pub at_most-takes : (most : ℕ) (rows taken : List Data) → at_most most rows ≡ Ok taken
+    → (rows ≡ taken) × (length taken ≤ most)
 unfolding at_most
 at_most-takes most rows taken e =
     let t = test_ok (nat_le (length rows) most) TooMany (Ok rows) taken e in

@@ -1,5 +1,8 @@
 -- JSON values that are read back from their own text.
-use Rattle.std.proofs.Common.{◌≡◌, ℕ, zero, suc, ◌^◌, ◌<◌, ◌≤◌, All, Bool, true, false, List, [], ◌∷◌, ◌++◌, length, get_or, decimal, Option, Some, option_map, option_and_then, IsUtf8, inl, inr, ◌⊎◌, refl, sym, ap, ap₂, subst, ◌∙◌, arith, append-nil}
+use Rattle.std.proofs.Common.{◌≡◌, ℕ, zero, suc, ◌^◌, ◌<◌, ◌≤◌, All, Bool, true, false, List, []}
+use Rattle.std.proofs.Common.{◌∷◌, ◌++◌, length, get_or, decimal, Option, Some, option_map}
+use Rattle.std.proofs.Common.{option_and_then, IsUtf8, inl, inr, ◌⊎◌, refl, sym, ap, ap₂, subst}
+use Rattle.std.proofs.Common.{◌∙◌, arith, append-nil}
 use Rattle.std.specs.List.{list_all, AllByRecursion}
 use Rattle.std.proofs.lemmas.Bool.{and_parts, cases_lt}
 use Rattle.std.proofs.lemmas.Bool.Decides.{nat_tests}
@@ -17,9 +20,11 @@ use Rattle.json.proofs.Printed.Strings.{escape_byte_plain}
 use Rattle.json.proofs.Printed.Tokens.{tokens-print}
 use Rattle.json.proofs.Printed.Trees.{value-json_tokens, ArePrintable-json_tokens}
 use Rattle.json.proofs.Printed.Utf8.{IsUtf8-are_ascii, IsUtf8-quoted}
-use Rattle.serde_json.specs.Data.{Data, unsigned, number, string, array, object, Items, no_items, item, Members, no_members, member}
+use Rattle.serde_json.specs.Data.{Data, unsigned, number, string, array, object, Items, no_items}
+use Rattle.serde_json.specs.Data.{item, Members, no_members, member}
 use Rattle.serde_json.specs.Read.{read, max_depth, of_json, of_items, of_members}
-use Rattle.serde_json.specs.Written.{outline, items_outline, members_outline, compact_text, items_text, members_text, comma_if}
+use Rattle.serde_json.specs.Written.{outline, items_outline, members_outline, compact_text}
+use Rattle.serde_json.specs.Written.{items_text, members_text, comma_if}
 use Rattle.serde_json.proofs.Numbers.{number_of-decimal}
 use Rattle.serde_json.proofs.Texts.{print-outline}
 use Rattle.mc_text.specs.Addr.{octets_of, dotted}
@@ -39,7 +44,8 @@ pub escape_plain : (s : List ℕ) → All IsPlain s → escape s ≡ s
 escape_plain [] all = refl
 escape_plain (x ∷ s) all =
     let here = all zero 0 (omega arith) in
-    ap₂ (λ a b. a ++ b) (escape_byte_plain x here.no_quote here.no_backslash here.from) (escape_plain s (λ k d lt. all (suc k) d (omega (arith, lt))))
+    ap₂ (λ a b. a ++ b) (escape_byte_plain x here.no_quote here.no_backslash here.from)
+    (escape_plain s (λ k d lt. all (suc k) d (omega (arith, lt))))
 
 pub plain_utf8 : (s : List ℕ) → All IsPlain s → IsUtf8 s
 plain_utf8 s all = IsUtf8-from_ascii s (λ i. small i (cases_lt i (length s))) where
@@ -52,14 +58,18 @@ name_byte_plain b e =
     record {
       from = grind (arith, nat_tests);
       to = grind (arith, nat_tests);
-      no_quote = λ q. let bad : is_name_byte 34 ≡ true = subst (λ (x : ℕ). is_name_byte x ≡ true) q e in absurd cc;
-      no_backslash = λ q. let bad : is_name_byte 92 ≡ true = subst (λ (x : ℕ). is_name_byte x ≡ true) q e in absurd cc;
+      no_quote = λ q. let bad : is_name_byte 34 ≡ true =
+          subst (λ (x : ℕ). is_name_byte x ≡ true) q e in absurd cc;
+      no_backslash = λ q. let bad : is_name_byte 92 ≡ true =
+          subst (λ (x : ℕ). is_name_byte x ≡ true) q e in absurd cc;
     }
 
 name_bytes_plain : (s : List ℕ) → list_all is_name_byte s ≡ true → All IsPlain s
 name_bytes_plain [] e k d lt = absurd (omega (arith, lt))
-name_bytes_plain (x ∷ s) e zero d lt = name_byte_plain x (and_parts (is_name_byte x) (list_all is_name_byte s) e).0
-name_bytes_plain (x ∷ s) e (suc k) d lt = name_bytes_plain s (and_parts (is_name_byte x) (list_all is_name_byte s) e).1 k d (omega (arith, lt))
+name_bytes_plain (x ∷ s) e zero d lt = name_byte_plain x
+    (and_parts (is_name_byte x) (list_all is_name_byte s) e).0
+name_bytes_plain (x ∷ s) e (suc k) d lt = name_bytes_plain s
+    (and_parts (is_name_byte x) (list_all is_name_byte s) e).1 k d (omega (arith, lt))
 
 -- the name of a LAN or a router
 pub name_plain : (s : List ℕ) → is_name s ≡ true → All IsPlain s
@@ -67,8 +77,18 @@ unfolding is_name
 name_plain s e = name_bytes_plain s (and_parts _ (list_all is_name_byte s) e).1
 
 digit_or_dot_plain : (b : ℕ) → IsDigitOrDot b → IsPlain b
-digit_or_dot_plain b (inl range) = record { from = omega (arith, range); to = omega (arith, range); no_quote = λ q. omega (arith, range); no_backslash = λ q. omega (arith, range) }
-digit_or_dot_plain b (inr dot) = record { from = omega (arith, dot); to = omega (arith, dot); no_quote = λ q. omega (arith, dot); no_backslash = λ q. omega (arith, dot) }
+digit_or_dot_plain b (inl range) = record {
+  from = omega (arith, range);
+  to = omega (arith, range);
+  no_quote = λ q. omega (arith, range);
+  no_backslash = λ q. omega (arith, range);
+}
+digit_or_dot_plain b (inr dot) = record {
+  from = omega (arith, dot);
+  to = omega (arith, dot);
+  no_quote = λ q. omega (arith, dot);
+  no_backslash = λ q. omega (arith, dot);
+}
 
 -- an address
 pub dotted_plain : (a : ℕ) → All IsPlain (dotted a)
@@ -84,7 +104,13 @@ pub record IsGood (n : ℕ) (d : Data) : Type 0 where
   pub utf8 : IsUtf8 (compact_text d)
 
 pub good_string : (n : ℕ) (s : List ℕ) → All IsPlain s → IsGood n (string s)
-good_string n s plain = record { reads = refl; numbers = tt; shallow = omega arith; utf8 = IsUtf8-quoted s (plain_utf8 s plain) }
+good_string n s plain = record {
+  reads = refl;
+  numbers = tt;
+  shallow = omega arith;
+  utf8 =
+      IsUtf8-quoted s (plain_utf8 s plain);
+}
 
 pub good_number : (n k : ℕ) → k < 2 ^ 64 → IsGood n (number (unsigned k))
 good_number n k small =
@@ -113,7 +139,8 @@ good_array n ds good =
       reads = ap (option_map array) good.reads;
       numbers = good.numbers;
       shallow = omega (arith, good.shallow);
-      utf8 = IsUtf8-append (91 ∷ []) (items_text false ds) (IsUtf8-are_ascii (91 ∷ []) refl) (good.utf8 false);
+      utf8 = IsUtf8-append (91 ∷ []) (items_text false ds) (IsUtf8-are_ascii (91 ∷ []) refl)
+          (good.utf8 false);
     }
 
 module _ {A : Type 0} (f : A → Data) where
@@ -122,15 +149,23 @@ module _ {A : Type 0} (f : A → Data) where
   items_from [] = no_items
   items_from (x ∷ xs) = item (f x) (items_from xs)
 
-  pub good_items : (n : ℕ) (xs : List A) → AllByRecursion (λ x. IsGood n (f x)) xs → AreGood n (items_from xs)
-  good_items n [] all = record { reads = refl; numbers = tt; shallow = omega arith; utf8 = λ later. IsUtf8-are_ascii (93 ∷ []) refl }
+  pub good_items : (n : ℕ) (xs : List A) → AllByRecursion (λ x. IsGood n (f x)) xs
+      → AreGood n (items_from xs)
+  good_items n [] all = record {
+    reads = refl;
+    numbers = tt;
+    shallow = omega arith;
+    utf8 =
+        λ later. IsUtf8-are_ascii (93 ∷ []) refl;
+  }
   good_items n (x ∷ xs) (here, all) =
       let rest = good_items n xs all in
       record {
         reads = rw (here.reads, rest.reads) refl;
         numbers = (here.numbers, rest.numbers);
         shallow = omega (arith, here.shallow, rest.shallow);
-        utf8 = λ later. IsUtf8-append (comma_if later) _ (comma_utf8 later) (IsUtf8-append (compact_text (f x)) _ here.utf8 (rest.utf8 true));
+        utf8 = λ later. IsUtf8-append (comma_if later) _ (comma_utf8 later)
+            (IsUtf8-append (compact_text (f x)) _ here.utf8 (rest.utf8 true));
       }
 
 -- ---- objects
@@ -141,25 +176,35 @@ pub record HasGood (n : ℕ) (ms : Members) : Type 0 where
   pub utf8 : (later : Bool) → IsUtf8 (members_text later ms)
 
 pub good_none : (n : ℕ) → HasGood n no_members
-good_none n = record { numbers = tt; shallow = omega arith; utf8 = λ later. IsUtf8-are_ascii (125 ∷ []) refl }
+good_none n = record {
+  numbers = tt;
+  shallow = omega arith;
+  utf8 =
+      λ later. IsUtf8-are_ascii (125 ∷ []) refl;
+}
 
-pub good_member : (n : ℕ) (k : List ℕ) (d : Data) (ms : Members) → IsUtf8 k → IsGood n d → HasGood n ms → HasGood n (member k d ms)
+pub good_member : (n : ℕ) (k : List ℕ) (d : Data) (ms : Members) → IsUtf8 k → IsGood n d
+    → HasGood n ms → HasGood n (member k d ms)
 good_member n k d ms key here rest =
     record {
       numbers = (here.numbers, rest.numbers);
       shallow = omega (arith, here.shallow, rest.shallow);
       utf8 = λ later.
           IsUtf8-append (comma_if later) _ (comma_utf8 later)
-          (IsUtf8-append (quoted k) _ (IsUtf8-quoted k key) (IsUtf8-append (58 ∷ []) _ (IsUtf8-are_ascii (58 ∷ []) refl) (IsUtf8-append (compact_text d) _ here.utf8 (rest.utf8 true))));
+          (IsUtf8-append (quoted k) _ (IsUtf8-quoted k key)
+          (IsUtf8-append (58 ∷ []) _ (IsUtf8-are_ascii (58 ∷ []) refl)
+          (IsUtf8-append (compact_text d) _ here.utf8 (rest.utf8 true))));
     }
 
-pub good_object : (n : ℕ) (ms : Members) → of_members (members_outline ms) no_members ≡ Some ms → HasGood n ms → IsGood (suc n) (object ms)
+pub good_object : (n : ℕ) (ms : Members) → of_members (members_outline ms) no_members ≡ Some ms
+    → HasGood n ms → IsGood (suc n) (object ms)
 good_object n ms reads good =
     record {
       reads = ap (option_map object) reads;
       numbers = good.numbers;
       shallow = omega (arith, good.shallow);
-      utf8 = IsUtf8-append (123 ∷ []) (members_text false ms) (IsUtf8-are_ascii (123 ∷ []) refl) (good.utf8 false);
+      utf8 = IsUtf8-append (123 ∷ []) (members_text false ms) (IsUtf8-are_ascii (123 ∷ []) refl)
+          (good.utf8 false);
     }
 
 -- ---- the text as a whole
@@ -169,5 +214,8 @@ whole o = option_and_then of_json (option_and_then (λ p. json.if_last p.0 p.1) 
 
 pub good_reads : (d : Data) → IsGood 127 d → read (compact_text d) ≡ Some d
 good_reads d good =
-    let same = ap tokens (sym (print-outline d)) ∙ tokens-print (tree.json_tokens (outline d)) (ArePrintable-json_tokens (outline d) good.numbers) in
-    ap whole (ap (json.value max_depth) (same ∙ sym (append-nil (tree.json_tokens (outline d)))) ∙ value-json_tokens (outline d) max_depth [] good.shallow) ∙ good.reads
+    let same = ap tokens (sym (print-outline d))
+    ∙ tokens-print (tree.json_tokens (outline d))
+    (ArePrintable-json_tokens (outline d) good.numbers) in
+    ap whole (ap (json.value max_depth) (same ∙ sym (append-nil (tree.json_tokens (outline d))))
+    ∙ value-json_tokens (outline d) max_depth [] good.shallow) ∙ good.reads

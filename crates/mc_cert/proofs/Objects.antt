@@ -1,5 +1,6 @@
 -- What stands in an object and in a list that JSON's reader gave.
-use Rattle.std.proofs.Common.{◌≡◌, ℕ, List, [], ◌∷◌, map, refl, ap, ◌∙◌, String, Global, string_bytes, Bool, ◌&&◌, ◌||◌, Bor, Option, option_map}
+use Rattle.std.proofs.Common.{◌≡◌, ℕ, List, [], ◌∷◌, map, refl, ap, ◌∙◌, String, Global}
+use Rattle.std.proofs.Common.{string_bytes, Bool, ◌&&◌, ◌||◌, Bor, Option, option_map}
 use Rattle.std.specs.List.{list_all, list_any}
 use Rattle.std.specs.Map.{keys_of, lookup}
 use Rattle.std.specs.BTreeMap.{is_at}
@@ -18,7 +19,8 @@ rows_in-view [] = refl
 rows_in-view (v ∷ values) = ap (λ (ds : List _). view v ∷ ds) (rows_in-view values)
 
 -- a test of each text that references lead to
-pub list_any-now : (p : List ℕ → Bool) (texts : List (Bor (List ℕ))) → list_any (λ k. p k.now) texts ≡ list_any p (map (λ k. k.now) texts)
+pub list_any-now : (p : List ℕ → Bool) (texts : List (Bor (List ℕ)))
+    → list_any (λ k. p k.now) texts ≡ list_any p (map (λ k. k.now) texts)
 list_any-now p [] = refl
 list_any-now p (t ∷ texts) = ap (λ (b : Bool). p t.now || b) (list_any-now p texts)
 
@@ -26,11 +28,17 @@ abbrev known_in : List (List ℕ) → List ℕ → Bool
 known_in known key = list_any (λ k. bytes_eq k key) known
 
 -- a test of each key of an object, with the known keys behind references
-pub has_only-now : (known : List (Bor (List ℕ))) (es : List (String Global × Value)) → list_all (λ key. list_any (λ k. bytes_eq k.now (string_bytes key)) known) (keys_of es) ≡ has_only (map (λ k. k.now) known) (members_view es)
+pub has_only-now : (known : List (Bor (List ℕ))) (es : List (String Global × Value))
+    → list_all (λ key. list_any (λ k. bytes_eq k.now (string_bytes key)) known) (keys_of es)
+    ≡ has_only (map (λ k. k.now) known) (members_view es)
 has_only-now known [] = refl
 has_only-now known (e ∷ es) =
-    rw (list_any-now (λ k. bytes_eq k (string_bytes e.0)) known) (ap (λ (b : Bool). known_in (map (λ k. k.now) known) (string_bytes e.0) && b) (has_only-now known es))
+    rw (list_any-now (λ k. bytes_eq k (string_bytes e.0)) known)
+    (ap (λ (b : Bool). known_in (map (λ k. k.now) known) (string_bytes e.0) && b)
+    (has_only-now known es))
 
 -- what the map of an object finds at a key
-pub object_get : (r : Option (Bor Value)) (k : List ℕ) (es : List (String Global × Value)) → option_map (λ x. x.now) r ≡ lookup (is_at (λ x. slice_cmp nat_cmp k (string_bytes x))) es → option_map (λ x. view x.now) r ≡ get_member k (members_view es)
+pub object_get : (r : Option (Bor Value)) (k : List ℕ) (es : List (String Global × Value))
+    → option_map (λ x. x.now) r ≡ lookup (is_at (λ x. slice_cmp nat_cmp k (string_bytes x))) es
+    → option_map (λ x. view x.now) r ≡ get_member k (members_view es)
 object_get r k es found = view_of_ref r ∙ ap (option_map view) found ∙ view-lookup k es

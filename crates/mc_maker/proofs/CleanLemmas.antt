@@ -1,5 +1,6 @@
 -- What the copies of a clean travel at TTL 255 make.
-use Rattle.std.proofs.Common.{◌≡◌, ℕ, ◌<◌, ◌≤◌, inl, inr, All, false, List, [], ◌∷◌, ◌++◌, map, length, Option, Some, None, refl, ap, sym, subst, ◌∙◌, arith}
+use Rattle.std.proofs.Common.{◌≡◌, ℕ, ◌<◌, ◌≤◌, inl, inr, All, false, List, [], ◌∷◌, ◌++◌, map}
+use Rattle.std.proofs.Common.{length, Option, Some, None, refl, ap, sym, subst, ◌∙◌, arith}
 use Rattle.std.specs.Prelude.{IfSome}
 use Rattle.std.proofs.lemmas.List.{length-map}
 use Rattle.mc_theory.specs.Lists.{In, Distinct, below}
@@ -9,7 +10,8 @@ use Rattle.mc_theory.specs.Certificates.{Entry, IsTree, IsSafe, IsReordering, la
 use Rattle.mc_theory.specs.Reasons.{entry_at}
 use Rattle.mc_theory.specs.Findings.{Finding, IsTravel, from_lan, handles}
 use Rattle.mc_theory.specs.Findings.Finding.{Clean}
-use Rattle.mc_theory.specs.Made.{entry_after, entries_after, entries_of, need_after, need_over, pairs_of, threshold_of}
+use Rattle.mc_theory.specs.Made.{entry_after, entries_after, entries_of, need_after, need_over}
+use Rattle.mc_theory.specs.Made.{pairs_of, threshold_of}
 use Rattle.mc_theory.proofs.InLists.{in-below, in-map, in-map_cases, in-push_cases, same-by_image}
 use Rattle.mc_theory.proofs.Counts.{total, total-within, total-ones}
 use Rattle.mc_theory.proofs.Delivery.{safe}
@@ -27,14 +29,17 @@ use Rattle.mc_maker.proofs.FilledLemmas.{all-in, in-all, lans-after}
 -- ---- of each entry
 
 -- what holds of each copy's entry, whatever the entries before it, holds of all
-each-after : (n : Net) (P : Entry → Type 0) (es : List Entry) (cs : List Copy) → ((ds : List Entry) (c : Copy) → In c cs → P (entry_after n ds c))
+each-after : (n : Net) (P : Entry → Type 0) (es : List Entry) (cs : List Copy)
+    → ((ds : List Entry) (c : Copy) → In c cs → P (entry_after n ds c))
     → ((e : Entry) → In e es → P e) → (e : Entry) → In e (entries_after n es cs) → P e
 each-after n P es [] new old e h = old e h
 each-after n P es (c ∷ cs) new old e h =
     each-after n P (es ++ entry_after n es c ∷ []) cs (λ ds b k. new ds b (inr k))
-    (λ x k. elim (in-push_cases x es (entry_after n es c) k) [ inl j ↦ old x j | inr q ↦ subst P q (new es c (inl refl)) ]) e h
+    (λ x k. elim (in-push_cases x es (entry_after n es c) k)
+    [ inl j ↦ old x j | inr q ↦ subst P q (new es c (inl refl)) ]) e h
 
-pub each-entry : (n : Net) (P : Entry → Type 0) (cs : List Copy) → ((ds : List Entry) (c : Copy) → In c cs → P (entry_after n ds c))
+pub each-entry : (n : Net) (P : Entry → Type 0) (cs : List Copy)
+    → ((ds : List Entry) (c : Copy) → In c cs → P (entry_after n ds c))
     → (e : Entry) → In e (entries_of n cs) → P e
 each-entry n P cs new = each-after n P [] cs new (λ e h. absurd h)
 
@@ -44,79 +49,112 @@ one-over threshold (Some p) = omega arith
 
 need-one : (n : Net) (ds : List Entry) (x : Option Interface) → 1 ≤ need_after n ds x
 need-one n ds None = omega arith
-need-one n ds (Some i) = one-over (threshold_of i.1 (pairs_of (n.row i.0))) (entry_at ds (from_lan n (Some i)))
+need-one n ds (Some i) = one-over (threshold_of i.1 (pairs_of (n.row i.0)))
+    (entry_at ds (from_lan n (Some i)))
 
 pub needs-one : (n : Net) (cs : List Copy) (e : Entry) → In e (entries_of n cs) → 1 ≤ e.need
 needs-one n cs = each-entry n (λ e. 1 ≤ e.need) cs (λ ds c h. need-one n ds c.sender)
 
 -- an entry's LAN carried a copy
 carried-lan : (n : Net) (cs : List Copy) (e : Entry) → In e (entries_of n cs) → In e.lan (lans cs)
-carried-lan n cs = each-entry n (λ e. In e.lan (lans cs)) cs (λ ds c h. in-map (λ (x : Copy). x.lan) c cs h)
+carried-lan n cs = each-entry n (λ e. In e.lan (lans cs)) cs
+    (λ ds c h. in-map (λ (x : Copy). x.lan) c cs h)
 
 -- ---- of the copies of a clean travel
 
-needs-small : (n : Net) (count : ℕ) (picks : List ℕ) → IsNet n → IsTravel n count [] false picks (start n 255) Clean
+needs-small : (n : Net) (count : ℕ) (picks : List ℕ) → IsNet n
+    → IsTravel n count [] false picks (start n 255) Clean
     → (e : Entry) → In e (entries_of n (run n (handles picks) (start n 255)).carried) → e.need ≤ 255
 needs-small n count picks net travel e h =
     let f = run n (handles picks) (start n 255) in
     let es = entries_of n f.carried in
     let tree : IsTree n es = tree_made n count [] false picks net travel in
     let s : IsSafe n es 255 (handles picks) f =
-    safe n es 255 (handles picks) net tree (omega arith) (omega arith) (travel-range n count [] false picks (start n 255) Clean travel) in
+    safe n es 255 (handles picks) net tree (omega arith) (omega arith)
+    (travel-range n count [] false picks (start n 255) Clean travel) in
     let c = in-map_cases (λ (x : Copy). x.lan) e.lan f.carried (carried-lan n f.carried e h) in
     let named = s.named c.0 c.1 in
-    let same : e ≡ named.0 = same-by_image (λ (x : Entry). x.lan) e named.0 es tree.one_entry h named.1 (sym c.2 ∙ sym named.2.lan) in
+    let same : e ≡ named.0 = same-by_image (λ (x : Entry). x.lan) e named.0 es tree.one_entry h
+    named.1 (sym c.2 ∙ sym named.2.lan) in
     subst (λ (x : Entry). x.need ≤ 255) (sym same) named.2.need
 
-pub clean-copies : (d a : DomainValue) (flow : ℕ) (t : Travel) (g : Flight) (cs : List Copy) → IsDomain d → a ≡ d
+pub clean-copies : (d a : DomainValue) (flow : ℕ) (t : Travel) (g : Flight) (cs : List Copy)
+    → IsDomain d → a ≡ d
     → IsRunTo (replay_of d flow 255 first_choices) t g → FindsNothing t → cs ≡ g.carried
-    → All (λ (c : Copy). c.lan < length a.topology.lans) cs → All (λ (c : Copy). IfSome c.sender (λ i. i.0 < length a.topology.routers)) cs → AreClean d flow cs
+    → All (λ (c : Copy). c.lan < length a.topology.lans) cs
+    → All (λ (c : Copy). IfSome c.sender (λ i. i.0 < length a.topology.routers)) cs
+    → AreClean d flow cs
 clean-copies d a flow t g cs ok same is none carried on by =
     let n = net_of d flow in
     let net = net-of_domain d flow ok in
     let travel : IsTravel n (length d.topology.lans) [] false is.picks (start n 255) Clean =
-    subst (λ (x : Finding). IsTravel n (length d.topology.lans) [] false is.picks (start n 255) x) none is.travel in
-    let all : cs ≡ (run n (handles is.picks) (start n 255)).carried = carried ∙ ap (λ (f : Flight). f.carried) is.ends in
+    subst (λ (x : Finding). IsTravel n (length d.topology.lans) [] false is.picks (start n 255) x)
+    none is.travel in
+    let all : cs ≡ (run n (handles is.picks) (start n 255)).carried = carried
+    ∙ ap (λ (f : Flight). f.carried) is.ends in
     record {
-      tree = subst (λ xs. IsTree n (entries_of n xs)) (sym all) (tree_made n (length d.topology.lans) [] false is.picks net travel);
+      tree = subst (λ xs. IsTree n (entries_of n xs)) (sym all)
+          (tree_made n (length d.topology.lans) [] false is.picks net travel);
       needs = subst (λ xs. All (λ (e : Entry). e.need ≤ 255) (entries_of n xs)) (sym all)
-          (in-all (λ (e : Entry). e.need ≤ 255) (entries_of n (run n (handles is.picks) (start n 255)).carried) (needs-small n (length d.topology.lans) is.picks net travel));
-      lans = subst (λ (x : DomainValue). All (λ (c : Copy). c.lan < length x.topology.lans) cs) same on;
-      senders = subst (λ (x : DomainValue). All (λ (c : Copy). IfSome c.sender (λ i. i.0 < length x.topology.routers)) cs) same by;
+          (in-all (λ (e : Entry). e.need ≤ 255) (entries_of n
+          (run n (handles is.picks) (start n 255)).carried)
+          (needs-small n (length d.topology.lans) is.picks net travel));
+      lans = subst (λ (x : DomainValue). All (λ (c : Copy). c.lan < length x.topology.lans) cs) same
+          on;
+      senders = subst (λ (x : DomainValue). All (λ (c : Copy). IfSome c.sender
+          (λ i. i.0 < length x.topology.routers)) cs) same by;
     }
 
 -- no two copies are of one LAN
-pub clean-once : (d : DomainValue) (flow : ℕ) (cs : List Copy) → AreClean d flow cs → Distinct (lans cs)
+pub clean-once : (d : DomainValue) (flow : ℕ) (cs : List Copy) → AreClean d flow cs
+    → Distinct (lans cs)
 clean-once d flow cs clean = subst Distinct (lans-after (net_of d flow) [] cs) clean.tree.one_entry
 
 -- ---- what a certificate can hold
 
-entry-of : (d : DomainValue) (flow : ℕ) (cs : List Copy) → AreClean d flow cs → (e : Entry) → In e (entries_of (net_of d flow) cs) → IsEntryOf d.topology e
+entry-of : (d : DomainValue) (flow : ℕ) (cs : List Copy) → AreClean d flow cs → (e : Entry)
+    → In e (entries_of (net_of d flow) cs) → IsEntryOf d.topology e
 entry-of d flow cs clean = each-entry (net_of d flow) (IsEntryOf d.topology) cs (λ ds c h. record {
   lan = all-in (λ (x : Copy). x.lan < length d.topology.lans) cs clean.lans c h;
-  router = all-in (λ (x : Copy). IfSome x.sender (λ i. i.0 < length d.topology.routers)) cs clean.senders c h;
+  router = all-in (λ (x : Copy). IfSome x.sender (λ i. i.0 < length d.topology.routers)) cs
+      clean.senders c h;
 })
 
-pub made-listed : (d : DomainValue) (flow : ℕ) (cs : List Copy) (es : List Entry) → AreClean d flow cs → IsReordering (entries_of (net_of d flow) cs) es → All (IsEntryOf d.topology) es
-made-listed d flow cs es clean made = in-all (IsEntryOf d.topology) es (λ e h. entry-of d flow cs clean e (made.from e h))
+pub made-listed : (d : DomainValue) (flow : ℕ) (cs : List Copy) (es : List Entry)
+    → AreClean d flow cs → IsReordering (entries_of (net_of d flow) cs) es
+    → All (IsEntryOf d.topology) es
+made-listed d flow cs es clean made = in-all (IsEntryOf d.topology) es
+    (λ e h. entry-of d flow cs clean e (made.from e h))
 
-small-vif : (n : Net) (es : List Entry) (e : Entry) (o : Option Interface) → IsNet n → IsTree n es → In e es → e.forwarder ≡ o → IfSome o (λ i. i.1 ≤ 31)
+small-vif : (n : Net) (es : List Entry) (e : Entry) (o : Option Interface) → IsNet n → IsTree n es
+    → In e es → e.forwarder ≡ o → IfSome o (λ i. i.1 ≤ 31)
 small-vif n es e None net tree h q = tt
 small-vif n es e (Some i) net tree h q =
     let fed = tree.fed e i.0 i.1 h q in
     let lt : i.1 < 32 = net.vif i.0 i.1 e.lan fed.4 in
     omega (arith, lt)
 
-few-entries : (d : DomainValue) (es : List Entry) → Distinct (map (λ (e : Entry). e.lan) es) → All (IsEntryOf d.topology) es → length es ≤ length d.topology.lans
+few-entries : (d : DomainValue) (es : List Entry) → Distinct (map (λ (e : Entry). e.lan) es)
+    → All (IsEntryOf d.topology) es → length es ≤ length d.topology.lans
 few-entries d es once all =
     let count = length d.topology.lans in
     let ls : List ℕ = map (λ (e : Entry). e.lan) es in
-    let bound : total {A = ℕ} (λ _. 1) ls ≤ total {A = ℕ} (λ _. 1) (below count) = total-within {A = ℕ} (λ _. 1) ls (below count) once (λ l h.
+    let bound : total {A = ℕ} (λ _. 1) ls ≤ total {A = ℕ} (λ _. 1) (below count) =
+    total-within {A = ℕ} (λ _. 1) ls (below count) once (λ l h.
     let e = in-map_cases (λ (e : Entry). e.lan) l es h in
-    in-below l count (subst (λ (k : ℕ). k < count) e.2 (all-in (IsEntryOf d.topology) es all e.0 e.1).lan)) in
-    omega (arith, bound, total-ones ls, total-ones (below count), length-map es (λ (e : Entry). e.lan), length-below count)
+    in-below l count (subst (λ (k : ℕ). k < count) e.2
+    (all-in (IsEntryOf d.topology) es all e.0 e.1).lan)) in
+    omega (
+      arith,
+      bound,
+      total-ones ls,
+      total-ones (below count),
+      length-map es (λ (e : Entry). e.lan),
+      length-below count,
+    )
 
-pub made-list : (d : DomainValue) (flow : ℕ) (cs : List Copy) (es : List Entry) → IsDomain d → AreClean d flow cs → IsReordering (entries_of (net_of d flow) cs) es → IsList es
+pub made-list : (d : DomainValue) (flow : ℕ) (cs : List Copy) (es : List Entry) → IsDomain d
+    → AreClean d flow cs → IsReordering (entries_of (net_of d flow) cs) es → IsList es
 made-list d flow cs es ok clean made =
     let n = net_of d flow in
     let few = few-entries d es made.one_entry (made-listed d flow cs es clean made) in
@@ -125,6 +163,7 @@ made-list d flow cs es ok clean made =
       few = omega (arith, few, most);
       each = in-all IsListed es (λ e h. record {
         need = needs-one n cs e (made.from e h);
-        vif = small-vif n (entries_of n cs) e e.forwarder (net-of_domain d flow ok) clean.tree (made.from e h) refl;
+        vif = small-vif n (entries_of n cs) e e.forwarder (net-of_domain d flow ok) clean.tree
+            (made.from e h) refl;
       });
     }

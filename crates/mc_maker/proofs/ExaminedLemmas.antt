@@ -1,5 +1,6 @@
 -- What an examination says, by the travels that were made.
-use Rattle.std.proofs.Common.{◌≡◌, ◌≢◌, ℕ, ◌≤◌, ◌<◌, Bool, true, false, List, [], ◌∷◌, map, length, Option, Some, None, refl, ap, sym, subst, ◌∙◌}
+use Rattle.std.proofs.Common.{◌≡◌, ◌≢◌, ℕ, ◌≤◌, ◌<◌, Bool, true, false, List, [], ◌∷◌, map, length}
+use Rattle.std.proofs.Common.{Option, Some, None, refl, ap, sym, subst, ◌∙◌}
 use Rattle.std.specs.Prelude.{option_map, slice_get, unwrap_or}
 use Rattle.std.specs.List.Sorted.{IsStrictlyIncreasing}
 use Rattle.mc_theory.specs.Nets.{Net}
@@ -19,7 +20,8 @@ use Rattle.mc_replay.specs.declared.travel.Travel.{Travel}
 use Rattle.mc_replay.specs.declared.finding.Finding.{Finding as Found}
 use Rattle.mc_replay.specs.FindingValues.{finding_value}
 use Rattle.mc_replay.specs.Travels.{replay_of, IsRunTo}
-use Rattle.mc_maker.specs.Examined.{first_choices, FindsFault, FindsNothing, IsTravelOfFirst, IsTtlOfFault, IsOfTravel}
+use Rattle.mc_maker.specs.Examined.{first_choices, FindsFault, FindsNothing, IsTravelOfFirst}
+use Rattle.mc_maker.specs.Examined.{IsTtlOfFault, IsOfTravel}
 use Rattle.mc_maker.specs.ByLan.{IsByLan, held_entries, serves}
 use Rattle.mc_maker.specs.Making.{AreClean}
 use Rattle.mc_maker.proofs.ListedLemmas.{ascending, same-entries}
@@ -27,19 +29,25 @@ use Rattle.mc_maker.proofs.ServedLemmas.{served-each, served-not}
 
 -- ---- a picker's travel is one
 
-same-finding : (n : Net) (count : ℕ) (numbers : List ℕ) (last : Bool) (is js : List ℕ) (f : Flight) (x y : Finding)
+same-finding : (n : Net) (count : ℕ) (numbers : List ℕ) (last : Bool) (is js : List ℕ) (f : Flight)
+    (x y : Finding)
     → IsTravel n count numbers last is f x → IsTravel n count numbers last js f y → x ≡ y
 same-finding n count numbers last [] [] f x y a b = let same : Some x ≡ Some y = sym a ∙ b in cc
-same-finding n count numbers last [] (j ∷ js) f x y a b = let no : Some x ≡ None = sym a ∙ b.0 in absurd cc
-same-finding n count numbers last (i ∷ is) [] f x y a b = let no : Some y ≡ None = sym b ∙ a.0 in absurd cc
+same-finding n count numbers last [] (j ∷ js) f x y a b = let no : Some x ≡ None = sym a
+    ∙ b.0 in absurd cc
+same-finding n count numbers last (i ∷ is) [] f x y a b = let no : Some y ≡ None = sym b
+    ∙ a.0 in absurd cc
 same-finding n count numbers last (i ∷ is) (j ∷ js) f x y a b =
     let pick : j ≡ i = b.1 ∙ sym a.1 in
     same-finding n count (rest numbers) last is js (step n i f) x y a.2
     (subst (λ (k : ℕ). IsTravel n count (rest numbers) last js (step n k f) y) pick b.2)
 
-one-finding : (d : DomainValue) (flow ttl : ℕ) (t u : Travel) → IsTravelOfFirst d flow ttl t → IsTravelOfFirst d flow ttl u → finding_value t.finding ≡ finding_value u.finding
+one-finding : (d : DomainValue) (flow ttl : ℕ) (t u : Travel) → IsTravelOfFirst d flow ttl t
+    → IsTravelOfFirst d flow ttl u → finding_value t.finding ≡ finding_value u.finding
 one-finding d flow ttl t u a b =
-    same-finding (net_of d flow) (length d.topology.lans) [] false a.1.picks b.1.picks (start (net_of d flow) ttl) (finding_value t.finding) (finding_value u.finding)
+    same-finding (net_of d flow) (length d.topology.lans) []
+    false a.1.picks b.1.picks (start (net_of d flow) ttl) (finding_value t.finding)
+    (finding_value u.finding)
     a.1.travel b.1.travel
 
 -- what the code finds is clean where its value is
@@ -53,48 +61,68 @@ fault-value (Found.Missed l) other e = absurd cc
 -- ---- something is found
 
 -- at TTL 255
-pub ttl-greatest : (d : DomainValue) (flow : ℕ) (t : Travel) → IsTravelOfFirst d flow 255 t → FindsFault t → IsTtlOfFault d flow 255
+pub ttl-greatest : (d : DomainValue) (flow : ℕ) (t : Travel) → IsTravelOfFirst d flow 255 t
+    → FindsFault t → IsTtlOfFault d flow 255
 ttl-greatest d flow t is fault = record {
   greatest = λ u a b. refl;
   least = λ u a none. absurd (fault (one-finding d flow 255 t u is a ∙ none));
 }
 
 -- or at the flow's
-pub ttl-least : (d : DomainValue) (flow : ℕ) (t : Travel) → IsTravelOfFirst d flow 255 t → FindsNothing t → IsTtlOfFault d flow (ttl_of d flow)
+pub ttl-least : (d : DomainValue) (flow : ℕ) (t : Travel) → IsTravelOfFirst d flow 255 t
+    → FindsNothing t → IsTtlOfFault d flow (ttl_of d flow)
 ttl-least d flow t is none = record {
   greatest = λ u a fault. absurd (fault (one-finding d flow 255 u t a is ∙ none));
   least = λ u a b. refl;
 }
 
 -- so the flow isn't right
-pub wrong : (d : DomainValue) (flow ttl : ℕ) (t : Travel) → IsDomain d → ttl_of d flow ≤ ttl → ttl ≤ 255 → IsTravelOfFirst d flow ttl t → FindsFault t → ¬ IsRight (net_of d flow)
+pub wrong : (d : DomainValue) (flow ttl : ℕ) (t : Travel) → IsDomain d → ttl_of d flow ≤ ttl
+    → ttl ≤ 255 → IsTravelOfFirst d flow ttl t → FindsFault t → ¬ IsRight (net_of d flow)
 wrong d flow ttl t ok low high is fault =
-    shows (net_of d flow) (length d.topology.lans) ttl [] false is.1.picks (finding_value t.finding) (net-of_domain d flow ok) (λ l w. wanting-within d flow l ok w) low high
+    shows (net_of d flow) (length d.topology.lans) ttl []
+    false is.1.picks (finding_value t.finding) (net-of_domain d flow ok)
+    (λ l w. wanting-within d flow l ok w) low high
     is.1.travel fault
 
 -- where the entries leave a LAN unserved, the travel at the flow's TTL finds a fault
-pub fault-at_least : (d : DomainValue) (flow : ℕ) (cs : List Copy) (t : Travel) → IsDomain d → flow < length d.topology.flows → AreClean d flow cs
-    → ¬ IsServed (net_of d flow) (entries_of (net_of d flow) cs) → IsTravelOfFirst d flow (ttl_of d flow) t → FindsFault t
+pub fault-at_least : (d : DomainValue) (flow : ℕ) (cs : List Copy) (t : Travel) → IsDomain d
+    → flow < length d.topology.flows → AreClean d flow cs
+    → ¬ IsServed (net_of d flow) (entries_of (net_of d flow) cs)
+    → IsTravelOfFirst d flow (ttl_of d flow) t → FindsFault t
 fault-at_least d flow cs t ok lt clean low is none =
-    low ((needs_tell (net_of d flow) (length d.topology.lans) (entries_of (net_of d flow) cs) [] false is.1.picks (finding_value t.finding) (net-of_domain d flow ok)
-    (λ l w. wanting-within d flow l ok w) (ttl-from d flow ok lt) (ttl-to d flow ok lt) clean.tree is.1.travel).0 none)
+    low ((needs_tell (net_of d flow) (length d.topology.lans) (entries_of (net_of d flow) cs) []
+    false is.1.picks (finding_value t.finding) (net-of_domain d flow ok)
+    (λ l w. wanting-within d flow l ok w) (ttl-from d flow ok lt)
+    (ttl-to d flow ok lt) clean.tree is.1.travel).0 none)
 
 -- ---- the flow is certified
 
-pub made-accepted : (d : DomainValue) (flow : ℕ) (cs : List Copy) (es : List Entry) → AreClean d flow cs → IsReordering (entries_of (net_of d flow) cs) es
+pub made-accepted : (d : DomainValue) (flow : ℕ) (cs : List Copy) (es : List Entry)
+    → AreClean d flow cs → IsReordering (entries_of (net_of d flow) cs) es
     → IsServed (net_of d flow) (entries_of (net_of d flow) cs) → IsAccepted (net_of d flow) es
 made-accepted d flow cs es clean made served = record {
   is_tree = tree-same (net_of d flow) (entries_of (net_of d flow) cs) es made clean.tree;
   served = served-same (net_of d flow) (entries_of (net_of d flow) cs) es made served;
 }
 
-pub accepted-right : (d : DomainValue) (flow : ℕ) (es : List Entry) → IsDomain d → flow < length d.topology.flows → IsAccepted (net_of d flow) es → IsRight (net_of d flow)
-accepted-right d flow es ok lt acc = right (net_of d flow) es (net-of_domain d flow ok) (ttl-from d flow ok lt) acc
+pub accepted-right : (d : DomainValue) (flow : ℕ) (es : List Entry) → IsDomain d
+    → flow < length d.topology.flows → IsAccepted (net_of d flow) es → IsRight (net_of d flow)
+accepted-right d flow es ok lt acc = right (net_of d flow) es (net-of_domain d flow ok)
+    (ttl-from d flow ok lt) acc
 
-pub of-travel : (d : DomainValue) (flow : ℕ) (t : Travel) (g : Flight) (cs : List Copy) (es : List Entry) → IsRunTo (replay_of d flow 255 first_choices) t g → FindsNothing t
+pub of-travel : (d : DomainValue) (flow : ℕ) (t : Travel) (g : Flight) (cs : List Copy)
+    (es : List Entry) → IsRunTo (replay_of d flow 255 first_choices) t g → FindsNothing t
     → IsReordering (entries_of (net_of d flow) cs) es → cs ≡ g.carried → IsOfTravel d flow es
 of-travel d flow t g cs es is none made carried =
-    record { travel = t; flight = g; run = is; clean = none; entries = subst (λ xs. IsReordering (entries_of (net_of d flow) xs) es) carried made }
+    record {
+      travel = t;
+      flight = g;
+      run = is;
+      clean = none;
+      entries =
+          subst (λ xs. IsReordering (entries_of (net_of d flow) xs) es) carried made;
+    }
 
 -- ---- the travels of a right flow
 
@@ -105,24 +133,37 @@ finds-nothing (Loop l) h = absurd (h (λ e. cc))
 finds-nothing (Stray r v) h = absurd (h (λ e. cc))
 finds-nothing (Missed l) h = absurd (h (λ e. cc))
 
-pub right-travel : (d : DomainValue) (flow ttl : ℕ) (t : Travel) → IsDomain d → ttl_of d flow ≤ ttl → ttl ≤ 255 → IsRight (net_of d flow) → IsTravelOfFirst d flow ttl t → FindsNothing t
-right-travel d flow ttl t ok low high is_right is = finds-nothing (finding_value t.finding) (λ fault. wrong d flow ttl t ok low high is fault is_right)
+pub right-travel : (d : DomainValue) (flow ttl : ℕ) (t : Travel) → IsDomain d → ttl_of d flow ≤ ttl
+    → ttl ≤ 255 → IsRight (net_of d flow) → IsTravelOfFirst d flow ttl t → FindsNothing t
+right-travel d flow ttl t ok low high is_right is =
+    finds-nothing (finding_value t.finding) (λ fault. wrong d flow ttl t ok low high is fault
+    is_right)
 
 -- where both find nothing, the flow is right
-pub both-right : (d : DomainValue) (flow : ℕ) (first second : Travel) → IsDomain d → flow < length d.topology.flows → IsTravelOfFirst d flow 255 first
-    → IsTravelOfFirst d flow (ttl_of d flow) second → FindsNothing first → FindsNothing second → IsRight (net_of d flow)
+pub both-right : (d : DomainValue) (flow : ℕ) (first second : Travel) → IsDomain d
+    → flow < length d.topology.flows → IsTravelOfFirst d flow 255 first
+    → IsTravelOfFirst d flow (ttl_of d flow) second → FindsNothing first → FindsNothing second
+    → IsRight (net_of d flow)
 both-right d flow first second ok lt a b none none' =
     let n = net_of d flow in
     let count = length d.topology.lans in
-    let one : IsTravel n count [] false a.1.picks (start n 255) Clean = subst (λ (x : Finding). IsTravel n count [] false a.1.picks (start n 255) x) none a.1.travel in
-    let two : IsTravel n count [] false b.1.picks (start n n.ttl) Clean = subst (λ (x : Finding). IsTravel n count [] false b.1.picks (start n n.ttl) x) none' b.1.travel in
+    let one : IsTravel n count [] false a.1.picks (start n 255) Clean =
+    subst (λ (x : Finding). IsTravel n count [] false a.1.picks (start n 255) x) none
+    a.1.travel in
+    let two : IsTravel n count [] false b.1.picks (start n n.ttl) Clean =
+    subst (λ (x : Finding). IsTravel n count [] false b.1.picks (start n n.ttl) x) none'
+    b.1.travel in
     accepted-right d flow (entries_of n (run n (handles a.1.picks) (start n 255)).carried) ok lt
-    (certified n count [] false a.1.picks [] false b.1.picks (net-of_domain d flow ok) (λ l w. wanting-within d flow l ok w) (ttl-from d flow ok lt) (ttl-to d flow ok lt) one two)
+    (certified n count [] false a.1.picks [] false b.1.picks (net-of_domain d flow ok)
+    (λ l w. wanting-within d flow l ok w) (ttl-from d flow ok lt) (ttl-to d flow ok lt) one two)
 
 -- the flow's TTL
-pub ttl-at : (d : DomainValue) (flow : ℕ) (t : TopologyValue) (f : Flow) → t ≡ d.topology → slice_get t.flows flow ≡ Some f → ttl_of d flow ≡ f.ttl
+pub ttl-at : (d : DomainValue) (flow : ℕ) (t : TopologyValue) (f : Flow) → t ≡ d.topology
+    → slice_get t.flows flow ≡ Some f → ttl_of d flow ≡ f.ttl
 ttl-at d flow t f same at =
-    ap (λ (x : TopologyValue). unwrap_or (option_map (λ (f : Flow). f.ttl) (slice_get x.flows flow)) 0) (sym same) ∙ ap (λ (o : Option Flow). unwrap_or (option_map (λ (f : Flow). f.ttl) o) 0) at
+    ap (λ (x : TopologyValue). unwrap_or (option_map (λ (f : Flow). f.ttl) (slice_get x.flows flow))
+    0) (sym same) ∙ ap (λ (o : Option Flow). unwrap_or (option_map (λ (f : Flow). f.ttl) o) 0)
+    at
 
 -- ---- over the flow that is followed
 
@@ -130,40 +171,59 @@ pub net-same : (a d : DomainValue) (v w : ℕ) → a ≡ d → v ≡ w → net_o
 net-same a d v w e q = ap (λ (x : DomainValue). net_of x v) e ∙ ap (net_of d) q
 
 -- the entries that are held at the places of their LANs are those of the copies
-by-lan : (d a : DomainValue) (flow v : ℕ) (cs : List Copy) (by_lan lent : List (Option Entry)) → a ≡ d → v ≡ flow
-    → IsByLan by_lan (entries_of (net_of a v) cs) → lent ≡ by_lan → IsByLan lent (entries_of (net_of d flow) cs)
+by-lan : (d a : DomainValue) (flow v : ℕ) (cs : List Copy) (by_lan lent : List (Option Entry))
+    → a ≡ d → v ≡ flow
+    → IsByLan by_lan (entries_of (net_of a v) cs) → lent ≡ by_lan
+    → IsByLan lent (entries_of (net_of d flow) cs)
 by-lan d a flow v cs by_lan lent same number is value =
-    subst (λ (n : Net). IsByLan lent (entries_of n cs)) (net-same a d v flow same number) (subst (λ xs. IsByLan xs (entries_of (net_of a v) cs)) (sym value) is)
+    subst (λ (n : Net). IsByLan lent (entries_of n cs)) (net-same a d v flow same number)
+    (subst (λ xs. IsByLan xs (entries_of (net_of a v) cs)) (sym value) is)
 
-pub reordered-by_lan : (d a : DomainValue) (flow v : ℕ) (cs : List Copy) (by_lan lent : List (Option Entry)) (es : List Entry) → a ≡ d → v ≡ flow → AreClean d flow cs
-    → IsByLan by_lan (entries_of (net_of a v) cs) → lent ≡ by_lan → es ≡ held_entries lent → IsReordering (entries_of (net_of d flow) cs) es
+pub reordered-by_lan : (d a : DomainValue) (flow v : ℕ) (cs : List Copy)
+    (by_lan lent : List (Option Entry)) (es : List Entry) → a ≡ d → v ≡ flow → AreClean d flow cs
+    → IsByLan by_lan (entries_of (net_of a v) cs) → lent ≡ by_lan → es ≡ held_entries lent
+    → IsReordering (entries_of (net_of d flow) cs) es
 reordered-by_lan d a flow v cs by_lan lent es same number clean is value held =
     subst (IsReordering (entries_of (net_of d flow) cs)) (sym held)
-    (same-entries lent (entries_of (net_of d flow) cs) (by-lan d a flow v cs by_lan lent same number is value) clean.tree.one_entry)
+    (same-entries lent (entries_of (net_of d flow) cs)
+    (by-lan d a flow v cs by_lan lent same number is value) clean.tree.one_entry)
 
-pub ascends-by_lan : (d a : DomainValue) (flow v : ℕ) (cs : List Copy) (by_lan lent : List (Option Entry)) (es : List Entry) → a ≡ d → v ≡ flow
-    → IsByLan by_lan (entries_of (net_of a v) cs) → lent ≡ by_lan → es ≡ held_entries lent → IsStrictlyIncreasing (map (λ (e : Entry). e.lan) es)
+pub ascends-by_lan : (d a : DomainValue) (flow v : ℕ) (cs : List Copy)
+    (by_lan lent : List (Option Entry)) (es : List Entry) → a ≡ d → v ≡ flow
+    → IsByLan by_lan (entries_of (net_of a v) cs) → lent ≡ by_lan → es ≡ held_entries lent
+    → IsStrictlyIncreasing (map (λ (e : Entry). e.lan) es)
 ascends-by_lan d a flow v cs by_lan lent es same number is value held =
     subst (λ xs. IsStrictlyIncreasing (map (λ (e : Entry). e.lan) xs)) (sym held)
-    (ascending lent (entries_of (net_of d flow) cs) (by-lan d a flow v cs by_lan lent same number is value))
+    (ascending lent (entries_of (net_of d flow) cs)
+    (by-lan d a flow v cs by_lan lent same number is value))
 
 -- where each wanting LAN is served, they are accepted
-pub accepted-by_lan : (d a : DomainValue) (flow v : ℕ) (cs : List Copy) (by_lan lent lent' : List (Option Entry)) (es : List Entry) → a ≡ d → v ≡ flow → IsDomain a
-    → AreClean d flow cs → IsByLan by_lan (entries_of (net_of a v) cs) → lent ≡ by_lan → lent' ≡ by_lan → es ≡ held_entries lent'
-    → ((l : ℕ) → l < length a.topology.lans → serves (net_of a v) lent l ≡ true) → IsAccepted (net_of d flow) es
+pub accepted-by_lan : (d a : DomainValue) (flow v : ℕ) (cs : List Copy)
+    (by_lan lent lent' : List (Option Entry)) (es : List Entry) → a ≡ d → v ≡ flow → IsDomain a
+    → AreClean d flow cs → IsByLan by_lan (entries_of (net_of a v) cs) → lent ≡ by_lan
+    → lent' ≡ by_lan → es ≡ held_entries lent'
+    → ((l : ℕ) → l < length a.topology.lans → serves (net_of a v) lent l ≡ true)
+    → IsAccepted (net_of d flow) es
 accepted-by_lan d a flow v cs by_lan lent lent' es same number ok clean is value value' held each =
     let served : IsServed (net_of a v) (entries_of (net_of a v) cs) =
-    served-each (net_of a v) (length a.topology.lans) lent (entries_of (net_of a v) cs) (subst (λ xs. IsByLan xs (entries_of (net_of a v) cs)) (sym value) is)
+    served-each (net_of a v) (length a.topology.lans) lent (entries_of (net_of a v) cs)
+    (subst (λ xs. IsByLan xs (entries_of (net_of a v) cs)) (sym value) is)
     (λ l w. wanting-within a v l ok w) each in
-    made-accepted d flow cs es clean (reordered-by_lan d a flow v cs by_lan lent' es same number clean is value' held)
+    made-accepted d flow cs es clean (reordered-by_lan d a flow v cs by_lan lent' es same number
+    clean is value' held)
     (subst (λ (n : Net). IsServed n (entries_of n cs)) (net-same a d v flow same number) served)
 
 -- and where one isn't, the travel at the flow's TTL finds a fault
-pub fault-by_lan : (d a : DomainValue) (flow v : ℕ) (cs : List Copy) (by_lan lent : List (Option Entry)) → a ≡ d → v ≡ flow → flow < length d.topology.flows → IsDomain a
-    → AreClean d flow cs → IsByLan by_lan (entries_of (net_of a v) cs) → lent ≡ by_lan → (l : ℕ) × (serves (net_of a v) lent l ≡ false)
+pub fault-by_lan : (d a : DomainValue) (flow v : ℕ) (cs : List Copy)
+    (by_lan lent : List (Option Entry)) → a ≡ d → v ≡ flow → flow < length d.topology.flows
+    → IsDomain a
+    → AreClean d flow cs → IsByLan by_lan (entries_of (net_of a v) cs) → lent ≡ by_lan
+    → (l : ℕ) × (serves (net_of a v) lent l ≡ false)
     → (t : Travel) → IsTravelOfFirst d flow (ttl_of d flow) t → FindsFault t
 fault-by_lan d a flow v cs by_lan lent same number lt ok clean is value low t travel =
     let n = net_of d flow in
-    let now : serves n lent low.0 ≡ false = subst (λ (n : Net). serves n lent low.0 ≡ false) (net-same a d v flow same number) low.1 in
+    let now : serves n lent low.0 ≡ false = subst (λ (n : Net). serves n lent low.0 ≡ false)
+    (net-same a d v flow same number) low.1 in
     fault-at_least d flow cs t (subst IsDomain same ok) lt clean
-    (served-not n lent (entries_of n cs) low.0 (by-lan d a flow v cs by_lan lent same number is value) clean.tree.one_entry now) travel
+    (served-not n lent (entries_of n cs) low.0 (by-lan d a flow v cs by_lan lent same number is
+    value) clean.tree.one_entry now) travel

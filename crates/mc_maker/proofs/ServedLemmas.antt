@@ -1,5 +1,6 @@
 -- Whether each wanting LAN is served, by the entries of the LANs.
-use Rattle.std.proofs.Common.{◌≡◌, ℕ, ◌<◌, ◌≤◌, Bool, true, false, not, ◌||◌, nat_le, List, map, slice_get, Option, Some, None, refl, ap, sym, subst, ◌∙◌, arith}
+use Rattle.std.proofs.Common.{◌≡◌, ℕ, ◌<◌, ◌≤◌, Bool, true, false, not, ◌||◌, nat_le, List, map}
+use Rattle.std.proofs.Common.{slice_get, Option, Some, None, refl, ap, sym, subst, ◌∙◌, arith}
 use Rattle.std.proofs.lemmas.Bool.{leb-true, leb-false}
 use Rattle.mc_theory.specs.Lists.{In, Distinct}
 use Rattle.mc_theory.specs.Nets.{Net, WantsBelow}
@@ -19,22 +20,29 @@ unserved : (w m : Bool) → (not w || m) ≡ false → (w ≡ true) × (m ≡ fa
 unserved true m e = (refl, e)
 unserved false m e = absurd cc
 
-served-by : (n : Net) (es : List Entry) (l : ℕ) (o : Option Entry) → o ≡ entry_on es l → meets_need n o ≡ true → (e : Entry) × In e es × (e.lan ≡ l) × (e.need ≤ n.ttl)
+served-by : (n : Net) (es : List Entry) (l : ℕ) (o : Option Entry) → o ≡ entry_on es l
+    → meets_need n o ≡ true → (e : Entry) × In e es × (e.lan ≡ l) × (e.need ≤ n.ttl)
 served-by n es l None q met = absurd cc
-served-by n es l (Some e) q met = let found = on-found es l e (sym q) in (e, found.0, found.1, leb-true e.need n.ttl met)
+served-by n es l (Some e) q met = let found = on-found es l e
+    (sym q) in (e, found.0, found.1, leb-true e.need n.ttl met)
 
-pub served-each : (n : Net) (count : ℕ) (by_lan : List (Option Entry)) (es : List Entry) → IsByLan by_lan es → WantsBelow n count
+pub served-each : (n : Net) (count : ℕ) (by_lan : List (Option Entry)) (es : List Entry)
+    → IsByLan by_lan es → WantsBelow n count
     → ((l : ℕ) → l < count → serves n by_lan l ≡ true) → IsServed n es
 served-each n count by_lan es is small each l w =
-    let met : meets_need n (held (slice_get by_lan l)) ≡ true = sym (wanted (n.wants l) (meets_need n (held (slice_get by_lan l))) w) ∙ each l (small l w) in
+    let met : meets_need n (held (slice_get by_lan l)) ≡ true =
+    sym (wanted (n.wants l) (meets_need n (held (slice_get by_lan l))) w)
+    ∙ each l (small l w) in
     served-by n es l (held (slice_get by_lan l)) (is l) met
 
-pub served-not : (n : Net) (by_lan : List (Option Entry)) (es : List Entry) (l : ℕ) → IsByLan by_lan es → Distinct (map (λ (e : Entry). e.lan) es)
+pub served-not : (n : Net) (by_lan : List (Option Entry)) (es : List Entry) (l : ℕ)
+    → IsByLan by_lan es → Distinct (map (λ (e : Entry). e.lan) es)
     → serves n by_lan l ≡ false → ¬ IsServed n es
 served-not n by_lan es l is once low served =
     let un = unserved (n.wants l) (meets_need n (held (slice_get by_lan l))) low in
     let s = served l un.0 in
-    let at : held (slice_get by_lan l) ≡ Some s.0 = is l ∙ subst (λ (k : ℕ). entry_on es k ≡ Some s.0) s.2 (entry-in es s.0 once s.1) in
+    let at : held (slice_get by_lan l) ≡ Some s.0 = is l
+    ∙ subst (λ (k : ℕ). entry_on es k ≡ Some s.0) s.2 (entry-in es s.0 once s.1) in
     let short : nat_le s.0.need n.ttl ≡ false = sym (ap (meets_need n) at) ∙ un.1 in
     let lt = leb-false s.0.need n.ttl short in
     absurd (omega (arith, lt, s.3))

@@ -10,15 +10,22 @@ use Rattle.mc_cert.proofs.entry.entries_of.Goals as goal
 pub returns-in_err-entry : goal.returns-in_err-entry
 unfolding entries_of
 returns-in_err-entry c =
-    let p = err_from_is_err_and c.from_residual-in_err-entry.result c.from_residual-in_err-entry.ensures.1 in
+    let p = err_from_is_err_and c.from_residual-in_err-entry.result
+    c.from_residual-in_err-entry.ensures.1 in
     let long : c.len.result ≡ length c.loop-row.entries.items = omega arith in
-    let refused = each_refused (λ (n : ℕ) (d : Data). place (entry_place c.args.list (n + 1)) (entry_of c.args.topology.now d)) view c.loop-row.entries.items c.args.rows.now c.loop-row.row-index c.row-item.result c.in_err-entry.field-0.0 c.loop-row-test.true c.row-item.is (rw (← long) (c.in_err-entry.ensures)) in
+    let refused = each_refused (λ (n : ℕ) (d : Data). place (entry_place c.args.list (n + 1))
+    (entry_of c.args.topology.now d)) view c.loop-row.entries.items c.args.rows.now
+    c.loop-row.row-index c.row-item.result c.in_err-entry.field-0.0 c.loop-row-test.true
+    c.row-item.is (rw (← long) (c.in_err-entry.ensures)) in
     rw (p.1, p.2) (λ _. sym c.loop-row.invariant.rows ∙ refused)
 
 pub loop-row-preserved : goal.loop-row-preserved
 loop-row-preserved c =
     let long : c.len.result ≡ length c.loop-row.entries.items = omega arith in
-    let next = each_next (λ (n : ℕ) (d : Data). place (entry_place c.args.list (n + 1)) (entry_of c.args.topology.now d)) view c.loop-row.entries.items c.args.rows.now c.loop-row.row-index c.row-item.result c.in_ok-entry.entry c.loop-row-test.true c.row-item.is (rw (← long) (c.in_ok-entry.ensures)) in
+    let next = each_next (λ (n : ℕ) (d : Data). place (entry_place c.args.list (n + 1))
+    (entry_of c.args.topology.now d)) view c.loop-row.entries.items c.args.rows.now
+    c.loop-row.row-index c.row-item.result c.in_ok-entry.entry c.loop-row-test.true
+    c.row-item.is (rw (← long) (c.in_ok-entry.ensures)) in
     record {
       rows = rw (c.in_ok-push.ensures.items) (sym next ∙ c.loop-row.invariant.rows);
       count = omega (arith, c.in_ok-push.ensures.len);
@@ -26,4 +33,6 @@ loop-row-preserved c =
 
 pub returns : goal.returns
 unfolding entries_of
-returns c = sym c.loop-row.invariant.rows ∙ each_done (λ (n : ℕ) (d : Data). place (entry_place c.args.list (n + 1)) (entry_of c.args.topology.now d)) view c.loop-row.entries.items c.args.rows.now c.loop-row.row-index c.loop-row-test.false
+returns c = sym c.loop-row.invariant.rows ∙ each_done
+    (λ (n : ℕ) (d : Data). place (entry_place c.args.list (n + 1)) (entry_of c.args.topology.now d))
+    view c.loop-row.entries.items c.args.rows.now c.loop-row.row-index c.loop-row-test.false

@@ -7,6 +7,9 @@ use Rattle.mc_cert.proofs.entry.entries_of.Given as goal
 
 abbrev pub invariant-loop-row : goal.invariant-loop-row
 invariant-loop-row l = record {
-  rows : each (λ (n : ℕ) (d : Data). place (entry_place l.list (n + 1)) (entry_of l.topology d)) l.entries.items (map view (drop l.row-index l.rows)) ≡ each (λ (n : ℕ) (d : Data). place (entry_place l.list (n + 1)) (entry_of l.topology d)) [] (map view l.rows);
+  rows : each (λ (n : ℕ) (d : Data). place (entry_place l.list (n + 1)) (entry_of l.topology d))
+      l.entries.items (map view (drop l.row-index l.rows)) ≡ each
+      (λ (n : ℕ) (d : Data). place (entry_place l.list (n + 1)) (entry_of l.topology d)) []
+      (map view l.rows);
   count : vec_len l.entries ≡ l.row-index;
 }

@@ -9,9 +9,14 @@ use Rattle.mc_cert.proofs.read.json_of.Goals as goal
 
 pub returns-in-Ok : goal.returns-in-Ok
 unfolding json_of
-returns-in-Ok c = rw (is_utf8-from_IsUtf8 c.args.text.now c.in-Ok.ensures.ok.0, c.in-Ok.ensures.ok.1) refl
+returns-in-Ok c = rw (
+  is_utf8-from_IsUtf8 c.args.text.now c.in-Ok.ensures.ok.0,
+  c.in-Ok.ensures.ok.1,
+) refl
 
 pub returns-in-Err-2 : goal.returns-in-Err-2
 returns-in-Err-2 c =
     let calm : ¬ IsMemory c.in-Err-2.field-0 = search rules in
-    rw c.at-in-Err-2.ensures (λ _. ap (place Top) (json_refused c.args.text.now (λ utf8. c.in-Err-2.ensures.err calm utf8)))
+    rw c.at-in-Err-2.ensures
+    (λ _. ap (place Top)
+    (json_refused c.args.text.now (λ utf8. c.in-Err-2.ensures.err calm utf8)))

@@ -5,10 +5,12 @@ use Rattle.mc_cert.proofs.version_two.shared_flows_in.Goals as goal
 
 pub from_trees-requires-clause-lists : goal.from_trees-requires-clause-lists
 from_trees-requires-clause-lists c =
-    trees_listed c.args.topology.now (map view c.in_ok-listed.listed.now) (map (λ t. t.items) c.in_ok-trees.trees.items) c.in_ok-trees.ensures.trees
+    trees_listed c.args.topology.now (map view c.in_ok-listed.listed.now)
+    (map (λ t. t.items) c.in_ok-trees.trees.items) c.in_ok-trees.ensures.trees
 
 pub from_trees-requires-clause-named : goal.from_trees-requires-clause-named
 from_trees-requires-clause-named c =
     let long : c.len.result ≡ length c.in_ok-trees.trees.items = omega arith in
     subst (λ (n : ℕ). All (λ m. m < n) c.in_ok-numbers.numbers.items) long
-    (numbers_named c.args.topology.now c.len.result (map view c.in_ok-rows.rows.now) c.in_ok-numbers.numbers.items c.in_ok-numbers.ensures.numbers)
+    (numbers_named c.args.topology.now c.len.result (map view c.in_ok-rows.rows.now)
+    c.in_ok-numbers.numbers.items c.in_ok-numbers.ensures.numbers)

@@ -8,6 +8,7 @@ abbrev pub invariant-loop-number : goal.invariant-loop-number
 invariant-loop-number l =
     record {
       is_text : shadow (Utf8 l.separator);
-      so_far : string_bytes l.text ++ listed_after l.separator (flow_texts (drop l.number l.topology.flows) (drop l.number l.places))
+      so_far : string_bytes l.text ++ listed_after l.separator
+          (flow_texts (drop l.number l.topology.flows) (drop l.number l.places))
           ≡ string_bytes l.initial.text ++ listed (flow_texts l.topology.flows l.places);
     }

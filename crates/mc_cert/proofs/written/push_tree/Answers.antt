@@ -12,13 +12,20 @@ loop-entry-preserved c =
     record {
       is_text = search rules;
       so_far =
-          listed_more (entry_text c.args.topology.now) c.loop-entry.separator.now (string_bytes c.loop-entry.text) _ (string_bytes c.push_entry.new.text) c.args.entries.now c.loop-entry.entry-index
+          listed_more (entry_text c.args.topology.now) c.loop-entry.separator.now
+          (string_bytes c.loop-entry.text) _ (string_bytes c.push_entry.new.text)
+          c.args.entries.now c.loop-entry.entry-index
           c.entry-item.result c.loop-entry-test.true c.entry-item.is
-          (c.in_ok-push_entry.ensures.text ∙ ap (λ s. s ++ entry_text c.args.topology.now c.entry-item.result) c.in_ok-push_str-2.ensures.bytes) c.loop-entry.invariant.so_far;
+          (c.in_ok-push_entry.ensures.text
+          ∙ ap (λ s. s ++ entry_text c.args.topology.now c.entry-item.result)
+          c.in_ok-push_str-2.ensures.bytes) c.loop-entry.invariant.so_far;
       bytes = λ k d lt.
-          below_more (λ n. (e : Entry) → IsOfBytes (get_or c.args.entries.now n e)) c.loop-entry.entry-index (λ n before e. c.loop-entry.invariant.bytes n e before)
+          below_more (λ n. (e : Entry) → IsOfBytes (get_or c.args.entries.now n e))
+          c.loop-entry.entry-index (λ n before e. c.loop-entry.invariant.bytes n e before)
           (λ e.
-          subst (λ (x : Entry). IsOfBytes x) (c.entry-item.is ∙ get_or_default c.args.entries.now c.loop-entry.entry-index c.entry-item.result e c.loop-entry-test.true)
+          subst (λ (x : Entry). IsOfBytes x) (c.entry-item.is
+          ∙ get_or_default c.args.entries.now c.loop-entry.entry-index c.entry-item.result e
+          c.loop-entry-test.true)
           c.in_ok-push_entry.ensures.bytes)
           k lt d;
     }

@@ -10,7 +10,8 @@ abbrev pub invariant-loop-entry : goal.invariant-loop-entry
 invariant-loop-entry l =
     record {
       is_text : shadow (Utf8 l.separator);
-      so_far : string_bytes l.text ++ listed_after l.separator (map (entry_text l.topology) (drop l.entry-index l.entries))
+      so_far : string_bytes l.text ++ listed_after l.separator
+          (map (entry_text l.topology) (drop l.entry-index l.entries))
           ≡ string_bytes l.initial.text ++ listed (map (entry_text l.topology) l.entries);
       bytes : (k : ℕ) (d : Entry) → k < l.entry-index → IsOfBytes (get_or l.entries k d);
     }

@@ -9,7 +9,11 @@ abbrev pub invariant-loop-tree : goal.invariant-loop-tree
 invariant-loop-tree l =
     record {
       is_text : shadow (Utf8 l.separator);
-      so_far : string_bytes l.text ++ listed_after l.separator (map (λ n. tree_text l.topology (tree_at (map (λ t. t.items) l.kept) n)) (drop l.tree-index l.trees))
-          ≡ string_bytes l.initial.text ++ listed (map (λ n. tree_text l.topology (tree_at (map (λ t. t.items) l.kept) n)) l.trees);
-      bytes : (k d : ℕ) → k < l.tree-index → All IsOfBytes (tree_at (map (λ t. t.items) l.kept) (get_or l.trees k d));
+      so_far : string_bytes l.text ++ listed_after l.separator
+          (map (λ n. tree_text l.topology (tree_at (map (λ t. t.items) l.kept) n))
+          (drop l.tree-index l.trees))
+          ≡ string_bytes l.initial.text ++ listed
+          (map (λ n. tree_text l.topology (tree_at (map (λ t. t.items) l.kept) n)) l.trees);
+      bytes : (k d : ℕ) → k < l.tree-index → All IsOfBytes
+          (tree_at (map (λ t. t.items) l.kept) (get_or l.trees k d));
     }

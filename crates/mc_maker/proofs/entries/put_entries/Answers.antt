@@ -6,16 +6,19 @@ use Rattle.mc_maker.proofs.FilledLemmas.{filled-start, filled-next, filled-end, 
 use Rattle.mc_maker.proofs.entries.put_entries.Goals as goal
 
 pub loop-copy-init : goal.loop-copy-init
-loop-copy-init c = filled-start (flow_net c.args.followed.now) c.args.by_lan.now c.args.copies.now c.requires.empty
+loop-copy-init c = filled-start (flow_net c.args.followed.now) c.args.by_lan.now c.args.copies.now
+    c.requires.empty
 
 pub returns : goal.returns
 returns c =
-    filled-end (flow_net c.args.followed.now) c.loop-copy.by_lan c.args.by_lan.now c.args.copies.now c.loop-copy.copy-index c.loop-copy.invariant
+    filled-end (flow_net c.args.followed.now) c.loop-copy.by_lan c.args.by_lan.now c.args.copies.now
+    c.loop-copy.copy-index c.loop-copy.invariant
     (omega (arith, c.loop-copy-test.false))
 
 pub entry_of-entry-requires-clause-small : goal.entry_of-entry-requires-clause-small
 entry_of-entry-requires-clause-small c =
-    need-small (flow_net c.args.followed.now) c.loop-copy.by_lan c.args.by_lan.now c.args.copies.now c.loop-copy.copy-index c.copy-item.result c.loop-copy.invariant
+    need-small (flow_net c.args.followed.now) c.loop-copy.by_lan c.args.by_lan.now c.args.copies.now
+    c.loop-copy.copy-index c.copy-item.result c.loop-copy.invariant
     c.loop-copy-test.true c.copy-item.is c.requires.needs
 
 pub loop-copy-preserved : goal.loop-copy-preserved
@@ -24,6 +27,8 @@ loop-copy-preserved c =
     let k = c.loop-copy.copy-index in
     let x = c.copy-item.result in
     let within : x.lan < length c.args.by_lan.now =
-    subst (λ (y : Copy). y.lan < length c.args.by_lan.now) (sym c.copy-item.is) (c.requires.lans k x c.loop-copy-test.true) in
-    filled-next (flow_net c.args.followed.now) c.loop-copy.by_lan c.put.new.by_lan c.args.by_lan.now cs k x c.entry_of-entry.result c.loop-copy.invariant c.requires.once
+    subst (λ (y : Copy). y.lan < length c.args.by_lan.now) (sym c.copy-item.is)
+    (c.requires.lans k x c.loop-copy-test.true) in
+    filled-next (flow_net c.args.followed.now) c.loop-copy.by_lan c.put.new.by_lan c.args.by_lan.now
+    cs k x c.entry_of-entry.result c.loop-copy.invariant c.requires.once
     c.loop-copy-test.true c.copy-item.is within c.entry_of-entry.ensures c.put.ensures

@@ -8,13 +8,16 @@ use Rattle.mc_forward.proofs.DomainLemmas.{ttl-to}
 use Rattle.mc_replay.specs.FindingValues.{finding_value}
 use Rattle.mc_maker.specs.Examined.{FindsFault, IsTravelOfFirst, IsTtlOfFault}
 use Rattle.mc_maker.proofs.CleanLemmas.{clean-copies}
-use Rattle.mc_maker.proofs.ExaminedLemmas.{accepted-right, fault-value, of-travel, ttl-at, ttl-greatest, ttl-least, wrong}
+use Rattle.mc_maker.proofs.ExaminedLemmas.{accepted-right, fault-value, of-travel, ttl-at}
+use Rattle.mc_maker.proofs.ExaminedLemmas.{ttl-greatest, ttl-least, wrong}
 use Rattle.mc_maker.proofs.examination.examine.Goals as goal
 
 pub certificate_of-requires-clause-clean : goal.certificate_of-requires-clause-clean
 certificate_of-requires-clause-clean c =
-    clean-copies c.args.domain.now c.in_ok-ended.ended.flight.domain c.args.flow c.in_ok-ended.ended.travel c.in_ok-ended.ended.flight.flight c.copies.result.now
-    c.topology-topology.ensures.rules c.in_ok-ended.ensures.domain c.in_ok-ended.ensures.run (ap finding_value c.in-Clean.is) c.copies.ensures.copies c.copies.ensures.lans
+    clean-copies c.args.domain.now c.in_ok-ended.ended.flight.domain c.args.flow
+    c.in_ok-ended.ended.travel c.in_ok-ended.ended.flight.flight c.copies.result.now
+    c.topology-topology.ensures.rules c.in_ok-ended.ensures.domain c.in_ok-ended.ensures.run
+    (ap finding_value c.in-Clean.is) c.copies.ensures.copies c.copies.ensures.lans
     c.copies.ensures.senders
 
 pub returns-in_default : goal.returns-in_default
@@ -22,7 +25,8 @@ returns-in_default c =
     let d = c.args.domain.now in
     let t = c.in_ok-ended.ended.travel in
     let ok = c.topology-topology.ensures.rules in
-    let is : IsTravelOfFirst d c.args.flow 255 t = (c.in_ok-ended.ended.flight.flight, c.in_ok-ended.ensures.run) in
+    let is : IsTravelOfFirst d c.args.flow 255 t =
+    (c.in_ok-ended.ended.flight.flight, c.in_ok-ended.ensures.run) in
     let fault : FindsFault t = fault-value t.finding c.in_default.not-Clean in
     record {
       accepted = tt;
@@ -33,21 +37,29 @@ returns-in_default c =
       travel = is;
       fault = fault;
       ttl = ttl-greatest d c.args.flow t is fault;
-      right = ((λ e. absurd cc), (λ r. absurd (wrong d c.args.flow 255 t ok (ttl-to d c.args.flow ok c.requires) (omega arith) is fault r)));
+      right = (
+        (λ e. absurd cc),
+        (λ r. absurd (wrong d c.args.flow 255 t ok (ttl-to d c.args.flow ok c.requires)
+            (omega arith) is fault r)),
+      );
     }
 
 pub returns-in-Some-clause-made : goal.returns-in-Some-clause-made
 returns-in-Some-clause-made c =
     let d = c.args.domain.now in
     let cs = c.copies.result.now in
-    of-travel d c.args.flow c.in_ok-ended.ended.travel c.in_ok-ended.ended.flight.flight cs c.in-Some.entries.items c.in_ok-ended.ensures.run (ap finding_value c.in-Clean.is)
-    (subst (λ o. IfSome o (λ es. IsReordering (entries_of (net_of d c.args.flow) cs) es.items)) c.in-Some.is c.in_ok-entries.ensures.entries) c.copies.ensures.copies
+    of-travel d c.args.flow c.in_ok-ended.ended.travel c.in_ok-ended.ended.flight.flight cs
+    c.in-Some.entries.items c.in_ok-ended.ensures.run (ap finding_value c.in-Clean.is)
+    (subst (λ o. IfSome o (λ es. IsReordering (entries_of (net_of d c.args.flow) cs) es.items))
+    c.in-Some.is c.in_ok-entries.ensures.entries) c.copies.ensures.copies
 
 pub returns-in-Some-clause-right : goal.returns-in-Some-clause-right
 returns-in-Some-clause-right c =
     let d = c.args.domain.now in (
-      (λ _. accepted-right d c.args.flow c.in-Some.entries.items c.topology-topology.ensures.rules c.requires
-          (subst (λ o. IfSome o (λ es. IsAccepted (net_of d c.args.flow) es.items)) c.in-Some.is c.in_ok-entries.ensures.accepted)),
+      (λ _. accepted-right d c.args.flow c.in-Some.entries.items c.topology-topology.ensures.rules
+          c.requires
+          (subst (λ o. IfSome o (λ es. IsAccepted (net_of d c.args.flow) es.items)) c.in-Some.is
+          c.in_ok-entries.ensures.accepted)),
       (λ _. refl),
     )
 
@@ -55,6 +67,8 @@ pub returns-clause-ttl : goal.returns-clause-ttl
 returns-clause-ttl c =
     let d = c.args.domain.now in
     let t = c.in_ok-ended.ended.travel in
-    let is : IsTravelOfFirst d c.args.flow 255 t = (c.in_ok-ended.ended.flight.flight, c.in_ok-ended.ensures.run) in
-    subst (IsTtlOfFault d c.args.flow) (ttl-at d c.args.flow c.topology-topology.result.now c.flow.result.now c.topology-topology.ensures.topology c.flow.ensures.flow)
+    let is : IsTravelOfFirst d c.args.flow 255 t =
+    (c.in_ok-ended.ended.flight.flight, c.in_ok-ended.ensures.run) in
+    subst (IsTtlOfFault d c.args.flow) (ttl-at d c.args.flow c.topology-topology.result.now
+    c.flow.result.now c.topology-topology.ensures.topology c.flow.ensures.flow)
     (ttl-least d c.args.flow t is (ap finding_value c.in-Clean.is))

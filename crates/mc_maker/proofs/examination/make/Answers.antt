@@ -12,7 +12,11 @@ returns-in-Certified-clause-travels c = λ first second a b.
     let ok = c.topology-rules.ensures.rules in
     let high = ttl-to d c.args.flow ok c.requires in
     let is_right = c.in_ok-entries.ensures.right.0 (ap is_certified c.in-Certified.is) in (
-      (λ _. (right-travel d c.args.flow 255 first ok high (omega arith) is_right a, right-travel d c.args.flow (ttl_of d c.args.flow) second ok (omega arith) high is_right b)),
+      (λ _. (
+        right-travel d c.args.flow 255 first ok high (omega arith) is_right a,
+        right-travel d c.args.flow (ttl_of d c.args.flow) second ok
+            (omega arith) high is_right b,
+      )),
       (λ _. refl),
     ))
 
@@ -21,5 +25,7 @@ returns-clause-travels c = λ first second a b.
     (let d = c.args.domain.now in
     let ok = c.topology-rules.ensures.rules in (
       (λ e. absurd cc),
-      (λ both. sym (ap is_certified c.in-Found.is) ∙ c.in_ok-entries.ensures.right.1 (both-right d c.args.flow first second ok c.requires a b both.0 both.1)),
+      (λ both. sym (ap is_certified c.in-Found.is)
+          ∙ c.in_ok-entries.ensures.right.1 (both-right d c.args.flow first second ok c.requires a b
+          both.0 both.1)),
     ))

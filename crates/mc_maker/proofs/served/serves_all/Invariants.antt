@@ -4,4 +4,5 @@ use Rattle.mc_maker.specs.FlowNet.{flow_net}
 use Rattle.mc_maker.proofs.served.serves_all.Given as goal
 
 abbrev pub invariant-loop-number : goal.invariant-loop-number
-invariant-loop-number l = (lan : ℕ) → lan < l.number → serves (flow_net l.fn.followed) l.fn.by_lan lan ≡ true
+invariant-loop-number l = (lan : ℕ) → lan < l.number
+    → serves (flow_net l.fn.followed) l.fn.by_lan lan ≡ true

@@ -4,6 +4,7 @@ pub mod Each
 pub mod Fields
 pub mod JsonValues
 pub mod Kept
+pub mod ListLemmas
 pub mod Objects
 pub mod Parts
 pub mod PlaceLemmas

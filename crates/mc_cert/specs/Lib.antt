@@ -3,6 +3,7 @@ pub mod Certificate
 pub mod CertificateText
 pub mod Distinct
 pub mod Entries
+pub mod Lists
 pub mod Object
 pub mod Places
 pub mod PlaceText

@@ -7,6 +7,7 @@ mod distinct;
 mod entry;
 mod fault;
 mod laws;
+mod lists;
 mod object;
 mod reached;
 mod read;
@@ -21,6 +22,7 @@ pub use laws::{
     certificates_are_read_as_they_stand, texts_of_certificates_stand_for_them,
     texts_stand_for_certificates,
 };
+pub use lists::Lists;
 pub use reached::{FlowCert, Reached};
 
 #[cfg(test)]

@@ -3,6 +3,7 @@
 
 mod faults;
 mod limits;
+mod lists;
 mod network;
 mod values;
 mod written;

@@ -7,7 +7,7 @@ use mc_topology::{LanNo, RouterNo, Topology};
 use std::test::Fail;
 
 /// The entries of the network's certificate.
-const REACHED: [Reached; 3] = [
+pub(super) const REACHED: [Reached; 3] = [
     Reached {
         lan: LanNo(0),
         rank: 0,
@@ -30,7 +30,7 @@ const REACHED: [Reached; 3] = [
 
 /// Whether the certificate says of the flow with this number that it goes from 10.0.0.5 to this group, and
 /// reaches these LANs.
-fn says(
+pub(super) fn says(
     certificate: &Certificate,
     topology: &Topology,
     number: u32,
@@ -57,7 +57,7 @@ fn both_versions_are_read(rt: HostRuntime) -> Result<(), Fail> {
 }
 
 /// Three trees, of which the flows name the last and the first.
-const TREES: &str =
+pub(super) const TREES: &str =
     r#"{"flows":[{"group":"239.1.2.3","source":"10.0.0.5","tree":2},{"group":"239.1.2.4","source":"10.0.0.5","tree":0}],"trees":[[{"lan":"l0","need":1,"rank":0}],[],[{"lan":"l0","need":1,"rank":0},{"lan":"l1","need":2,"rank":1,"router":"r1","vif":1},{"lan":"l2","need":3,"rank":2,"router":"r2","vif":1}]],"version":2}"#;
 
 /// The same lists in version 1.

@@ -1,5 +1,5 @@
 -- What a run of `mcaudit make` shows of the text that it read.
-use Rattle.std.proofs.Common.{◌≡◌, ◌≢◌, ℕ, zero, suc, ◌+◌, ◌<◌, ◌⊎◌, inl, inr, All, Bool, true, false, List, [], ◌∷◌, ◌++◌}
+use Rattle.std.proofs.Common.{◌≡◌, ◌≢◌, ℕ, zero, suc, ◌+◌, ◌<◌, ◌≤◌, ◌⊎◌, inl, inr, All, Bool, true, false, List, [], ◌∷◌, ◌++◌}
 use Rattle.std.proofs.Common.{Global, Vec, length, take, Option, Some, None, Result, Ok, Err, refl, sym, ap, subst, ◌∙◌, arith}
 use Rattle.std.proofs.Common.{append_assoc, append-nil, length-append}
 use Rattle.std.specs.Prelude.{◌↔◌, ◌==◌, IfSome, IsTrue, codes, slice_get}
@@ -132,6 +132,19 @@ made_found d k lists old lines f x ttl travel made here is same grown =
     (subst (λ (ls : List Tree). AreMadeTo d (k + 1) ls
     (old ++ found_lines d.topology f ttl travel.finding)) (append-nil lists) next)
 
+-- there are no more lists than flows
+lists_few : (xs : List Examined) → length (lists_of xs) ≤ length xs
+lists_few [] = omega arith
+lists_few (Certified entries ∷ xs) = omega (arith, lists_few xs)
+lists_few (Found ttl travel ∷ xs) = omega (arith, lists_few xs)
+
+pub made_few : (d : DomainValue) (k : ℕ) (lists : List Tree) (lines : List ℕ)
+    → AreMadeTo d k lists lines → length lists ≤ k
+made_few d k lists lines made =
+    let same : length lists ≡ length (lists_of made.examined) =
+    ap (λ (ls : List Tree). length ls) made.lists_are in
+    omega (arith, same, made.count, lists_few made.examined)
+
 pub made_end : (d : DomainValue) (k : ℕ) (lists : List Tree) (lines : List ℕ)
     → AreMadeTo d k lists lines → k ≡ length d.topology.flows → AreMade d lists lines
 made_end d k lists lines made all = record {
@@ -249,12 +262,6 @@ made_belong d t lists lines made same none =
     let belong = lists_belong d made.examined made.are_examined (all_made d lists lines made none) in
     subst (λ (x : TopologyValue). BelongsTo x lists) (sym same)
     (subst (λ (ls : List Tree). BelongsTo d.topology ls) (sym made.lists_are) belong)
-
-pub made_kept : (d : DomainValue) (lists : List Tree) (lines : List ℕ) → AreMade d lists lines
-    → All IsList lists
-made_kept d lists lines made =
-    subst (λ (ls : List Tree). All IsList ls) (sym made.lists_are)
-    (lists_kept d made.examined made.are_examined)
 
 says_right : (text : List ℕ) (o : Option (List ℕ)) (d : DomainValue) (xs : List Examined)
     (certified : Bool) → MeansDomain text o d → o ≡ None → AreExamined d xs

@@ -1,9 +1,9 @@
 //! `mcaudit make`: the certificate of a domain, or for each flow that has none what a packet of it meets.
 
-ghost use Rattle.std.specs.Prelude.{◌≡◌, ◌≢◌, ◌++◌, ◌<◌, All, IfErr, IfOk, IfSome, Err, codes, false, map};
+ghost use Rattle.std.specs.Prelude.{◌≡◌, ◌≢◌, ◌++◌, ◌<◌, IfErr, IfOk, IfSome, Err, codes, false};
 ghost use Rattle.std.specs.String.{string_bytes};
 ghost use Rattle.mc_text.specs.ReadFault.{ConsumesUpTo};
-ghost use Rattle.mc_cert.specs.Certificate.{BelongsTo, IsList};
+ghost use Rattle.mc_cert.specs.Certificate.{BelongsTo};
 ghost use Rattle.mc_cert.specs.CertificateText.{certificate_text as text_of_certificate};
 ghost use Rattle.mcaudit.specs.BundleMeaning.{IsRefusedFor, max_input};
 ghost use Rattle.mcaudit.specs.Failures.{IsNoDeviceFault, failed_reads, failed_writes};
@@ -12,7 +12,7 @@ ghost use Rattle.mcaudit.specs.MakeRun.{Answers, AreMade, IsMadeText, SaysIfRigh
 use crate::domain_input::{MAX_INPUT, domain_in};
 use crate::fault::RunFault;
 use crate::found_text::push_found;
-use mc_cert::{Certificate, Reached};
+use mc_cert::Lists;
 use mc_forward::Domain;
 use mc_maker::{Examined, examine};
 use mc_text::{Input, Memory as NoMemory, Output, read_to_limit, write_all};
@@ -22,17 +22,16 @@ use std::alloc::Global;
 /// The lists of the flows that have one, and the lines of those that have none.
 #[derive(Drop)]
 struct Made {
-    lists: Vec<Vec<Reached>>,
+    lists: Lists,
     lines: String,
 }
 
 /// Examines each flow of a domain, in order.
 fn make_all(alloc: Global, domain: &Domain) -> Result<Made, NoMemory>
-    ensures { IfOk result (λ made. AreMade domain.now
-        (map (λ list. list.items) made.lists.items) (string_bytes made.lines)) }
+    ensures { IfOk result (λ made. AreMade domain.now made.lists (string_bytes made.lines)) }
 {
     let topology = domain.topology();
-    let mut lists = Vec::new(alloc);
+    let mut lists = Lists::new(alloc);
     let mut lines = String::new(alloc);
     for flow in 0..topology.flows() {
         match examine(alloc, domain, flow)? {
@@ -55,15 +54,13 @@ fn make_all(alloc: Global, domain: &Domain) -> Result<Made, NoMemory>
 fn certificate_text(
     alloc: Global,
     topology: &Topology,
-    lists: Vec<Vec<Reached>>,
+    lists: Lists,
 ) -> Result<String, NoMemory>
-    requires belongs { BelongsTo topology.now (map (λ list. list.items) lists.items) }
-    requires lists { All IsList (map (λ list. list.items) lists.items) }
+    requires { BelongsTo topology.now lists }
     ensures { IfOk result (λ text. string_bytes text ≡
-        text_of_certificate topology.now (map (λ list. list.items) lists.items) ++ codes "\n") }
+        text_of_certificate topology.now lists ++ codes "\n") }
 {
-    let _rules = topology.flows();
-    let mut text = Certificate::from_flows(lists).to_json(alloc, topology)?;
+    let mut text = lists.into_certificate(alloc)?.to_json(alloc, topology)?;
     text.push_str("\n").map_err(|_| NoMemory)?;
     Ok(text)
 }

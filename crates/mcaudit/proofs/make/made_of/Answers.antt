@@ -1,7 +1,7 @@
 use Rattle.std.proofs.Common.{◌∙◌, sym}
 use Rattle.std.proofs.lemmas.Result.{err_from_is_err_and}
 use Rattle.mcaudit.proofs.ReplayLemmas.{no_certificate}
-use Rattle.mcaudit.proofs.MakeLemmas.{certificate_right, certificate_told, lines_gone, lines_right, lines_there, lines_told, made_belong, made_kept}
+use Rattle.mcaudit.proofs.MakeLemmas.{certificate_right, certificate_told, lines_gone, lines_right, lines_there, lines_told, made_belong}
 use Rattle.mcaudit.proofs.make.made_of.Goals as goal
 
 pub returns-in_err-made-clause-refused : goal.returns-in_err-made-clause-refused
@@ -32,16 +32,12 @@ returns-then-not-is_empty-clause-right c =
     (no_certificate c.in_ok-input.input.certificate c.in_ok-input.ensures.certified)
     c.in_ok-made.ensures (λ none. there (size ∙ none))
 
-pub certificate_text-requires-clause-belongs : goal.certificate_text-requires-clause-belongs
-certificate_text-requires-clause-belongs c =
+pub certificate_text-requires : goal.certificate_text-requires
+certificate_text-requires c =
     let size = c.in_ok-made.made.lines.bytes.ok.0 in
     made_belong c.in_ok-input.input.domain c.topology.result.now _ _ c.in_ok-made.ensures
     c.topology.ensures.topology
     (sym size ∙ lines_gone _ _ c.is_empty.ensures c.if-not-is_empty.false)
-
-pub certificate_text-requires-clause-lists : goal.certificate_text-requires-clause-lists
-certificate_text-requires-clause-lists c =
-    made_kept c.in_ok-input.input.domain _ _ c.in_ok-made.ensures
 
 pub returns-in_err-text-clause-refused : goal.returns-in_err-text-clause-refused
 returns-in_err-text-clause-refused c =

@@ -1,13 +1,24 @@
-use Rattle.std.proofs.Common.{◌≡◌, ◌++◌, ◌∷◌, [], ap, ◌∙◌, subst, arith, length, map, slice_get, Some}
+use Rattle.std.proofs.Common.{◌≡◌, ◌++◌, ap, ◌∙◌, subst, arith, length, slice_get, Some}
 use Rattle.std.specs.String.{string_bytes}
-use Rattle.mc_theory.proofs.Invariant.{map-append'}
 use Rattle.mcaudit.specs.MakeRun.{IsExamined, found_lines}
-use Rattle.mcaudit.proofs.MakeLemmas.{made_certified, made_found, made_start}
+use Rattle.mcaudit.proofs.MakeLemmas.{made_certified, made_few, made_found, made_start}
 use Rattle.mcaudit.proofs.make.make_all.Goals.{in-Certified+in_ok-push-in-Certified, in-Found+in_ok-push_found-in-Found}
 use Rattle.mcaudit.proofs.make.make_all.Goals as goal
 
 pub loop-flow-init : goal.loop-flow-init
-loop-flow-init c = rw (c.new-lists.ensures.items, c.new-lines.ensures.bytes) (made_start c.args.domain.now)
+loop-flow-init c = rw (c.new-lists.ensures, c.new-lines.ensures.bytes) (made_start c.args.domain.now)
+
+pub push-requires-clause-few : goal.push-requires-clause-few
+push-requires-clause-few c =
+    let few = made_few c.args.domain.now c.loop-flow.flow c.loop-flow.lists (string_bytes c.loop-flow.lines)
+    c.loop-flow.invariant in
+    omega (
+      arith,
+      few,
+      c.loop-flow-test.true,
+      c.flows-flow-end.ensures.count,
+      c.flows-flow-end.ensures.rules.few_flows,
+    )
 
 pub loop-flow-preserved : goal.loop-flow-preserved
 loop-flow-preserved c =
@@ -29,10 +40,8 @@ loop-flow-preserved c =
     } in
     elim c.match-branch-2.branch [
       | in-Certified+in_ok-push-in-Certified w ↦
-          (let grown = ap (λ lists. map (λ list. list.items) lists.items) w.lists-is
-          ∙ ap (map (λ list. list.items)) w.in_ok-push-in-Certified.ensures.items
-          ∙ map-append' (λ list. list.items) c.loop-flow.lists.items (w.in-Certified.entries ∷ []) in
-          rw (w.lines-is) (made_certified d k (map (λ list. list.items) c.loop-flow.lists.items) _
+          (let grown = w.lists-is ∙ w.in_ok-push-in-Certified.ensures.pushed in
+          rw (w.lines-is) (made_certified d k c.loop-flow.lists _
           (string_bytes c.loop-flow.lines) x w.in-Certified.entries c.loop-flow.invariant
           (omega (
             arith,
@@ -45,7 +54,7 @@ loop-flow-preserved c =
           let grown = ap string_bytes w.lines-is ∙ w.in_ok-push_found-in-Found.ensures
           ∙ ap (λ t. string_bytes c.loop-flow.lines ++ found_lines t w.flow.result.now w.in-Found.ttl
           w.in-Found.travel.finding) topology in
-          rw (w.lists-is) (made_found d k (map (λ list. list.items) c.loop-flow.lists.items)
+          rw (w.lists-is) (made_found d k c.loop-flow.lists
           (string_bytes c.loop-flow.lines) _ w.flow.result.now x w.in-Found.ttl w.in-Found.travel
           c.loop-flow.invariant here is w.in-Found.is grown))
     ]

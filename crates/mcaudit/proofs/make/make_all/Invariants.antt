@@ -1,4 +1,3 @@
-use Rattle.std.proofs.Common.{map}
 use Rattle.std.specs.String.{string_bytes}
 use Rattle.mcaudit.proofs.MakeLemmas.{AreMadeTo}
 use Rattle.mcaudit.proofs.make.make_all.Given as goal
@@ -6,4 +5,4 @@ use Rattle.mcaudit.proofs.make.make_all.Given as goal
 -- the lists and the lines so far are those of the first flows
 abbrev pub invariant-loop-flow : goal.invariant-loop-flow
 invariant-loop-flow l =
-    AreMadeTo l.fn.domain l.flow (map (λ list. list.items) l.lists.items) (string_bytes l.lines)
+    AreMadeTo l.fn.domain l.flow l.lists (string_bytes l.lines)

@@ -1,7 +1,8 @@
 -- What is written of the flows of a domain, one after the other.
 use Rattle.std.proofs.Common.{◌≡◌, ℕ, zero, suc, ◌+◌, ◌<◌, ◌⊎◌, inl, inr, Bool, true, false}
 use Rattle.std.proofs.Common.{List, [], ◌∷◌, ◌++◌}
-use Rattle.std.proofs.Common.{Global, Vec, length, Some, Result, Ok, Err, refl, sym, ap, subst, ◌∙◌, arith}
+use Rattle.std.proofs.Common.{Global, Vec, length, Some, Result, Ok, Err, refl, sym, ap, subst, ◌∙◌}
+use Rattle.std.proofs.Common.{arith}
 use Rattle.std.proofs.Common.{append_assoc, append-nil, length-append}
 use Rattle.std.specs.Prelude.{◌↔◌, ◌&&◌, IfOk, IsTrue, slice_get}
 use Rattle.std.specs.Result.{IsOkAnd}
@@ -70,7 +71,8 @@ pub flow_certified : {X : Type 0} (d : DomainValue) (flow : ℕ) (travels : Bool
     → IfOk r (λ certified. IsTrue certified → HeadlineHolds (net_of d flow) (length seen))
     → IsYesWritten d flow seen r old new
     → IfOk r (λ certified. IsFlowAudited d flow travels certified old new)
-flow_certified d flow travels (Err e) x entries seen old new lt is same list accepted keeps puts = tt
+flow_certified d flow travels (Err e) x entries seen old new lt is same list accepted keeps puts =
+    tt
 flow_certified d flow travels (Ok certified) x entries seen old new lt is same list accepted keeps
     puts =
     let n = net_of d flow in

@@ -1,4 +1,5 @@
--- The lines of an audit: `verdict yes` begins none but the last, and that only where every flow is certified.
+-- The lines of an audit: `verdict yes` begins none but the last, and that only where every flow is
+-- certified.
 use Rattle.std.proofs.Common.{◌≡◌, ℕ, eqb, Bool, true, false, List, [], ◌∷◌, ◌++◌, inl, inr}
 use Rattle.std.proofs.Common.{length, refl, sym, ap, ◌∙◌, append_assoc}
 use Rattle.std.specs.Prelude.{codes, slice_index, decimal}

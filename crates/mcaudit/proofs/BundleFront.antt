@@ -1,11 +1,13 @@
--- The first bytes of a text decide what bundle it is read as: those of the greatest bundle, and of the longest
--- line after it.
-use Rattle.std.proofs.Common.{◌≡◌, ℕ, zero, suc, ◌+◌, ◌-◌, ◌<◌, ◌≤◌, Bool, true, false, List, [], ◌∷◌}
+-- The first bytes of a text decide what bundle it is read as: those of the greatest bundle, and of
+-- the longest line after it.
+use Rattle.std.proofs.Common.{◌≡◌, ℕ, zero, suc, ◌+◌, ◌-◌, ◌<◌, ◌≤◌, Bool, true, false, List, []}
+use Rattle.std.proofs.Common.{◌∷◌}
 use Rattle.std.proofs.Common.{cond, length, take, drop, Option, Some, None, Result, Ok, Err}
 use Rattle.std.proofs.Common.{refl, sym, ap, subst, ◌∙◌, arith, inl, inr, length-take, slice_index}
 use Rattle.std.specs.Prelude.{◌==◌, ◌||◌, nat_lt, nat_le, codes, position, if◌then◌else◌}
 use Rattle.std.specs.Str.{bytes_eq}
-use Rattle.std.proofs.lemmas.Bool.{cases_lt, or_parts, ltb-false, leb-true, leb-false, le-ltb, lt-leb, ne_eqb}
+use Rattle.std.proofs.lemmas.Bool.{cases_lt, or_parts, ltb-false, leb-true, leb-false, le-ltb}
+use Rattle.std.proofs.lemmas.Bool.{lt-leb, ne_eqb}
 use Rattle.std.proofs.lemmas.List.{take_all, drop-take, get_or-take}
 use Rattle.std.proofs.lemmas.List.Quantifiers.{position-Some}
 use Rattle.mc_text.specs.declared.bundle_fault.BundleFault.{BundleFault}
@@ -141,7 +143,8 @@ some_left : (k : ℕ) (after : List ℕ) → 0 < k
     → (length (take k after) == 0) ≡ (length after == 0)
 some_left zero after some = absurd (omega (arith, some))
 some_left (suc k) [] some = refl
-some_left (suc k) (b ∷ after) some = not_none (length (take k after)) ∙ sym (not_none (length after))
+some_left (suc k) (b ∷ after) some = not_none (length (take k after))
+    ∙ sym (not_none (length after))
 
 abbrev end_or : Bool → Result (Option (PartText × Place)) BundleFault
 end_or ended = if ended then Ok None else Err faults.AfterEnd

@@ -1,6 +1,8 @@
 -- A certificate that `mcaudit make` writes is one that `mcaudit check` says yes to.
-use Rattle.std.proofs.Common.{◌≡◌, ℕ, zero, suc, ◌+◌, ◌<◌, ◌≤◌, ◌==◌, max, All, Bool, true, false, List, [], ◌∷◌, ◌++◌}
-use Rattle.std.proofs.Common.{length, map, Option, Some, None, Result, Ok, refl, sym, ap, subst, ◌∙◌, arith, length-append}
+use Rattle.std.proofs.Common.{◌≡◌, ℕ, zero, suc, ◌+◌, ◌<◌, ◌≤◌, ◌==◌, max, All, Bool, true, false}
+use Rattle.std.proofs.Common.{List, [], ◌∷◌, ◌++◌}
+use Rattle.std.proofs.Common.{length, map, Option, Some, None, Result, Ok, refl, sym, ap, subst}
+use Rattle.std.proofs.Common.{◌∙◌, arith, length-append}
 use Rattle.std.specs.Prelude.{◌↔◌, IsSome, IsTrue, slice_get, slice_index_or}
 use Rattle.std.specs.List.{AllByRecursion}
 use Rattle.std.proofs.lemmas.Bool.{eqb-true, eq-eqb, false≢true}
@@ -44,7 +46,8 @@ use Rattle.mc_maker.specs.declared.examination.Examined.TheVariants.{Certified, 
 use Rattle.mc_maker.proofs.FilledLemmas.{in-all}
 use Rattle.mcaudit.specs.BundleMeaning.{MeansDomain}
 use Rattle.mcaudit.specs.CheckRun.{IsVerdictText}
-use Rattle.mcaudit.specs.MakeRun.{AreExamined, IsMadeText, are_certified, lists_of, with_certificate}
+use Rattle.mcaudit.specs.MakeRun.{AreExamined, IsMadeText, are_certified, lists_of}
+use Rattle.mcaudit.specs.MakeRun.{with_certificate}
 use Rattle.mcaudit.specs.VerdictText.{AreVerdicts, IsVerdict, are_yes, check_text}
 use Rattle.mcaudit.proofs.LineFeed.{read_fed}
 use Rattle.mcaudit.proofs.MakeLemmas.{at as at_place, each_list, lists_belong, lists_kept, within}
@@ -53,7 +56,8 @@ use Rattle.mcaudit.proofs.MakeLemmas.{at as at_place, each_list, lists_belong, l
 
 module _ (n : Net) (es : List Entry) (tree : IsTree n es) where
   source_is : (e : Entry) → In e es → e.lan ≡ n.source → e ≡ source_entry_of n
-  source_is e h at = same-by_image (λ (x : Entry). x.lan) e (source_entry_of n) es tree.one_entry h tree.source_entry at
+  source_is e h at = same-by_image (λ (x : Entry). x.lan) e (source_entry_of n) es tree.one_entry h
+      tree.source_entry at
 
   source_of_none : (e : Entry) → In e es → e.forwarder ≡ None → (b : Bool) → (e.lan == n.source) ≡ b
       → e ≡ source_entry_of n
@@ -89,18 +93,22 @@ module _ (n : Net) (es : List Entry) (tree : IsTree n es) where
   all_bytes : All IsOfBytes es
   all_bytes = in-all IsOfBytes es (λ e h. bytes_by e.rank e (omega arith) h)
 
-certified_bytes : (n : Net) (x : Examined) → IfCertified (IsAccepted n) x → IfCertified (All IsOfBytes) x
+certified_bytes : (n : Net) (x : Examined) → IfCertified (IsAccepted n) x
+    → IfCertified (All IsOfBytes) x
 certified_bytes n (Certified entries) accepted = all_bytes n entries.items accepted.is_tree
 certified_bytes n (Found ttl travel) accepted = tt
 
-lists_bytes : (d : DomainValue) (xs : List Examined) → AreExamined d xs → All (All IsOfBytes) (lists_of xs)
+lists_bytes : (d : DomainValue) (xs : List Examined) → AreExamined d xs
+    → All (All IsOfBytes) (lists_of xs)
 lists_bytes d xs are =
-    each_list (All IsOfBytes) xs (λ k x at. certified_bytes (net_of d k) x (are.each k x at).accepted)
+    each_list (All IsOfBytes) xs (λ k x at. certified_bytes (net_of d k) x
+    (are.each k x at).accepted)
 
 -- ---- the certificate's text
 
 -- a line feed behind a certificate's text changes nothing
-stands_fed : (t : TopologyValue) (text : List ℕ) (lists : List Tree) → length (text ++ 10 ∷ []) ≤ 16777216
+stands_fed : (t : TopologyValue) (text : List ℕ) (lists : List Tree)
+    → length (text ++ 10 ∷ []) ≤ 16777216
     → CertificateStands t text lists → CertificateStands t (text ++ 10 ∷ []) lists
 stands_fed t text lists few h = record {
   document = h.document;
@@ -113,7 +121,8 @@ stands_fed t text lists few h = record {
   stands = h.stands;
 }
 
-pub made_stands : (text written : List ℕ) (m : IsMadeText text true written) → length written ≤ 16777216
+pub made_stands : (text written : List ℕ) (m : IsMadeText text true written)
+    → length written ≤ 16777216
     → CertificateStands m.domain.topology written (lists_of m.examined)
 made_stands text written m few =
     let d = m.domain in
@@ -123,12 +132,14 @@ made_stands text written m few =
     let size : length written ≡ length body + 1 =
     ap (λ (bytes : List ℕ). length bytes) m.spelled ∙ length-append body (10 ∷ []) in
     let stands = texts_stand t lists m.means.rules.topology
-    (lists_belong d m.examined m.are_examined (sym m.answer)) (lists_kept d m.examined m.are_examined)
+    (lists_belong d m.examined m.are_examined (sym m.answer))
+    (lists_kept d m.examined m.are_examined)
     (lists_bytes d m.examined m.are_examined) (omega (arith, size, few)) in
     subst (λ (bytes : List ℕ). CertificateStands t bytes lists) (sym m.spelled)
     (stands_fed t body lists (omega (arith, size, few, length-append body (10 ∷ []))) stands)
 
-pub made_reads : (text written : List ℕ) (m : IsMadeText text true written) → length written ≤ 16777216
+pub made_reads : (text written : List ℕ) (m : IsMadeText text true written)
+    → length written ≤ 16777216
     → reading_of m.domain.topology written ≡ Ok (lists_of m.examined)
 made_reads text written m few =
     reading_again m.domain.topology written (lists_of m.examined) (made_stands text written m few)
@@ -146,7 +157,8 @@ list_at P (Certified entries ∷ xs) all each (suc k) es at =
     list_at (λ i. P (suc i)) xs all (λ i x here. each (suc i) x here) k es at
 list_at P (Found ttl travel ∷ xs) all each k es at = absurd cc
 
-pub made_accepted : (text written : List ℕ) (m : IsMadeText text true written) (flow : ℕ) (es : Tree)
+pub made_accepted : (text written : List ℕ) (m : IsMadeText text true written) (flow : ℕ)
+    (es : Tree)
     → slice_get (lists_of m.examined) flow ≡ Some es → IsAccepted (net_of m.domain flow) es
 made_accepted text written m =
     list_at (λ k. IsAccepted (net_of m.domain k)) m.examined (sym m.answer)
@@ -154,7 +166,8 @@ made_accepted text written m =
 
 -- ---- the bundle with the certificate
 
-tables_more : (rs : List RouterRow) (here : List PartText) (ts : List TablesValue) (rest more : List PartText)
+tables_more : (rs : List RouterRow) (here : List PartText) (ts : List TablesValue)
+    (rest more : List PartText)
     → TellTables rs here ts rest → TellTables rs (here ++ more) ts (rest ++ more)
 tables_more [] here [] rest more h = ap (λ (ps : List PartText). ps ++ more) h
 tables_more [] here (t ∷ ts) rest more h = absurd h
@@ -191,7 +204,8 @@ parts_with parts v text h =
     }
 
 means_with : (text bundle : List ℕ) (parts : List PartText) (certificate : List ℕ) (d : DomainValue)
-    → MeansDomain text None d → IsBundle text parts → IsBundle bundle (with_certificate parts certificate)
+    → MeansDomain text None d → IsBundle text parts
+    → IsBundle bundle (with_certificate parts certificate)
     → MeansDomain bundle (Some certificate) d
 means_with text bundle parts certificate d means is more = record {
   input = means.input;
@@ -221,13 +235,15 @@ are_yes_of : (d : DomainValue) (lists : List Tree) → length lists ≡ length d
 are_yes_of d lists count each = record {
   count = length-map lists yes_of ∙ count;
   each = λ flow es v listed told.
-      let found : Some (yes_of es) ≡ Some v = sym (slice_get-map_some yes_of lists flow es listed) ∙ told in
+      let found : Some (yes_of es) ≡ Some v = sym (slice_get-map_some yes_of lists flow es listed)
+      ∙ told in
       let same : yes_of es ≡ v = cc in
       subst (λ (w : Verdict). IsVerdict (length d.topology.lans) (net_of d flow) es w) same
       (each flow es listed, refl);
 }
 
-last_of : {A : Type 0} (P : A → Type 0) (xs : List A) (x : A) → AllByRecursion P (xs ++ x ∷ []) → P x
+last_of : {A : Type 0} (P : A → Type 0) (xs : List A) (x : A) → AllByRecursion P (xs ++ x ∷ [])
+    → P x
 last_of P [] x all = all.0
 last_of P (y ∷ xs) x all = last_of P xs x all.1
 
@@ -325,9 +341,12 @@ parts_same parts v w a b p q =
     let topology : v.topology ≡ w.topology =
     one_topology p.topology v.topology w.topology p.topology_stands
     (subst (λ (s : List ℕ). TopologyStands s w.topology) (sym text) q.topology_stands) in
-    let tables = tables_same v.topology.routers p.of_routers v.tables w.tables p.of_lans q.of_lans p.tables
-    (subst (λ (ps : List PartText). TellTables v.topology.routers ps w.tables q.of_lans) (sym routers)
-    (subst (λ (t : TopologyValue). TellTables t.routers q.of_routers w.tables q.of_lans) (sym topology)
+    let tables = tables_same v.topology.routers p.of_routers v.tables w.tables p.of_lans q.of_lans
+    p.tables
+    (subst (λ (ps : List PartText). TellTables v.topology.routers ps w.tables q.of_lans)
+    (sym routers)
+    (subst (λ (t : TopologyValue). TellTables t.routers q.of_routers w.tables q.of_lans)
+    (sym topology)
     q.tables)) in
     let reports = reports_same v.topology.lans p.of_lans v.reports w.reports p.last q.last p.reports
     (subst (λ (ps : List PartText). TellReports v.topology.lans ps w.reports q.last) (sym tables.1)
@@ -355,24 +374,28 @@ same_answer true false W p q = sym (q.1 (p.0 refl))
 same_answer false true W p q = p.1 (q.0 refl)
 same_answer false false W p q = refl
 
-index_is : {A : Type 0} (xs : List A) (k : ℕ) (x y : A) → slice_get xs k ≡ Some x → slice_index_or xs k y ≡ x
+index_is : {A : Type 0} (xs : List A) (k : ℕ) (x y : A) → slice_get xs k ≡ Some x
+    → slice_index_or xs k y ≡ x
 index_is [] k x y at = absurd cc
 index_is (z ∷ xs) zero x y at = cc
 index_is (z ∷ xs) (suc k) x y at = index_is xs k x y at
 
-wants_is : (d : DomainValue) (lan flow : ℕ) (row : List Bool) (b : Bool) → slice_get d.wants lan ≡ Some row
+wants_is : (d : DomainValue) (lan flow : ℕ) (row : List Bool) (b : Bool)
+    → slice_get d.wants lan ≡ Some row
     → slice_get row flow ≡ Some b → wants_of d flow lan ≡ b
 wants_is d lan flow row b at here =
     ap (λ (bs : List Bool). slice_index_or bs flow false) (index_is d.wants lan row [] at)
     ∙ index_is row flow b false here
 
-reports_count : (lans : List (List ℕ)) (here : List PartText) (all : List (List Record)) (rest : List PartText)
+reports_count : (lans : List (List ℕ)) (here : List PartText) (all : List (List Record))
+    (rest : List PartText)
     → TellReports lans here all rest → length all ≡ length lans
 reports_count [] here [] rest h = refl
 reports_count [] here (records ∷ all) rest h = absurd h
 reports_count (lan ∷ lans) [] all rest h = absurd h
 reports_count (lan ∷ lans) (part ∷ here) [] rest h = absurd h
-reports_count (lan ∷ lans) (part ∷ here) (records ∷ all) rest h = ap suc (reports_count lans here all rest h.1)
+reports_count (lan ∷ lans) (part ∷ here) (records ∷ all) rest h =
+    ap suc (reports_count lans here all rest h.1)
 
 wants_same : (v : InputValue) (d e : DomainValue) → IsDomain d → IsDomain e
     → length v.reports ≡ length v.topology.lans → IsAssembled v.topology v.tables v.reports d
@@ -417,13 +440,16 @@ means_same : (text a b : List ℕ) (d e : DomainValue) → MeansDomain text (Som
     → MeansDomain text (Some b) e → AreSame d e a b
 means_same text a b d e m n =
     let parts = same_parts text n.parts.parts m.parts.parts n.parts.bundle m.parts.bundle in
-    let other = subst (λ (ps : List PartText). PartsStand ps n.input (Some b)) parts n.parts.stand in
+    let other = subst (λ (ps : List PartText). PartsStand ps n.input (Some b)) parts
+    n.parts.stand in
     let told = parts_same m.parts.parts m.input n.input a b m.parts.stand other in
     let stand = m.parts.stand in
-    let count = reports_count m.input.topology.lans stand.of_lans m.input.reports stand.last stand.reports in
+    let count = reports_count m.input.topology.lans stand.of_lans m.input.reports stand.last
+    stand.reports in
     record {
       domain = domain_same m.input d e m.rules n.rules count m.assembled
-          (subst (λ (v : InputValue). IsAssembled v.topology v.tables v.reports e) (sym told.value) n.assembled);
+          (subst (λ (v : InputValue). IsAssembled v.topology v.tables v.reports e)
+          (sym told.value) n.assembled);
       certificate = told.certificate;
     }
 
@@ -454,7 +480,8 @@ verdicts_yes d lists vs ok count are each = each_yes vs (λ k v at.
     let es = at_place lists k (omega (arith, lt, size, count)) in
     is_said_yes d k es.0 v ok (each k es.0 es.1) (are.each k es.0 v es.1 at))
 
-record AreOf (d : DomainValue) (certificate : List ℕ) (lists : List Tree) (vs : List Verdict) : Type 0 where
+record AreOf (d : DomainValue) (certificate : List ℕ) (lists : List Tree)
+    (vs : List Verdict) : Type 0 where
   pub stand : CertificateStands d.topology certificate lists
   pub are : AreVerdicts d lists vs
 
@@ -471,7 +498,8 @@ only_yes text written bundle parts all told m is more v =
     record { stand = v.means.lists_stand; are = v.are_verdicts } in
     let here : AreOf d written v.lists v.verdicts =
     subst (λ (c : List ℕ). AreOf d c v.lists v.verdicts) same.certificate
-    (subst (λ (e : DomainValue). AreOf e v.means.certificate v.lists v.verdicts) same.domain theirs) in
+    (subst (λ (e : DomainValue). AreOf e v.means.certificate v.lists v.verdicts) same.domain
+    theirs) in
     let one : v.lists ≡ lists =
     one_certificate d.topology written v.lists lists here.stand (made_stands text written m few) in
     let belong = lists_belong d m.examined m.are_examined (sym m.answer) in

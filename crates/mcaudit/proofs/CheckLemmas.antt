@@ -1,6 +1,7 @@
 -- What a run of `mcaudit check` shows of the text that it read.
 use Rattle.std.proofs.Common.{◌≡◌, ◌≢◌, ℕ, zero, suc, ◌<◌, Bool, true, List, [], ◌∷◌, ◌++◌}
-use Rattle.std.proofs.Common.{length, take, drop, All, inl, inr, Option, Some, None, Result, Ok, Err}
+use Rattle.std.proofs.Common.{length, take, drop, All, inl, inr, Option, Some, None, Result, Ok}
+use Rattle.std.proofs.Common.{Err}
 use Rattle.std.proofs.Common.{refl, sym, ap, subst, ◌∙◌, arith, append_assoc}
 use Rattle.std.specs.Prelude.{IfSome, IsTrue, is_some, unwrap_or, slice_get, codes}
 use Rattle.std.specs.Io.KnownBytes.{Appends}
@@ -20,14 +21,17 @@ use Rattle.mc_cert.specs.Stands.{CertificateStands}
 use Rattle.mc_cert.specs.declared.fault.CertFault.{CertFault}
 use Rattle.mc_cert.specs.declared.fault.CertFaultKind.{CertFaultKind}
 use Rattle.mc_cert.specs.declared.fault.CertFaultKind.TheVariants as kinds
-use Rattle.mc_check.specs.Verdicts.{is_yes, OfEachFlow, IsExact, HasCopies, HasFirstReason, YesKeepsHeadline}
+use Rattle.mc_check.specs.Verdicts.{is_yes, OfEachFlow, IsExact, HasCopies, HasFirstReason}
+use Rattle.mc_check.specs.Verdicts.{YesKeepsHeadline}
 use Rattle.mc_check.specs.declared.verdict.Verdict.{Verdict}
 use Rattle.mc_check.specs.declared.verdict.Verdict.TheVariants.{Yes, No}
 use Rattle.mc_input.specs.InputView.{certificate_seen}
 use Rattle.mcaudit.specs.declared.fault.RunFault.{RunFault}
 use Rattle.mcaudit.specs.declared.fault.RunFault.TheVariants.{Write}
-use Rattle.mcaudit.specs.BundleMeaning.{MeansDomain, MeansCertified, HasBadCertificate, IsRefusedFor}
-use Rattle.mcaudit.specs.CheckRun.{IsVerdictText, Answers, WritesVerdicts, WritesPartOfVerdicts, WroteYes, SaysYes, KeepsHeadline, HeadlineOf}
+use Rattle.mcaudit.specs.BundleMeaning.{MeansDomain, MeansCertified, HasBadCertificate}
+use Rattle.mcaudit.specs.BundleMeaning.{IsRefusedFor}
+use Rattle.mcaudit.specs.CheckRun.{IsVerdictText, Answers, WritesVerdicts, WritesPartOfVerdicts}
+use Rattle.mcaudit.specs.CheckRun.{WroteYes, SaysYes, KeepsHeadline, HeadlineOf}
 use Rattle.mcaudit.specs.Failures.{IsNoDeviceFault}
 use Rattle.mcaudit.specs.RunFault.{of_certificate, of_certificate_kind}
 use Rattle.mcaudit.specs.VerdictText.{IsVerdict, AreVerdicts, are_yes, check_text}
@@ -162,7 +166,8 @@ pub verdicts_told : (text : List ℕ) (d : DomainValue) (lists : List Tree)
     → MeansCertified text d lists → AreVerdicts d lists vs → seen ≡ vs → again ≡ vs
     → t ≡ d.topology → all ≡ are_yes again → written ≡ check_text t seen
     → IsVerdictText text all written
-verdicts_told text d lists vs seen again t all written means are same other topology answer spelled =
+verdicts_told text d lists vs seen again t all written means are same other topology answer spelled
+    =
     record {
       domain = d;
       lists = lists;
@@ -209,8 +214,11 @@ pub answer_told : (told : Option (List ℕ)) (taken : List ℕ) (all : Bool) (wr
     → IsRead told taken → IsVerdictText taken all written
     → IfSome told (λ text. Answers text (Ok all))
 answer_told None taken all written read v = tt
-answer_told (Some text) taken all written read v =
-    (written, verdict_whole text all written (subst (λ (t : List ℕ). IsVerdictText t all written) read v))
+answer_told (Some text) taken all written read v = (
+  written,
+  verdict_whole text all written (subst (λ (t : List ℕ). IsVerdictText t all written)
+      read v),
+)
 
 pub written_told : (told : Option (List ℕ)) (taken : List ℕ) (all : Bool) (written bytes : List ℕ)
     (old new : Option (List ℕ)) → IsRead told taken → IsVerdictText taken all written
@@ -268,7 +276,8 @@ refused_unsaid f r old P is (inl ok) = absurd cc
 refused_unsaid f r old P is (inr wrote) = absurd (unsaid old wrote)
 
 -- what was written, whole or in part, says yes only where all verdicts are
-wrote_yes : (taken : List ℕ) (all : Bool) (written bytes : List ℕ) (k : ℕ) (old new : Option (List ℕ))
+wrote_yes : (taken : List ℕ) (all : Bool) (written bytes : List ℕ) (k : ℕ)
+    (old new : Option (List ℕ))
     → IsVerdictText taken all written → bytes ≡ written → Appends old new (take k bytes)
     → WroteYes old new → all ≡ true
 wrote_yes taken all written bytes k None new v same puts wrote = absurd wrote

@@ -1,6 +1,8 @@
 -- What a run of `mcaudit make` shows of the text that it read.
-use Rattle.std.proofs.Common.{◌≡◌, ◌≢◌, ℕ, zero, suc, ◌+◌, ◌<◌, ◌≤◌, ◌⊎◌, inl, inr, All, Bool, true, false, List, [], ◌∷◌, ◌++◌}
-use Rattle.std.proofs.Common.{Global, Vec, length, take, Option, Some, None, Result, Ok, Err, refl, sym, ap, subst, ◌∙◌, arith}
+use Rattle.std.proofs.Common.{◌≡◌, ◌≢◌, ℕ, zero, suc, ◌+◌, ◌<◌, ◌≤◌, ◌⊎◌, inl, inr, All, Bool, true}
+use Rattle.std.proofs.Common.{false, List, [], ◌∷◌, ◌++◌}
+use Rattle.std.proofs.Common.{Global, Vec, length, take, Option, Some, None, Result, Ok, Err, refl}
+use Rattle.std.proofs.Common.{sym, ap, subst, ◌∙◌, arith}
 use Rattle.std.proofs.Common.{append_assoc, append-nil, length-append}
 use Rattle.std.specs.Prelude.{◌↔◌, ◌==◌, IfSome, IsTrue, codes, slice_get}
 use Rattle.std.specs.Io.KnownBytes.{Appends}
@@ -20,7 +22,8 @@ use Rattle.mc_maker.specs.declared.examination.Examined.TheVariants.{Certified, 
 use Rattle.mcaudit.specs.declared.fault.RunFault.{RunFault}
 use Rattle.mcaudit.specs.declared.fault.RunFault.TheVariants.{Write}
 use Rattle.mcaudit.specs.BundleMeaning.{MeansDomain, IsRefusedFor}
-use Rattle.mcaudit.specs.MakeRun.{Answers, AreExamined, AreMade, IsExamined, IsMadeText, SaysIfRight, WritesMade, WritesPartOfMade}
+use Rattle.mcaudit.specs.MakeRun.{Answers, AreExamined, AreMade, IsExamined, IsMadeText}
+use Rattle.mcaudit.specs.MakeRun.{SaysIfRight, WritesMade, WritesPartOfMade}
 use Rattle.mcaudit.specs.MakeRun.{are_certified, found_lines, lines_of, lines_of_flow, lists_of}
 use Rattle.mcaudit.proofs.RunLemmas.{IsRead, read_whole, refused_whole}
 
@@ -100,7 +103,8 @@ made_next d k lists lines f x made at is =
         | inr h ↦ subst (IsExamined d flow) h.1
             (subst (λ (n : ℕ). IsExamined d n x) (sym (h.0 ∙ made.count)) is)
       ];
-      lists_are = ap (λ ls. ls ++ lists_of (x ∷ [])) made.lists_are ∙ sym (lists_push made.examined x);
+      lists_are = ap (λ ls. ls ++ lists_of (x ∷ [])) made.lists_are
+          ∙ sym (lists_push made.examined x);
       lines_are = ap (λ ls. ls ++ lines_of_flow d.topology f x) made.lines_are
           ∙ sym (lines_push d.topology d.topology.flows made.examined f x flow);
     }
@@ -125,7 +129,8 @@ pub made_found : (d : DomainValue) (k : ℕ) (lists : List Tree) (old lines : Li
     → slice_get d.topology.flows k ≡ Some f → IsExamined d k x → x ≡ Found ttl travel
     → lines ≡ old ++ found_lines d.topology f ttl travel.finding → AreMadeTo d (k + 1) lists lines
 made_found d k lists old lines f x ttl travel made here is same grown =
-    let next : AreMadeTo d (k + 1) (lists ++ []) (old ++ found_lines d.topology f ttl travel.finding) =
+    let next : AreMadeTo d (k + 1) (lists ++ [])
+    (old ++ found_lines d.topology f ttl travel.finding) =
     made_next d k lists old f (Found ttl travel) made here
     (subst (λ (y : Examined). IsExamined d k y) same is) in
     subst (λ (ls : List ℕ). AreMadeTo d (k + 1) lists ls) (sym grown)
@@ -182,7 +187,8 @@ lists_belong d xs are all = record {
   entries = each_list (All (IsEntryOf d.topology)) xs (λ k x at. (are.each k x at).listed);
 }
 
-pub lists_kept : (d : DomainValue) (xs : List Examined) → AreExamined d xs → All IsList (lists_of xs)
+pub lists_kept : (d : DomainValue) (xs : List Examined) → AreExamined d xs
+    → All IsList (lists_of xs)
 lists_kept d xs are = each_list IsList xs (λ k x at. (are.each k x at).list)
 
 -- no line is written exactly where every flow is certified
@@ -259,7 +265,8 @@ not_all_made d lists lines made some =
 pub made_belong : (d : DomainValue) (t : TopologyValue) (lists : List Tree) (lines : List ℕ)
     → AreMade d lists lines → t ≡ d.topology → length lines ≡ 0 → BelongsTo t lists
 made_belong d t lists lines made same none =
-    let belong = lists_belong d made.examined made.are_examined (all_made d lists lines made none) in
+    let belong = lists_belong d made.examined made.are_examined
+    (all_made d lists lines made none) in
     subst (λ (x : TopologyValue). BelongsTo x lists) (sym same)
     (subst (λ (ls : List Tree). BelongsTo d.topology ls) (sym made.lists_are) belong)
 

@@ -7,7 +7,8 @@ use Rattle.mc_files.specs.declared.fault.PackFault.{PackFault}
 use Rattle.mc_files.specs.declared.fault.PackFault.TheVariants as packing
 use Rattle.mcaudit.specs.declared.fault.RunFault.{RunFault}
 use Rattle.mcaudit.specs.declared.fault.RunFault.TheVariants.{Write}
-use Rattle.mcaudit.specs.PackingRun.{AnswersPack, IsOfDevices, failed_file_reads, failed_pack_writes, of_packing}
+use Rattle.mcaudit.specs.PackingRun.{AnswersPack, IsOfDevices, failed_file_reads}
+use Rattle.mcaudit.specs.PackingRun.{failed_pack_writes, of_packing}
 
 -- what a run answers that gives this fault of packing
 abbrev Told : PackFault → Result (Unit {0}) RunFault

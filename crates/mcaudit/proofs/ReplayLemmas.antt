@@ -13,9 +13,12 @@ use Rattle.mc_input.specs.InputView.{certificate_seen}
 use Rattle.mc_replay.specs.Travels.{IsRunOfChoices, replay_of}
 use Rattle.mc_replay.specs.declared.travel.Travel.{Travel}
 use Rattle.mcaudit.specs.declared.fault.RunFault.{RunFault}
-use Rattle.mcaudit.specs.declared.fault.RunFault.TheVariants.{Bundle, Parts, Topology, Vif, Cache, PartReports, Reports, Certificate, NoSuchFlow, Read, Write, Memory}
+use Rattle.mcaudit.specs.declared.fault.RunFault.TheVariants.{Bundle, Parts, Topology, Vif, Cache}
+use Rattle.mcaudit.specs.declared.fault.RunFault.TheVariants.{PartReports, Reports, Certificate}
+use Rattle.mcaudit.specs.declared.fault.RunFault.TheVariants.{NoSuchFlow, Read, Write, Memory}
 use Rattle.mcaudit.specs.BundleMeaning.{MeansDomain, IsRefusedFor}
-use Rattle.mcaudit.specs.ReplayRun.{Answers, HasNoFlow, IsReplayRefused, IsTravelText, WritesPartOfTravel, WritesTravel, is_clean, replay_text}
+use Rattle.mcaudit.specs.ReplayRun.{Answers, HasNoFlow, IsReplayRefused, IsTravelText}
+use Rattle.mcaudit.specs.ReplayRun.{WritesPartOfTravel, WritesTravel, is_clean, replay_text}
 use Rattle.mcaudit.proofs.RunLemmas.{IsRead, read_whole, refused_whole}
 
 -- no certificate was asked for, and none was read

@@ -6,7 +6,9 @@ use Rattle.std.proofs.lemmas.List.{take_all}
 use Rattle.mc_input.specs.Input.{InputValue, InputStands}
 use Rattle.mc_input.specs.InputReading.{input_of}
 use Rattle.mcaudit.specs.declared.fault.RunFault.{RunFault}
-use Rattle.mcaudit.specs.declared.fault.RunFault.TheVariants.{Bundle, Parts, Topology, Vif, Cache, PartReports, Reports, Certificate, NoSuchFlow, Read, Write, Memory}
+use Rattle.mcaudit.specs.declared.fault.RunFault.TheVariants.{Bundle, Parts, Topology, Vif, Cache}
+use Rattle.mcaudit.specs.declared.fault.RunFault.TheVariants.{PartReports, Reports, Certificate}
+use Rattle.mcaudit.specs.declared.fault.RunFault.TheVariants.{NoSuchFlow, Read, Write, Memory}
 use Rattle.mcaudit.specs.BundleMeaning.{IsRefusedFor}
 use Rattle.mcaudit.specs.Failures.{IsNoDeviceFault, failed_reads, failed_writes}
 use Rattle.mcaudit.proofs.BundleFront.{bundle_of-front}
@@ -48,7 +50,8 @@ refused_whole with text Memory is = tt
 
 -- ---- devices
 
-no_device_reads : (f : RunFault) (before : ℕ) → IsNoDeviceFault f → failed_reads (Err f) before ≡ before
+no_device_reads : (f : RunFault) (before : ℕ) → IsNoDeviceFault f
+    → failed_reads (Err f) before ≡ before
 no_device_reads (Bundle f) before is = refl
 no_device_reads (Parts place) before is = refl
 no_device_reads (Topology f) before is = refl
@@ -62,7 +65,8 @@ no_device_reads Read before is = absurd is
 no_device_reads Write before is = absurd is
 no_device_reads Memory before is = refl
 
-no_device_writes : (f : RunFault) (before : ℕ) → IsNoDeviceFault f → failed_writes (Err f) before ≡ before
+no_device_writes : (f : RunFault) (before : ℕ) → IsNoDeviceFault f
+    → failed_writes (Err f) before ≡ before
 no_device_writes (Bundle f) before is = refl
 no_device_writes (Parts place) before is = refl
 no_device_writes (Topology f) before is = refl

@@ -1,8 +1,10 @@
--- The lines of a verdict text: `verdict yes` begins none but the last, and that only where every verdict is yes.
+-- The lines of a verdict text: `verdict yes` begins none but the last, and that only where every
+-- verdict is yes.
 use Rattle.std.proofs.Common.{◌≡◌, ℕ, zero, suc, ◌+◌, ◌/◌, ◌%◌, Bool, true, false}
 use Rattle.std.proofs.Common.{cond, eqb, List, [], ◌∷◌, ◌++◌, ◌⊎◌, inl, inr, Some}
 use Rattle.std.proofs.Common.{refl, sym, ap, subst, ◌∙◌, arith, append_assoc}
-use Rattle.std.specs.Prelude.{◌==◌, not, nat_lt, codes, slice_index, decimal, IsTrue, slice_get, unwrap_or, option_map}
+use Rattle.std.specs.Prelude.{◌==◌, not, nat_lt, codes, slice_index, decimal, IsTrue, slice_get}
+use Rattle.std.specs.Prelude.{unwrap_or, option_map}
 use Rattle.std.specs.Fmt.{digits, digits_onto, digit_glyph}
 use Rattle.std.specs.List.{list_all}
 use Rattle.std.proofs.lemmas.Bool.{and_parts, ne_eqb}
@@ -14,7 +16,9 @@ use Rattle.mc_topology.specs.Rows.{RouterRow}
 use Rattle.mc_topology.specs.Topology.{TopologyValue, IsTopology}
 use Rattle.mc_check.specs.ReasonText.{lan_name, router_name, reason_text, verdict_text}
 use Rattle.mc_check.specs.declared.verdict.Reason.{Reason}
-use Rattle.mc_check.specs.declared.verdict.Reason.TheVariants.{TwoEntries, BadSource, Wildcard, Stray, Extra, WrongRank, WrongNeed, Unfed, Missed, Low}
+use Rattle.mc_check.specs.declared.verdict.Reason.TheVariants.{TwoEntries, BadSource, Wildcard}
+use Rattle.mc_check.specs.declared.verdict.Reason.TheVariants.{Stray, Extra, WrongRank, WrongNeed}
+use Rattle.mc_check.specs.declared.verdict.Reason.TheVariants.{Unfed, Missed, Low}
 use Rattle.mc_check.specs.declared.verdict.Verdict.{Verdict}
 use Rattle.mc_check.specs.declared.verdict.Verdict.TheVariants.{Yes, No}
 use Rattle.mcaudit.specs.VerdictText.{flow_words, flow_line, flow_lines, last_line}
@@ -81,40 +85,49 @@ pub named_lan : (front : List ℕ) (t : TopologyValue) (lan : ℕ) → Without 1
     → Without 10 (front ++ lan_name t lan)
 named_lan front t lan p ok = words front _ p (lan_by t.lans lan ok.lans_named)
 
-pub named_vif : (front : List ℕ) (t : TopologyValue) (router vif : ℕ) → Without 10 front → IsTopology t
+pub named_vif : (front : List ℕ) (t : TopologyValue) (router vif : ℕ) → Without 10 front
+    → IsTopology t
     → Without 10 (front ++ router_name t router ++ codes " " ++ decimal vif)
 named_vif front t router vif p ok =
     let begun = words front _ p (router_by t.routers router ok.routers_named) in
     words _ (decimal vif) (words _ (codes " ") begun (refl, tt)) (number vif)
 
 reason : (t : TopologyValue) (r : Reason) → IsTopology t → Without 10 (reason_text t r)
-reason t (TwoEntries lan) ok = named_lan (codes "TwoEntries ") t lan (plain (codes "TwoEntries ") refl) ok
+reason t (TwoEntries lan) ok = named_lan (codes "TwoEntries ") t lan
+    (plain (codes "TwoEntries ") refl) ok
 reason t BadSource ok = plain (codes "BadSource") refl
-reason t (Wildcard router vif) ok = named_vif (codes "Wildcard ") t router vif (plain (codes "Wildcard ") refl) ok
-reason t (Stray router vif) ok = named_vif (codes "Stray ") t router vif (plain (codes "Stray ") refl) ok
+reason t (Wildcard router vif) ok = named_vif (codes "Wildcard ") t router vif
+    (plain (codes "Wildcard ") refl) ok
+reason t (Stray router vif) ok = named_vif (codes "Stray ") t router vif
+    (plain (codes "Stray ") refl) ok
 reason t (Extra router vif lan) ok =
     let front = codes "Extra " ++ router_name t router ++ codes " " ++ decimal vif in
     let begun = named_vif (codes "Extra ") t router vif (plain (codes "Extra ") refl) ok in
     named_lan (front ++ codes " ") t lan (words front (codes " ") begun (refl, tt)) ok
-reason t (WrongRank lan) ok = named_lan (codes "WrongRank ") t lan (plain (codes "WrongRank ") refl) ok
-reason t (WrongNeed lan) ok = named_lan (codes "WrongNeed ") t lan (plain (codes "WrongNeed ") refl) ok
+reason t (WrongRank lan) ok = named_lan (codes "WrongRank ") t lan
+    (plain (codes "WrongRank ") refl) ok
+reason t (WrongNeed lan) ok = named_lan (codes "WrongNeed ") t lan
+    (plain (codes "WrongNeed ") refl) ok
 reason t (Unfed lan) ok = named_lan (codes "Unfed ") t lan (plain (codes "Unfed ") refl) ok
 reason t (Missed lan) ok = named_lan (codes "Missed ") t lan (plain (codes "Missed ") refl) ok
 reason t (Low lan) ok = named_lan (codes "Low ") t lan (plain (codes "Low ") refl) ok
 
 verdict : (t : TopologyValue) (v : Verdict) → IsTopology t → Without 10 (verdict_text t v)
-verdict t (Yes copies) ok = words (codes "yes copies ") _ (plain (codes "yes copies ") refl) (number copies)
+verdict t (Yes copies) ok = words (codes "yes copies ") _ (plain (codes "yes copies ") refl)
+    (number copies)
 verdict t (No r) ok = words (codes "no ") _ (plain (codes "no ") refl) (reason t r ok)
 
 -- a flow's line, but for its line feed
 abbrev pub body : TopologyValue → Flow → Verdict → List ℕ
 body t f v = flow_words f ++ (codes " " ++ verdict_text t v)
 
-pub flow_body : (t : TopologyValue) (f : Flow) (v : Verdict) → IsTopology t → Without 10 (body t f v)
+pub flow_body : (t : TopologyValue) (f : Flow) (v : Verdict) → IsTopology t
+    → Without 10 (body t f v)
 flow_body t f v ok =
     let ttl = words (codes " ttl ") (decimal f.ttl) (plain (codes " ttl ") refl) (number f.ttl) in
     let group = words (dotted f.group) _ (address f.group) ttl in
-    let source = words (dotted f.source) _ (address f.source) (words (codes " ") _ (refl, tt) group) in
+    let source = words (dotted f.source) _ (address f.source)
+    (words (codes " ") _ (refl, tt) group) in
     let last = words (codes " ") _ (refl, tt) (verdict t v ok) in
     words (flow_words f) _ (words (codes "flow ") _ (plain (codes "flow ") refl) source) last
 
@@ -128,7 +141,8 @@ line-body t f v more =
 
 -- ---- where lines begin
 
--- A text whose first line feed stands after xs, and which has one after ys: ys is xs, or goes on after it.
+-- A text whose first line feed stands after xs, and which has one after ys: ys is xs, or goes on
+-- after it.
 pub record GoesOn (xs tail ys more : List ℕ) : Type 0 where
   pub rest : List ℕ
   pub begins : ys ≡ xs ++ (10 ∷ rest)
@@ -148,7 +162,12 @@ first_feed (x ∷ xs) tail (y ∷ ys) more none same =
     let here : y ≡ x = cc in
     elim (first_feed xs tail ys more none.1 rest) [
       | inl e ↦ inl e
-      | inr g ↦ inr (record { rest = g.rest; begins = rw (here, g.begins) refl; goes_on = g.goes_on })
+      | inr g ↦ inr (record {
+        rest = g.rest;
+        begins = rw (here, g.begins) refl;
+        goes_on =
+            g.goes_on;
+      })
     ]
 
 none_at : (b : ℕ) (xs : List ℕ) → [] ≡ b ∷ xs → ⊥
@@ -177,7 +196,8 @@ last_says false front rest (inr (before, is)) same =
     ]
 
 apart : (xs ys : List ℕ) → (let f : List ℕ = 102 ∷ xs in f) ≡ 118 ∷ ys → ⊥
-apart xs ys same = let bad : 102 ≡ 118 = ap (λ (zs : List ℕ). slice_index zs 0) same in absurd (omega (arith, bad))
+apart xs ys same = let bad : 102 ≡ 118 = ap (λ (zs : List ℕ). slice_index zs 0) same in absurd
+    (omega (arith, bad))
 
 pub lines_say : (t : TopologyValue) (fs : List Flow) (vs : List Verdict) (all : Bool)
     (front rest : List ℕ) → IsTopology t → IsLineStart front

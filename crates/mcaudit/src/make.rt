@@ -51,11 +51,7 @@ fn make_all(alloc: Global, domain: &Domain) -> Result<Made, NoMemory>
 }
 
 /// The text of the certificate of these lists, one for each flow of the topology, and a line feed.
-fn certificate_text(
-    alloc: Global,
-    topology: &Topology,
-    lists: Lists,
-) -> Result<String, NoMemory>
+fn certificate_text(alloc: Global, topology: &Topology, lists: Lists) -> Result<String, NoMemory>
     requires { BelongsTo topology.now lists }
     ensures { IfOk result (λ text. string_bytes text ≡
         text_of_certificate topology.now lists ++ codes "\n") }

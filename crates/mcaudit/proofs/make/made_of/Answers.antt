@@ -1,7 +1,8 @@
 use Rattle.std.proofs.Common.{◌∙◌, sym}
 use Rattle.std.proofs.lemmas.Result.{err_from_is_err_and}
 use Rattle.mcaudit.proofs.ReplayLemmas.{no_certificate}
-use Rattle.mcaudit.proofs.MakeLemmas.{certificate_right, certificate_told, lines_gone, lines_right, lines_there, lines_told, made_belong}
+use Rattle.mcaudit.proofs.MakeLemmas.{certificate_right, certificate_told, lines_gone, lines_right}
+use Rattle.mcaudit.proofs.MakeLemmas.{lines_there, lines_told, made_belong}
 use Rattle.mcaudit.proofs.make.made_of.Goals as goal
 
 pub returns-in_err-made-clause-refused : goal.returns-in_err-made-clause-refused

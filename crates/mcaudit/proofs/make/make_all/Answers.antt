@@ -2,15 +2,18 @@ use Rattle.std.proofs.Common.{◌≡◌, ◌++◌, ap, ◌∙◌, subst, arith, 
 use Rattle.std.specs.String.{string_bytes}
 use Rattle.mcaudit.specs.MakeRun.{IsExamined, found_lines}
 use Rattle.mcaudit.proofs.MakeLemmas.{made_certified, made_few, made_found, made_start}
-use Rattle.mcaudit.proofs.make.make_all.Goals.{in-Certified+in_ok-push-in-Certified, in-Found+in_ok-push_found-in-Found}
+use Rattle.mcaudit.proofs.make.make_all.Goals.{in-Certified+in_ok-push-in-Certified}
+use Rattle.mcaudit.proofs.make.make_all.Goals.{in-Found+in_ok-push_found-in-Found}
 use Rattle.mcaudit.proofs.make.make_all.Goals as goal
 
 pub loop-flow-init : goal.loop-flow-init
-loop-flow-init c = rw (c.new-lists.ensures, c.new-lines.ensures.bytes) (made_start c.args.domain.now)
+loop-flow-init c = rw (c.new-lists.ensures, c.new-lines.ensures.bytes)
+    (made_start c.args.domain.now)
 
 pub push-requires-clause-few : goal.push-requires-clause-few
 push-requires-clause-few c =
-    let few = made_few c.args.domain.now c.loop-flow.flow c.loop-flow.lists (string_bytes c.loop-flow.lines)
+    let few = made_few c.args.domain.now c.loop-flow.flow c.loop-flow.lists
+    (string_bytes c.loop-flow.lines)
     c.loop-flow.invariant in
     omega (
       arith,
@@ -50,9 +53,11 @@ loop-flow-preserved c =
             ap (λ t. length t.flows) topology,
           )) is w.in-Certified.is grown))
       | in-Found+in_ok-push_found-in-Found w ↦
-          (let here = subst (λ t. slice_get t.flows k ≡ Some w.flow.result.now) topology w.flow.ensures.flow in
+          (let here = subst (λ t. slice_get t.flows k ≡ Some w.flow.result.now) topology
+          w.flow.ensures.flow in
           let grown = ap string_bytes w.lines-is ∙ w.in_ok-push_found-in-Found.ensures
-          ∙ ap (λ t. string_bytes c.loop-flow.lines ++ found_lines t w.flow.result.now w.in-Found.ttl
+          ∙ ap (λ t. string_bytes c.loop-flow.lines ++ found_lines t w.flow.result.now
+          w.in-Found.ttl
           w.in-Found.travel.finding) topology in
           rw (w.lists-is) (made_found d k c.loop-flow.lists
           (string_bytes c.loop-flow.lines) _ w.flow.result.now x w.in-Found.ttl w.in-Found.travel

@@ -3,7 +3,8 @@ use Rattle.std.proofs.lemmas.Result.{err_from_is_err_and}
 use Rattle.std.specs.Prelude.{is_ok}
 use Rattle.mcaudit.proofs.WantsLemmas.{where_failed, where_succeeded}
 use Rattle.mcaudit.proofs.RunLemmas.{not_written, only_write, reads_same, writes_same}
-use Rattle.mcaudit.proofs.MakeLemmas.{make_part, make_refused, make_told, make_unwritten, make_written, right_told}
+use Rattle.mcaudit.proofs.MakeLemmas.{make_part, make_refused, make_told, make_unwritten}
+use Rattle.mcaudit.proofs.MakeLemmas.{make_written, right_told}
 use Rattle.mcaudit.proofs.make.run_make.Goals as goal
 
 pub returns-in_err-told-clause-answer : goal.returns-in_err-told-clause-answer

@@ -1,6 +1,7 @@
 use Rattle.std.proofs.Common.{ap, ◌∙◌, Err}
 use Rattle.std.proofs.lemmas.Result.{err_from_is_err_and}
-use Rattle.mcaudit.proofs.PackingLemmas.{answer_told, only_told, part_told, reads_told, unwritten_told, writes_told}
+use Rattle.mcaudit.proofs.PackingLemmas.{answer_told, only_told, part_told, reads_told}
+use Rattle.mcaudit.proofs.PackingLemmas.{unwritten_told, writes_told}
 use Rattle.mcaudit.proofs.pack.run_pack.Goals as goal
 
 pub returns-in_err-pack-clause-answer : goal.returns-in_err-pack-clause-answer

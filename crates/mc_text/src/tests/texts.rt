@@ -71,3 +71,10 @@ fn decimals(rt: HostRuntime) {
         assert_eq!(rt; decimal(word.as_bytes(), 31), None, "at {word}");
     }
 }
+
+#[test]
+fn first_places(rt: HostRuntime) {
+    assert_eq!(rt; first_place_of(b':', b"1:10:2"), Some(1));
+    assert_eq!(rt; first_place_of(b':', b"110"), None);
+    assert_eq!(rt; first_place_of(b':', b""), None);
+}

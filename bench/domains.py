@@ -46,7 +46,7 @@ class Domain:
                 lines.append(
                     f'\n[[interface]]\nrouter = "router-{router}"\ndevice = "eth{vif}"\nlan = "lan-{lan}"\n'
                 )
-        for source, lan in zip(self.sources, self.source_lans):
+        for source, lan in dict(zip(self.sources, self.source_lans)).items():
             lines.append(f'\n[[source]]\naddress = "{dotted(source)}"\nlan = "lan-{lan}"\n')
         for source, group in zip(self.sources, self.groups):
             lines.append(f'\n[[flow]]\nsource = "{dotted(source)}"\ngroup = "{dotted(group)}"\nttl = 64\n')
@@ -107,3 +107,29 @@ class Domain:
         parts += [(f"igmp/lan-{lan}", text) for lan, text in enumerate(reports)]
         framed = (f"part {name} {len(text)}\n{text}\n" for name, text in parts)
         return "mcaudit bundle 1\n" + "".join(framed) + "end\n"
+
+
+class Tree(Domain):
+    """33 routers, of which the first is on 32 LANs and each other one on one of these and on 31 LANs of its own, and
+    flows of one source and many groups, which all go the same way to all LANs."""
+
+    def __init__(self, rng, flows):
+        super().__init__(rng, 32 * VIFS, 1 + VIFS, flows)
+        self.placed = [list(range(VIFS))]
+        for lan in range(VIFS):
+            own = VIFS + (VIFS - 1) * lan
+            self.placed.append([lan, *range(own, own + VIFS - 1)])
+        self.sources = [self.sources[0]] * flows
+        self.source_lans = [0] * flows
+
+    def served(self):
+        """The bundle in which each router has a row for each flow."""
+        rows = self.tree()
+        caches = []
+        for router in range(len(self.placed)):
+            incoming, out = rows[router]
+            pairs = "".join(f" {vif:2d}:1  " for vif in out)
+            own = f"{incoming:<3d} {0:8d} {0:8d} {0:8d}{pairs}"
+            lines = (f"{word(group)} {word(self.sources[0])} {own}\n" for group in self.groups)
+            caches.append(HEADER + "".join(lines))
+        return self.bundle(caches, [""] * self.lans)

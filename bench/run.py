@@ -17,7 +17,7 @@ import sys
 import tempfile
 import time
 
-from domains import Domain, dotted, word
+from domains import Domain, Tree, dotted, word
 
 SEED = 7761
 SHARES = (4, 2, 1)  # a quarter, a half and the whole
@@ -113,6 +113,11 @@ def travel(rng, share):
     return Domain(rng, 1024 // share, 256 // share, 256).forwarded(0)
 
 
+def served(rng, share):
+    """Flows of one source that go the same way to 1,024 LANs."""
+    return Tree(rng, 4096 // share).served()
+
+
 # What is made, and the steps that are measured with it.
 TEXTS = (
     ("cache: different groups", ["cache"], groups),
@@ -126,6 +131,7 @@ TEXTS = (
     ("one list: all groups", ["bundle", "assemble"], reports_of_groups),
     ("one list: one group", ["bundle", "assemble"], reports_of_one_group),
     ("travel", ["assemble", "travel"], travel),
+    ("flows of one tree", ["examine"], served),
 )
 
 

@@ -1,7 +1,8 @@
 -- Steps that may be refused, and how a call answers them.
 use Rattle.std.specs.Prelude.{◌≡◌, ◌≢◌, ℕ, List, [], ◌∷◌, ◌++◌, length, Result, Ok, Err}
 use Rattle.mc_cert.specs.declared.fault.CertPlace.{CertPlace}
-use Rattle.mc_cert.specs.declared.fault.CertPlace.TheVariants.{Top, Flow, FlowEntry, Tree, TreeEntry}
+use Rattle.mc_cert.specs.declared.fault.CertPlace.TheVariants.{Top, Flow, FlowEntry, Tree}
+use Rattle.mc_cert.specs.declared.fault.CertPlace.TheVariants.{TreeEntry}
 use Rattle.mc_cert.specs.declared.fault.CertFaultKind.{CertFaultKind}
 use Rattle.mc_cert.specs.declared.fault.CertFaultKind.TheVariants.{Memory}
 use Rattle.mc_cert.specs.declared.fault.CertFault.{CertFault}
@@ -30,6 +31,7 @@ Gives view (Ok x) step = step ≡ Ok (view x)
 Gives view (Err fault) step = fault ≢ out_of_memory → step ≡ Err fault
 
 -- The values of rows, each read by its number, counted from 0, or the first fault.
-unfoldable pub each : {D X : Type 0} → (ℕ → D → Result X CertFault) → List X → List D → Result (List X) CertFault
+unfoldable pub each : {D X : Type 0} → (ℕ → D → Result X CertFault) → List X → List D
+    → Result (List X) CertFault
 each one earlier [] = Ok earlier
 each one earlier (d ∷ ds) = one (length earlier) d >>= λ x. each one (earlier ++ x ∷ []) ds

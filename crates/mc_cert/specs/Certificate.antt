@@ -1,5 +1,7 @@
--- What a certificate is: for each flow of a topology, in order, the list of the LANs that its packets reach.
-use Rattle.std.specs.Prelude.{◌≡◌, ℕ, ◌<◌, ◌≤◌, All, IfSome, List, [], length, map, Option, Some, None, slice_get, unwrap_or}
+-- What a certificate is: for each flow of a topology, in order, the list of the LANs that its
+-- packets reach.
+use Rattle.std.specs.Prelude.{◌≡◌, ℕ, ◌<◌, ◌≤◌, All, IfSome, List, [], length, map, Option, Some}
+use Rattle.std.specs.Prelude.{None, slice_get, unwrap_or}
 use Rattle.mc_theory.specs.Certificates.{Entry}
 use Rattle.mc_topology.specs.Topology.{TopologyValue}
 
@@ -42,8 +44,8 @@ pub record IsEntryOf (t : TopologyValue) (e : Entry) : Type 0 where
   pub lan : e.lan < length t.lans
   pub router : IfSome e.forwarder (λ i. i.0 < length t.routers)
 
--- the certificate belongs to the topology: it has as many flows, and all its numbers are below the topology's
--- counts
+-- the certificate belongs to the topology: it has as many flows, and all its numbers are below the
+-- topology's counts
 pub record BelongsTo (t : TopologyValue) (flows : List Tree) : Type 0 where
   pub count : length flows ≡ length t.flows
   pub entries : All (All (IsEntryOf t)) flows

@@ -1,6 +1,7 @@
--- The JSON text of a certificate, in version 2: compact, on one line without a line feed, the keys of each
--- object in their order. Names and addresses have no byte that JSON escapes.
-use Rattle.std.specs.Prelude.{ℕ, List, [], ◌∷◌, ◌++◌, map, codes, decimal, slice_get, Option, Some, None, option_map, unwrap_or}
+-- The JSON text of a certificate, in version 2: compact, on one line without a line feed, the keys
+-- of each object in their order. Names and addresses have no byte that JSON escapes.
+use Rattle.std.specs.Prelude.{ℕ, List, [], ◌∷◌, ◌++◌, map, codes, decimal, slice_get, Option, Some}
+use Rattle.std.specs.Prelude.{None, option_map, unwrap_or}
 use Rattle.std.specs.List.{zip}
 use Rattle.mc_text.specs.Addr.{dotted}
 use Rattle.mc_theory.specs.Nets.{Interface}
@@ -34,7 +35,8 @@ forwarder_text t (Some i) =
 
 abbrev pub entry_text : TopologyValue → Entry → List ℕ
 entry_text t e =
-    codes "{\"lan\":\"" ++ lan_name t e.lan ++ codes "\",\"need\":" ++ decimal e.need ++ codes ",\"rank\":" ++ decimal e.rank
+    codes "{\"lan\":\"" ++ lan_name t e.lan ++ codes "\",\"need\":" ++ decimal e.need
+    ++ codes ",\"rank\":" ++ decimal e.rank
     ++ forwarder_text t e.forwarder ++ codes "}"
 
 abbrev pub tree_text : TopologyValue → Tree → List ℕ
@@ -43,7 +45,8 @@ tree_text t es = codes "[" ++ listed (map (entry_text t) es) ++ codes "]"
 -- a flow of the topology, and the place of its tree
 abbrev pub flow_text : Flow → ℕ → List ℕ
 flow_text f place =
-    codes "{\"group\":\"" ++ dotted f.group ++ codes "\",\"source\":\"" ++ dotted f.source ++ codes "\",\"tree\":" ++ decimal place
+    codes "{\"group\":\"" ++ dotted f.group ++ codes "\",\"source\":\"" ++ dotted f.source
+    ++ codes "\",\"tree\":" ++ decimal place
     ++ codes "}"
 
 abbrev pub flow_texts : List Flow → List ℕ → List (List ℕ)
@@ -52,9 +55,11 @@ flow_texts flows places = map (λ p. flow_text p.0 p.1) (zip flows places)
 -- the flows of the topology with these places, and the trees
 abbrev pub text_of : TopologyValue → List ℕ → List Tree → List ℕ
 text_of t places trees =
-    codes "{\"flows\":[" ++ listed (flow_texts t.flows places) ++ codes "],\"trees\":[" ++ listed (map (tree_text t) trees)
+    codes "{\"flows\":[" ++ listed (flow_texts t.flows places) ++ codes "],\"trees\":["
+    ++ listed (map (tree_text t) trees)
     ++ codes "],\"version\":2}"
 
 -- the text of a certificate: each different tree once, in the order of first use
 abbrev pub certificate_text : TopologyValue → List Tree → List ℕ
-certificate_text t flows = text_of t (map (place_of (distinct_trees flows)) flows) (distinct_trees flows)
+certificate_text t flows = text_of t (map (place_of (distinct_trees flows)) flows)
+    (distinct_trees flows)

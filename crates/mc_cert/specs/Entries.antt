@@ -1,5 +1,6 @@
 -- The entries of a list, each a LAN that the packets of a flow reach.
-use Rattle.std.specs.Prelude.{ℕ, ◌+◌, List, [], ◌∷◌, codes, Option, Some, None, Result, Ok, Err, ok_or}
+use Rattle.std.specs.Prelude.{ℕ, ◌+◌, List, [], ◌∷◌, codes, Option, Some, None, Result, Ok, Err}
+use Rattle.std.specs.Prelude.{ok_or}
 use Rattle.serde_json.specs.Data.{Data, Members}
 use Rattle.serde_json.specs.Find.{get_member, as_u64}
 use Rattle.mc_theory.specs.Nets.{Interface}
@@ -33,7 +34,8 @@ unfoldable pub vif_of : Data → Result ℕ CertFaultKind
 vif_of d = number_of d >>= λ n. within 0 31 (as_u64 n)
 
 -- the interface of a router and its vif, which stand there together or are both missing
-unfoldable pub forwarder_of : List RouterRow → Option Data → Option Data → Result (Option Interface) CertFaultKind
+unfoldable pub forwarder_of : List RouterRow → Option Data → Option Data
+    → Result (Option Interface) CertFaultKind
 forwarder_of routers None None = Ok None
 forwarder_of routers None (Some v) = Err MissingKey
 forwarder_of routers (Some d) None = router_of routers d >>= λ router. Err MissingKey
@@ -42,18 +44,19 @@ forwarder_of routers (Some d) (Some v) = do
   vif ← vif_of v
   Ok (Some (router, vif))
 
--- An entry. It has to be an object (else BadKind) of no other keys (UnknownKey). Then each key wholly before
--- the next: `lan`, `need` and `rank` have to be there (MissingKey), and `router` and `vif` where the other one
--- is (MissingKey); `lan` and `router` are texts and the others numbers (BadKind); `need` is a whole number
--- from 1 to 255, `rank` one up to 255 and `vif` one up to 31 (BadNumber); and a LAN and a router have the
--- names (UnknownName).
+-- An entry. It has to be an object (else BadKind) of no other keys (UnknownKey). Then each key
+-- wholly before the next: `lan`, `need` and `rank` have to be there (MissingKey), and `router` and
+-- `vif` where the other one is (MissingKey); `lan` and `router` are texts and the others numbers
+-- (BadKind); `need` is a whole number from 1 to 255, `rank` one up to 255 and `vif` one up to 31
+-- (BadNumber); and a LAN and a router have the names (UnknownName).
 unfoldable pub entry_of : TopologyValue → Data → Result Entry CertFaultKind
 entry_of t d = do
   members ← object_of entry_keys d
   lan ← lan_in t.lans members
   need ← whole_at (codes "need") 1 255 members
   rank ← whole_at (codes "rank") 0 255 members
-  forwarder ← forwarder_of t.routers (get_member (codes "router") members) (get_member (codes "vif") members)
+  forwarder ← forwarder_of t.routers (get_member (codes "router") members)
+      (get_member (codes "vif") members)
   Ok (record { lan = lan; rank = rank; need = need; forwarder = forwarder })
 
 -- the entries of a flow or a tree from the front, each with its number, counted from 1

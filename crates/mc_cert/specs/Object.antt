@@ -1,11 +1,13 @@
 -- What stands under the keys of an object.
-use Rattle.std.specs.Prelude.{ℕ, nat_le, ◌&&◌, Bool, List, [], ◌∷◌, length, Option, Some, None, Result, Ok, Err, ok_or, if◌then◌else◌}
+use Rattle.std.specs.Prelude.{ℕ, nat_le, ◌&&◌, Bool, List, [], ◌∷◌, length, Option, Some, None}
+use Rattle.std.specs.Prelude.{Result, Ok, Err, ok_or, if◌then◌else◌}
 use Rattle.std.specs.List.{list_all, list_any}
 use Rattle.std.specs.Str.{bytes_eq}
 use Rattle.serde_json.specs.Data.{Num, Data, Items, no_items, item, Members, no_members, member}
 use Rattle.serde_json.specs.Find.{get_member, as_str, as_number, as_array, as_object, as_u64}
 use Rattle.mc_cert.specs.declared.fault.CertFaultKind.{CertFaultKind}
-use Rattle.mc_cert.specs.declared.fault.CertFaultKind.TheVariants.{MissingKey, UnknownKey, BadKind, BadNumber, TooMany}
+use Rattle.mc_cert.specs.declared.fault.CertFaultKind.TheVariants.{MissingKey, UnknownKey, BadKind}
+use Rattle.mc_cert.specs.declared.fault.CertFaultKind.TheVariants.{BadNumber, TooMany}
 use Rattle.mc_topology.specs.Answer.{◌>>=◌}
 
 -- the keys of an object
@@ -34,7 +36,8 @@ list_of d = ok_or (as_array d) BadKind >>= λ items. Ok (rows_in items)
 
 -- an object that has no other key than these
 unfoldable pub object_of : List (List ℕ) → Data → Result Members CertFaultKind
-object_of known d = ok_or (as_object d) BadKind >>= λ ms. if has_only known ms then Ok ms else Err UnknownKey
+object_of known d = ok_or (as_object d) BadKind
+    >>= λ ms. if has_only known ms then Ok ms else Err UnknownKey
 
 -- the value under a key that has to be there
 abbrev pub at_key : List ℕ → Members → Result Data CertFaultKind

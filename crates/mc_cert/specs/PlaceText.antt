@@ -1,7 +1,8 @@
 -- How a refusal writes the place that it is about.
 use Rattle.std.specs.Prelude.{ℕ, List, ◌++◌, codes, decimal}
 use Rattle.mc_cert.specs.declared.fault.CertPlace.{CertPlace}
-use Rattle.mc_cert.specs.declared.fault.CertPlace.TheVariants.{Top, Flow, FlowEntry, Tree, TreeEntry}
+use Rattle.mc_cert.specs.declared.fault.CertPlace.TheVariants.{Top, Flow, FlowEntry, Tree}
+use Rattle.mc_cert.specs.declared.fault.CertPlace.TheVariants.{TreeEntry}
 
 abbrev pub place_text : CertPlace → List ℕ
 place_text Top = codes "top"

@@ -1,5 +1,7 @@
--- The certificate that a text stands for, or its first fault, in the order in which a text is judged.
-use Rattle.std.specs.Prelude.{ℕ, ◌==◌, nat_le, List, [], ◌∷◌, length, codes, Option, Some, None, Result, Ok, Err, ok_or, if◌then◌else◌}
+-- The certificate that a text stands for, or its first fault, in the order in which a text is
+-- judged.
+use Rattle.std.specs.Prelude.{ℕ, ◌==◌, nat_le, List, [], ◌∷◌, length, codes, Option, Some, None}
+use Rattle.std.specs.Prelude.{Result, Ok, Err, ok_or, if◌then◌else◌}
 use Rattle.std.specs.Str.{is_utf8}
 use Rattle.serde_json.specs.Data.{Data, Members}
 use Rattle.serde_json.specs.Find.{as_object, as_u64}
@@ -8,7 +10,8 @@ use Rattle.mc_topology.specs.Answer.{◌>>=◌}
 use Rattle.mc_topology.specs.Topology.{TopologyValue}
 use Rattle.mc_cert.specs.declared.fault.CertPlace.TheVariants.{Top}
 use Rattle.mc_cert.specs.declared.fault.CertFaultKind.{CertFaultKind}
-use Rattle.mc_cert.specs.declared.fault.CertFaultKind.TheVariants.{NotJson, BadVersion, UnknownKey, BadKind, TooMany}
+use Rattle.mc_cert.specs.declared.fault.CertFaultKind.TheVariants.{NotJson, BadVersion, UnknownKey}
+use Rattle.mc_cert.specs.declared.fault.CertFaultKind.TheVariants.{BadKind, TooMany}
 use Rattle.mc_cert.specs.declared.fault.CertFault.{CertFault}
 use Rattle.mc_cert.specs.declared.version.Version.{Version}
 use Rattle.mc_cert.specs.declared.version.Version.TheVariants.{One, Two}
@@ -40,8 +43,8 @@ abbrev pub top_keys : Version → List (List ℕ)
 top_keys One = codes "flows" ∷ codes "version" ∷ []
 top_keys Two = codes "flows" ∷ codes "trees" ∷ codes "version" ∷ []
 
--- The key `version` has to be there (else MissingKey), to be a number (BadKind), and to be 1 or 2 (BadVersion),
--- and then there has to be no other key than that version's (UnknownKey).
+-- The key `version` has to be there (else MissingKey), to be a number (BadKind), and to be 1 or 2
+-- (BadVersion), and then there has to be no other key than that version's (UnknownKey).
 unfoldable pub version_in : Members → Result Version CertFaultKind
 version_in ms = do
   number ← number_at (codes "version") ms

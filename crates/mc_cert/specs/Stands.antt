@@ -1,5 +1,6 @@
 -- What a text stands for: the rules of a certificate, over the value that JSON's reader gives.
-use Rattle.std.specs.Prelude.{◌≡◌, ℕ, ◌+◌, ◌≤◌, List, [], ◌∷◌, length, codes, slice_get, IsTrue, IsUtf8, Option, Some, None}
+use Rattle.std.specs.Prelude.{◌≡◌, ℕ, ◌+◌, ◌≤◌, List, [], ◌∷◌, length, codes, slice_get, IsTrue}
+use Rattle.std.specs.Prelude.{IsUtf8, Option, Some, None}
 use Rattle.serde_json.specs.Data.{Data, unsigned, number, string, array, object, Items, Members}
 use Rattle.serde_json.specs.Find.{get_member}
 use Rattle.serde_json.specs.Read.{read}
@@ -117,8 +118,10 @@ pub record IsTree (t : TopologyValue) (d : Data) (es : Tree) : Type 0 where
   pub list : AreRows d rows
   pub entries : AreEntries t rows es
 
--- an object of the group and the source of the topology's flow with this number, and the number of its tree
-pub record IsSharedFlow (t : TopologyValue) (trees : List Tree) (n : ℕ) (d : Data) (es : Tree) : Type 0 where
+-- an object of the group and the source of the topology's flow with this number, and the number of
+-- its tree
+pub record IsSharedFlow (t : TopologyValue) (trees : List Tree) (n : ℕ) (d : Data)
+    (es : Tree) : Type 0 where
   pub flow : Flow
   pub members : Members
   pub number : ℕ
@@ -129,8 +132,8 @@ pub record IsSharedFlow (t : TopologyValue) (trees : List Tree) (n : ℕ) (d : D
   pub tree_number : HasNumber (codes "tree") members number
   pub tree : slice_get trees number ≡ Some es
 
--- at most 4,096 trees, which may repeat one another and stay unnamed, and one object for each flow of the
--- topology, in order
+-- at most 4,096 trees, which may repeat one another and stay unnamed, and one object for each flow
+-- of the topology, in order
 pub record IsVersionTwo (t : TopologyValue) (ms : Members) (flows : List Tree) : Type 0 where
   pub rows : List Data
   pub tree_rows : List Data
@@ -153,7 +156,8 @@ abbrev pub IsVersion : Version → TopologyValue → Members → List Tree → T
 IsVersion One = IsVersionOne
 IsVersion Two = IsVersionTwo
 
--- a text of at most 16,777,216 bytes that JSON's reader takes, and gives an object of one of the two versions
+-- a text of at most 16,777,216 bytes that JSON's reader takes, and gives an object of one of the
+-- two versions
 pub record CertificateStands (t : TopologyValue) (text : List ℕ) (flows : List Tree) : Type 0 where
   pub document : Members
   pub version : Version

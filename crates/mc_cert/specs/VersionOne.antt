@@ -1,5 +1,6 @@
 -- The flows of version 1, each with its own entries.
-use Rattle.std.specs.Prelude.{ℕ, ◌+◌, ◌==◌, ◌&&◌, Bool, List, [], ◌∷◌, length, codes, slice_get, Result, Ok, Err, ok_or, if◌then◌else◌}
+use Rattle.std.specs.Prelude.{ℕ, ◌+◌, ◌==◌, ◌&&◌, Bool, List, [], ◌∷◌, length, codes, slice_get}
+use Rattle.std.specs.Prelude.{Result, Ok, Err, ok_or, if◌then◌else◌}
 use Rattle.std.specs.Str.{bytes_eq}
 use Rattle.serde_json.specs.Data.{Data, Members}
 use Rattle.mc_text.specs.Addr.{dotted}
@@ -23,8 +24,8 @@ is_flow f group source = bytes_eq group (dotted f.group) && bytes_eq source (dot
 abbrev pub flow_at : TopologyValue → ℕ → Result Flow CertFaultKind
 flow_at t n = ok_or (slice_get t.flows n) WrongFlows
 
--- The list of flows has to be there (else MissingKey), to be a list (BadKind), and to have as many flows as the
--- topology (WrongFlows). This is the same in both versions.
+-- The list of flows has to be there (else MissingKey), to be a list (BadKind), and to have as many
+-- flows as the topology (WrongFlows). This is the same in both versions.
 unfoldable pub flow_rows : TopologyValue → Members → Result (List Data) CertFaultKind
 flow_rows t ms = do
   rows ← list_at (codes "flows") ms
@@ -34,10 +35,10 @@ flow_rows t ms = do
 abbrev pub flow_keys : List (List ℕ)
 flow_keys = codes "group" ∷ codes "reached" ∷ codes "source" ∷ []
 
--- A flow, which has to be an object (else BadKind) of no other keys (UnknownKey). Then `group`, `reached` and
--- `source`, in this order, each have to be there (MissingKey), and to be a text, a list and a text (BadKind). The
--- group and the source are those of the topology's flow (WrongFlows), and there are at most 1,024 entries
--- (TooMany).
+-- A flow, which has to be an object (else BadKind) of no other keys (UnknownKey). Then `group`,
+-- `reached` and `source`, in this order, each have to be there (MissingKey), and to be a text, a
+-- list and a text (BadKind). The group and the source are those of the topology's flow
+-- (WrongFlows), and there are at most 1,024 entries (TooMany).
 unfoldable pub reached_of : Flow → Data → Result (List Data) CertFaultKind
 reached_of f d = do
   members ← object_of flow_keys d

@@ -1,5 +1,6 @@
 -- The trees of version 2, and the flows, each with the number of its tree.
-use Rattle.std.specs.Prelude.{ℕ, ◌+◌, nat_lt, List, [], ◌∷◌, length, map, codes, Option, Some, None, Result, Ok, Err, if◌then◌else◌}
+use Rattle.std.specs.Prelude.{ℕ, ◌+◌, nat_lt, List, [], ◌∷◌, length, map, codes, Option, Some, None}
+use Rattle.std.specs.Prelude.{Result, Ok, Err, if◌then◌else◌}
 use Rattle.serde_json.specs.Data.{Data, Members}
 use Rattle.serde_json.specs.Find.{as_u64}
 use Rattle.mc_topology.specs.Answer.{◌>>=◌}
@@ -15,8 +16,8 @@ use Rattle.mc_cert.specs.Entries.{entries_of}
 use Rattle.mc_cert.specs.Object.{object_of, list_of, text_at, number_at, list_at, at_most}
 use Rattle.mc_cert.specs.VersionOne.{is_flow, flow_at, flow_rows}
 
--- The list of trees has to be there (else MissingKey), to be a list (BadKind), and to have at most 4,096 of
--- them (TooMany).
+-- The list of trees has to be there (else MissingKey), to be a list (BadKind), and to have at most
+-- 4,096 of them (TooMany).
 unfoldable pub tree_rows : Members → Result (List Data) CertFaultKind
 tree_rows ms = list_at (codes "trees") ms >>= at_most 4096
 
@@ -39,10 +40,10 @@ below count (Some n) = if nat_lt n count then Ok n else Err BadNumber
 abbrev pub shared_keys : List (List ℕ)
 shared_keys = codes "group" ∷ codes "source" ∷ codes "tree" ∷ []
 
--- A flow, which has to be an object (else BadKind) of no other keys (UnknownKey). Then `group`, `source` and
--- `tree`, in this order, each have to be there (MissingKey), and to be a text, a text and a number (BadKind).
--- The number is a whole one below the number of trees (BadNumber), and the group and the source are those of the
--- topology's flow (WrongFlows).
+-- A flow, which has to be an object (else BadKind) of no other keys (UnknownKey). Then `group`,
+-- `source` and `tree`, in this order, each have to be there (MissingKey), and to be a text, a text
+-- and a number (BadKind). The number is a whole one below the number of trees (BadNumber), and the
+-- group and the source are those of the topology's flow (WrongFlows).
 unfoldable pub tree_no_of : Flow → ℕ → Data → Result ℕ CertFaultKind
 tree_no_of f trees d = do
   members ← object_of shared_keys d

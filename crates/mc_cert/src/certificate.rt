@@ -1,6 +1,7 @@
 //! A certificate and what it answers.
 
-ghost use Rattle.std.specs.Prelude.{◌≡◌, ◌<◌, ◌≤◌, All, length, map, Some, None, slice_get, option_map, string_bytes};
+ghost use Rattle.std.specs.Prelude.{◌≡◌, ◌<◌, ◌≤◌, All, length, map, Some, None, slice_get};
+ghost use Rattle.std.specs.Prelude.{option_map, string_bytes};
 ghost use Rattle.mc_cert.specs.Certificate.{IsList, flows_of, tree_at};
 
 use crate::distinct::{Distinct, distinct_trees};
@@ -13,8 +14,8 @@ use mc_topology::Topology;
 use std::alloc::Global;
 use std::marker::Model;
 
-/// For each flow of a topology, in order, the LANs that its packets reach. In contracts it is the list of
-/// these lists. A list that many flows share is kept once.
+/// For each flow of a topology, in order, the LANs that its packets reach. In contracts it is the
+/// list of these lists. A list that many flows share is kept once.
 #[derive(Debug, Drop)]
 pub struct Certificate {
     trees: Vec<Vec<Reached>>,
@@ -27,9 +28,11 @@ impl Model for Certificate {
 
     ghost Value = { List Tree };
 
-    ghost view = { λ c. flows_of (map (λ t. t.items) c.trees.items) (option_map (λ n. n.items) c.tree_of_flow) };
+    ghost view = { λ c. flows_of (map (λ t. t.items) c.trees.items)
+        (option_map (λ n. n.items) c.tree_of_flow) };
 
-    ghost invariant = { λ c. IsKept (map (λ t. t.items) c.trees.items) (option_map (λ n. n.items) c.tree_of_flow) };
+    ghost invariant = { λ c. IsKept (map (λ t. t.items) c.trees.items)
+        (option_map (λ n. n.items) c.tree_of_flow) };
 }
 
 impl Certificate {
@@ -40,10 +43,10 @@ impl Certificate {
     ghost use Rattle.mc_cert.specs.Reading.{reading_of};
     ghost use Rattle.mc_cert.specs.Stands.{CertificateStands};
 
-    /// Reads a certificate of version 1 or 2 of this topology: at most 16,777,216 bytes of JSON, and lists
-    /// of at most 1,024 entries, of which version 2 has at most 4,096. Each part is judged wholly before
-    /// the next one, and the first rule that is broken is answered with its place. `Memory`, at `top`,
-    /// where a growth was refused.
+    /// Reads a certificate of version 1 or 2 of this topology: at most 16,777,216 bytes of JSON,
+    /// and lists of at most 1,024 entries, of which version 2 has at most 4,096. Each part is
+    /// judged wholly before the next one, and the first rule that is broken is answered with its
+    /// place. `Memory`, at `top`, where a growth was refused.
     pub fn read(alloc: Global, text: &[u8], topology: &Topology) -> Result<Certificate, CertFault>
         // What is read is what the text stands for.
         ensures found { IfOk result (CertificateStands topology.now text.now) }
@@ -56,8 +59,9 @@ impl Certificate {
         reading_of(alloc, topology, text)
     }
 
-    /// The certificate of these lists, one a flow, in the order of the topology's flows: at most 4,096
-    /// lists of at most 1,024 entries, each with a `need` of at least 1 and a vif of at most 31.
+    /// The certificate of these lists, one a flow, in the order of the topology's flows: at most
+    /// 4,096 lists of at most 1,024 entries, each with a `need` of at least 1 and a vif of at most
+    /// 31.
     pub fn from_flows(flows: Vec<Vec<Reached>>) -> Certificate
         requires few { length flows.items ≤ 4096 }
         requires lists { All IsList (map (λ t. t.items) flows.items) }
@@ -69,9 +73,9 @@ impl Certificate {
         }
     }
 
-    /// The certificate of these trees, and for each flow the number of its own, counted from 0: at most
-    /// 4,096 flows, and trees of at most 1,024 entries, each with a `need` of at least 1 and a vif of at
-    /// most 31.
+    /// The certificate of these trees, and for each flow the number of its own, counted from 0: at
+    /// most 4,096 flows, and trees of at most 1,024 entries, each with a `need` of at least 1 and a
+    /// vif of at most 31.
     pub fn from_trees(trees: Vec<Vec<Reached>>, tree_of_flow: Vec<u32>) -> Certificate
         requires few { length tree_of_flow.items ≤ 4096 }
         requires lists { All IsList (map (λ t. t.items) trees.items) }
@@ -117,8 +121,8 @@ impl Certificate {
         self.tree(flow)
     }
 
-    /// What the certificate says of the flow with this number, counted from 0, of the topology that it
-    /// belongs to.
+    /// What the certificate says of the flow with this number, counted from 0, of the topology that
+    /// it belongs to.
     pub fn flow<'a>(&'a self, flow: u32, topology: &Topology) -> FlowCert<'a>
         requires listed { flow < length self.now }
         requires belongs { length self.now ≡ length topology.now.flows }
@@ -137,11 +141,13 @@ impl Certificate {
         }
     }
 
-    /// The JSON text of the certificate, in version 2, for the topology that it belongs to: compact, on one
-    /// line without a line feed. Each different tree is written once, in the order of first use.
+    /// The JSON text of the certificate, in version 2, for the topology that it belongs to:
+    /// compact, on one line without a line feed. Each different tree is written once, in the order
+    /// of first use.
     pub fn to_json(&self, alloc: Global, topology: &Topology) -> Result<String, Memory>
         requires { BelongsTo topology.now self.now }
-        ensures text { IfOk result (λ text. string_bytes text ≡ certificate_text topology.now self.now) }
+        ensures text { IfOk result (λ text. string_bytes text
+            ≡ certificate_text topology.now self.now) }
         ensures stands { IfOk result (λ text. length (string_bytes text) ≤ 16777216 →
             CertificateStands topology.now (string_bytes text) self.now) }
     {

@@ -1,6 +1,7 @@
 //! The trees of flows without repeats.
 
-ghost use Rattle.std.specs.Prelude.{◌≡◌, ℕ, ◌<◌, ◌≤◌, All, List, length, vec_len, map, option_map, IfOk, OnOk, Some};
+ghost use Rattle.std.specs.Prelude.{◌≡◌, ℕ, ◌<◌, ◌≤◌, All, List, length, vec_len, map, option_map};
+ghost use Rattle.std.specs.Prelude.{IfOk, OnOk, Some};
 ghost use Rattle.std.specs.List.{range_with_len};
 ghost use Rattle.mc_cert.specs.Certificate.{tree_at, flows_of, IsKept};
 ghost use Rattle.mc_cert.specs.Distinct.{place_in, with_tree, distinct_trees, place_of};
@@ -19,8 +20,8 @@ pub(crate) struct Distinct {
     pub(crate) places: Vec<usize>,
 }
 
-/// The place of the kept tree with this number among the different ones so far, behind which it is put if
-/// it is none of them.
+/// The place of the kept tree with this number among the different ones so far, behind which it is
+/// put if it is none of them.
 fn place_of<'a>(
     kept: &'a [Vec<Reached>],
     number: usize,
@@ -87,8 +88,8 @@ fn known_place_of<'a>(
     Ok(place)
 }
 
-/// The different trees of the flows that have the kept trees with these numbers. Each kept tree is looked
-/// up once at most.
+/// The different trees of the flows that have the kept trees with these numbers. Each kept tree is
+/// looked up once at most.
 fn distinct_among(
     alloc: Global,
     kept: &[Vec<Reached>],
@@ -126,7 +127,8 @@ fn numbers_below(alloc: Global, count: u32) -> Result<Vec<u32>, AllocError>
     Ok(numbers)
 }
 
-/// The different trees of all flows, which have the kept trees in order or those with these numbers.
+/// The different trees of all flows, which have the kept trees in order or those with these
+/// numbers.
 pub(crate) fn distinct_trees(
     alloc: Global,
     kept: &[Vec<Reached>],
@@ -136,7 +138,8 @@ pub(crate) fn distinct_trees(
     ensures trees { let all = map (λ t. t.items) kept.now in
         let flows = flows_of all (option_map (λ n. n.items) tree_of_flow.now) in
         IfOk result (λ d. map (tree_at all) d.trees.items ≡ distinct_trees flows) }
-    ensures places { let flows = flows_of (map (λ t. t.items) kept.now) (option_map (λ n. n.items) tree_of_flow.now) in
+    ensures places { let flows = flows_of (map (λ t. t.items) kept.now)
+        (option_map (λ n. n.items) tree_of_flow.now) in
         IfOk result (λ d. d.places.items ≡ map (place_of (distinct_trees flows)) flows) }
     ensures named { IfOk result (λ d. All (λ n. n < length kept.now) d.trees.items) }
 {

@@ -4,7 +4,8 @@ ghost use Rattle.std.specs.Prelude.{◌≡◌, ◌+◌, ◌<◌, ◌≤◌, map,
 ghost use Rattle.serde_json.specs.View.{view, members_view};
 ghost use Rattle.mc_topology.specs.Answer.{Answers};
 ghost use Rattle.mc_cert.specs.Answer.{Gives, place, entry_place};
-ghost use Rattle.mc_cert.specs.Entries.{lan_in, router_of, vif_of, forwarder_of, entry_of, entries_of};
+ghost use Rattle.mc_cert.specs.Entries.{lan_in, router_of, vif_of, forwarder_of, entry_of};
+ghost use Rattle.mc_cert.specs.Entries.{entries_of};
 
 use crate::fault::{CertFault, CertFaultKind, CertPlace};
 use crate::object::{number_of, object_of, text_at, text_of, value_at, whole_at, within};

@@ -7,8 +7,8 @@ ghost use Rattle.mc_cert.specs.CertificateText.{certificate_text};
 ghost use Rattle.mc_cert.specs.Reading.{reading_of};
 ghost use Rattle.mc_cert.specs.Stands.{CertificateStands};
 
-/// Reading gives a certificate exactly where the text stands for it, so a text stands for one certificate
-/// of a topology at most.
+/// Reading gives a certificate exactly where the text stands for it, so a text stands for one
+/// certificate of a topology at most.
 pub fn certificates_are_read_as_they_stand()
     ensures read { (t : TopologyValue) (text : List ℕ) (flows : List Tree) →
         ((reading_of t text ≡ Ok flows) ↔ CertificateStands t text flows) }
@@ -22,8 +22,8 @@ pub fn texts_stand_for_certificates()
         CertificateStands t text flows → BelongsTo t flows }
 {}
 
-/// The text of a certificate that belongs to a topology stands for it, where it isn't longer than a text
-/// may be. The rules of a topology in memory stand in the clauses `rules` of its methods.
+/// The text of a certificate that belongs to a topology stands for it, where it isn't longer than a
+/// text may be. The rules of a topology in memory stand in the clauses `rules` of its methods.
 pub fn texts_of_certificates_stand_for_them()
     ensures { (t : TopologyValue) (flows : List Tree) → IsTopology t → BelongsTo t flows →
         All IsList flows → All (All IsOfBytes) flows →

@@ -7,7 +7,8 @@ ghost use Rattle.std.specs.Str.{bytes_eq};
 ghost use Rattle.serde_json.specs.Find.{get_member, as_u64};
 ghost use Rattle.serde_json.specs.View.{view, number_view, members_view};
 ghost use Rattle.mc_topology.specs.Answer.{Answers};
-ghost use Rattle.mc_cert.specs.Object.{has_only, text_of, number_of, list_of, object_of, text_at, number_at, list_at, within, whole_at, at_most};
+ghost use Rattle.mc_cert.specs.Object.{has_only, text_of, number_of, list_of, object_of, text_at};
+ghost use Rattle.mc_cert.specs.Object.{number_at, list_at, within, whole_at, at_most};
 
 use crate::fault::CertFaultKind;
 use serde_json::{Map, Number, Value};
@@ -22,7 +23,8 @@ fn is_known(known: &[&str], key: &str) -> bool
 /// Whether each key of the object is one of these.
 fn each_key_is_known(object: &Map<String, Value>, known: &[&str]) -> bool
     ensures { result ≡
-        list_all (λ key. list_any (λ k. bytes_eq k.now (string_bytes key)) known.now) (keys object.now) }
+        list_all (λ key. list_any (λ k. bytes_eq k.now (string_bytes key)) known.now)
+        (keys object.now) }
 {
     object.keys().all(|key| is_known(known, key.as_str()))
 }

@@ -22,9 +22,19 @@ impl Model for Reached {
 
     ghost Value = { Entry };
 
-    ghost view = { λ r. record { lan = r.lan; rank = r.rank; need = r.need; forwarder = r.forwarder } };
+    ghost view = { λ r. record {
+      lan = r.lan;
+      rank = r.rank;
+      need = r.need;
+      forwarder = r.forwarder;
+    } };
 
-    ghost inverse = { λ e. record { lan = e.lan; rank = e.rank; need = e.need; forwarder = e.forwarder } };
+    ghost inverse = { λ e. record {
+      lan = e.lan;
+      rank = e.rank;
+      need = e.need;
+      forwarder = e.forwarder;
+    } };
 }
 
 /// What a certificate says of one flow.

@@ -7,7 +7,8 @@ ghost use Rattle.mc_topology.specs.Answer.{Answers};
 ghost use Rattle.mc_cert.specs.declared.fault.CertPlace.TheVariants.{Top};
 ghost use Rattle.mc_cert.specs.Answer.{Gives, place};
 ghost use Rattle.mc_cert.specs.Object.{has_only};
-ghost use Rattle.mc_cert.specs.Reading.{json_of, value_of, members_of, version_of, top_keys, version_in, flows_by, reading_of};
+ghost use Rattle.mc_cert.specs.Reading.{json_of, value_of, members_of, version_of, top_keys};
+ghost use Rattle.mc_cert.specs.Reading.{version_in, flows_by, reading_of};
 
 use crate::certificate::Certificate;
 use crate::fault::{CertFault, CertFaultKind, CertPlace};

@@ -6,7 +6,8 @@ ghost use Rattle.serde_json.specs.View.{view, number_view, members_view};
 ghost use Rattle.mc_text.specs.Addr.{IsAddr};
 ghost use Rattle.mc_topology.specs.Answer.{Answers};
 ghost use Rattle.mc_cert.specs.Answer.{Gives, each};
-ghost use Rattle.mc_cert.specs.VersionTwo.{tree_rows, listed_of, tree_of, below, tree_no_of, shared_flow_of, shared_flows_in};
+ghost use Rattle.mc_cert.specs.VersionTwo.{tree_rows, listed_of, tree_of, below, tree_no_of};
+ghost use Rattle.mc_cert.specs.VersionTwo.{shared_flow_of, shared_flows_in};
 
 use crate::certificate::Certificate;
 use crate::entry::{MAX_ENTRIES, entries_of};

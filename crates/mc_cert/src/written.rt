@@ -1,8 +1,10 @@
 //! The JSON text of a certificate, in version 2, piece by piece.
 
-ghost use Rattle.std.specs.Prelude.{◌≡◌, ◌++◌, ◌<◌, ◌≤◌, All, length, map, IfSome, OnOk, string_bytes};
+ghost use Rattle.std.specs.Prelude.{◌≡◌, ◌++◌, ◌<◌, ◌≤◌, All, length, map, IfSome, OnOk};
+ghost use Rattle.std.specs.Prelude.{string_bytes};
 ghost use Rattle.mc_cert.specs.Certificate.{IsEntryOf, IsOfBytes, tree_at};
-ghost use Rattle.mc_cert.specs.CertificateText.{listed, forwarder_text, entry_text, tree_text, flow_text, flow_texts};
+ghost use Rattle.mc_cert.specs.CertificateText.{listed, forwarder_text, entry_text, tree_text};
+ghost use Rattle.mc_cert.specs.CertificateText.{flow_text, flow_texts};
 
 use crate::reached::Reached;
 use mc_topology::{Flow, RouterNo, Topology};
@@ -70,7 +72,8 @@ pub(crate) fn push_trees(
         All (All (IsEntryOf topology.now)) (map (tree_at all) trees.now) }
     ensures text { let all = map (λ t. t.items) kept.now in
         OnOk result (string_bytes text.new ≡
-        string_bytes text.old ++ listed (map (tree_text topology.now) (map (tree_at all) trees.now))) }
+        string_bytes text.old
+        ++ listed (map (tree_text topology.now) (map (tree_at all) trees.now))) }
     ensures bytes { let all = map (λ t. t.items) kept.now in
         OnOk result (All (All IsOfBytes) (map (tree_at all) trees.now)) }
 {

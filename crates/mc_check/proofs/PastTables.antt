@@ -1,5 +1,5 @@
 -- What a domain has of a router that its topology hasn't: nothing.
-use Rattle.std.proofs.Common.{◌≡◌, ℕ, ◌≤◌, length, slice_get, Option, Some, None, refl, arith, sym}
+use Rattle.std.proofs.Common.{◌≡◌, ℕ, ◌≤◌, length, slice_get, Option, Some, None, refl, arith}
 use Rattle.std.specs.Prelude.{option_and_then}
 use Rattle.std.specs.FinMap as finite
 use Rattle.std.proofs.lemmas.Option.{slice_get_past}

@@ -1,9 +1,8 @@
 -- What a verdict by the first reason says.
-use Rattle.std.proofs.Common.{◌≡◌, ℕ, zero, suc, ◌<◌, ◌≤◌, ◌^◌, ◌↔◌, inl, inr, All, List, [], ◌∷◌}
-use Rattle.std.proofs.Common.{map, length, Option, Some, None, refl, ap, sym, subst, ◌∙◌, arith}
-use Rattle.std.specs.Prelude.{IsTrue}
+use Rattle.std.proofs.Common.{◌≡◌, ℕ, suc, ◌<◌, ◌≤◌, ◌^◌, inl, inr, All, List, [], ◌∷◌}
+use Rattle.std.proofs.Common.{map, length, Option, Some, None, refl, sym, subst, ◌∙◌, arith}
 use Rattle.std.proofs.lemmas.List.{length-map}
-use Rattle.mc_theory.specs.Lists.{In, Distinct, below}
+use Rattle.mc_theory.specs.Lists.{In, below}
 use Rattle.mc_theory.specs.Nets.{Net, IsNet, WantsBelow}
 use Rattle.mc_theory.specs.Certificates.{Entry, IsAccepted}
 use Rattle.mc_theory.specs.Reasons.{first_reason}

@@ -14,4 +14,5 @@ row_held (Some row) = row_seen row
 -- the rows of the first routers, in the routers' order
 pub record AreRows (d : DomainValue) (flow routers : ℕ) (rows : List RowFor) : Type 0 where
   pub count : length rows ≡ routers
-  pub each : (router : ℕ) → router < routers → row_held (slice_get rows router) ≡ row_of d flow router
+  pub each : (router : ℕ) → router < routers
+      → row_held (slice_get rows router) ≡ row_of d flow router

@@ -2,7 +2,9 @@
 use Rattle.std.specs.Prelude.{ℕ, List, [], ◌++◌, codes, decimal, slice_get, option_map, unwrap_or}
 use Rattle.mc_topology.specs.Topology.{TopologyValue}
 use Rattle.mc_check.specs.declared.verdict.Reason.{Reason}
-use Rattle.mc_check.specs.declared.verdict.Reason.TheVariants.{TwoEntries, BadSource, Wildcard, Stray, Extra, WrongRank, WrongNeed, Unfed, Missed, Low}
+use Rattle.mc_check.specs.declared.verdict.Reason.TheVariants.{TwoEntries, BadSource, Wildcard}
+use Rattle.mc_check.specs.declared.verdict.Reason.TheVariants.{Stray, Extra, WrongRank, WrongNeed}
+use Rattle.mc_check.specs.declared.verdict.Reason.TheVariants.{Unfed, Missed, Low}
 use Rattle.mc_check.specs.declared.verdict.Verdict.{Verdict}
 use Rattle.mc_check.specs.declared.verdict.Verdict.TheVariants.{Yes, No}
 
@@ -16,10 +18,13 @@ router_name t router = unwrap_or (option_map (λ r. r.name) (slice_get t.routers
 abbrev pub reason_text : TopologyValue → Reason → List ℕ
 reason_text t (TwoEntries lan) = codes "TwoEntries " ++ lan_name t lan
 reason_text t BadSource = codes "BadSource"
-reason_text t (Wildcard router vif) = codes "Wildcard " ++ router_name t router ++ codes " " ++ decimal vif
-reason_text t (Stray router vif) = codes "Stray " ++ router_name t router ++ codes " " ++ decimal vif
+reason_text t (Wildcard router vif) = codes "Wildcard " ++ router_name t router ++ codes " "
+    ++ decimal vif
+reason_text t (Stray router vif) = codes "Stray " ++ router_name t router ++ codes " "
+    ++ decimal vif
 reason_text t (Extra router vif lan) =
-    codes "Extra " ++ router_name t router ++ codes " " ++ decimal vif ++ codes " " ++ lan_name t lan
+    codes "Extra " ++ router_name t router ++ codes " " ++ decimal vif ++ codes " "
+    ++ lan_name t lan
 reason_text t (WrongRank lan) = codes "WrongRank " ++ lan_name t lan
 reason_text t (WrongNeed lan) = codes "WrongNeed " ++ lan_name t lan
 reason_text t (Unfed lan) = codes "Unfed " ++ lan_name t lan

@@ -2,7 +2,9 @@
 use Rattle.std.specs.Prelude.{Option, Some, None}
 use Rattle.mc_theory.specs.Reasons.{Reason as ReasonValue}
 use Rattle.mc_check.specs.declared.verdict.Reason.{Reason}
-use Rattle.mc_check.specs.declared.verdict.Reason.TheVariants.{TwoEntries, BadSource, Wildcard, Stray, Extra, WrongRank, WrongNeed, Unfed, Missed, Low}
+use Rattle.mc_check.specs.declared.verdict.Reason.TheVariants.{TwoEntries, BadSource, Wildcard}
+use Rattle.mc_check.specs.declared.verdict.Reason.TheVariants.{Stray, Extra, WrongRank, WrongNeed}
+use Rattle.mc_check.specs.declared.verdict.Reason.TheVariants.{Unfed, Missed, Low}
 
 abbrev pub reason_value : Reason → ReasonValue
 reason_value (TwoEntries lan) = ReasonValue.TwoEntries lan

@@ -1,5 +1,6 @@
 -- What a verdict says of a flow's list of entries.
-use Rattle.std.specs.Prelude.{◌≡◌, ℕ, Bool, true, false, IsTrue, ◌↔◌, List, length, slice_get, Option, Some, None, ⊤}
+use Rattle.std.specs.Prelude.{◌≡◌, ℕ, Bool, true, false, IsTrue, ◌↔◌, List, length, slice_get}
+use Rattle.std.specs.Prelude.{Option, Some, None, ⊤}
 use Rattle.mc_theory.specs.Nets.{Net}
 use Rattle.mc_theory.specs.Flights.{EveryRun}
 use Rattle.mc_theory.specs.Certificates.{Entry, IsAccepted, IsSafe, IsDeliveredWhole, IsRight}
@@ -42,9 +43,11 @@ HasCopies n es v = IfYes v (λ copies. copies ≡ length es)
 
 -- a no has the first reason, where the LANs are numbered below `count`
 abbrev pub HasFirstReason : ℕ → Net → List Entry → Verdict → Type 0
-HasFirstReason count n es v = IfNo v (λ reason. first_reason n count es ≡ Some (reason_value reason))
+HasFirstReason count n es v = IfNo v (λ reason. first_reason n count es
+    ≡ Some (reason_value reason))
 
--- ---- what a yes is worth, for every packet of the flow and every order in which its copies are handled or lost
+-- ---- what a yes is worth, for every packet of the flow and every order in which its copies are
+-- handled or lost
 
 -- every run of a packet with any TTL, complete or not, is safe
 abbrev pub YesIsSafe : Net → List Entry → Verdict → Type 0
@@ -75,6 +78,7 @@ pub record Says (count : ℕ) (n : Net) (es : List Entry) (v : Verdict) : Type 0
 -- ---- of each flow
 
 -- the fact of each flow's net, list and verdict
-abbrev pub OfEachFlow : DomainValue → List (List Entry) → List Verdict → (Net → List Entry → Verdict → Type 0) → Type 0
+abbrev pub OfEachFlow : DomainValue → List (List Entry) → List Verdict
+    → (Net → List Entry → Verdict → Type 0) → Type 0
 OfEachFlow d lists verdicts P = (flow : ℕ) (es : List Entry) (v : Verdict)
     → slice_get lists flow ≡ Some es → slice_get verdicts flow ≡ Some v → P (net_of d flow) es v

@@ -5,7 +5,8 @@ ghost use Rattle.mc_theory.specs.Reasons.{first_reason, twice};
 ghost use Rattle.mc_forward.specs.Domains.{net_of};
 ghost use Rattle.mc_check.specs.FlowNet.{flow_net};
 ghost use Rattle.mc_check.specs.Reasons.{reason_seen};
-ghost use Rattle.mc_check.specs.Verdicts.{HasCopies, HasFirstReason, IsExact, OfEachFlow, Says, verdict_by};
+ghost use Rattle.mc_check.specs.Verdicts.{HasCopies, HasFirstReason, IsExact, OfEachFlow, Says};
+ghost use Rattle.mc_check.specs.Verdicts.{verdict_by};
 ghost use Rattle.mc_check.specs.Verdicts.{YesDelivers, YesIsRight, YesIsSafe, YesKeepsHeadline};
 
 use crate::fed::fed_reason;
@@ -81,7 +82,8 @@ fn verdict_on(
 ) -> Result<Verdict, Memory>
     requires flow { flow < length domain.now.topology.flows }
     requires lans { All (λ e. e.lan < length domain.now.topology.lans) entries.now }
-    ensures { IfOk result (Says (length domain.now.topology.lans) (net_of domain.now flow) entries.now) }
+    ensures { IfOk result
+        (Says (length domain.now.topology.lans) (net_of domain.now flow) entries.now) }
 {
     let _rules = domain.topology();
     let reason = first_reason_of(alloc, domain, flow, entries)?;
@@ -116,8 +118,8 @@ pub fn check_flow(
     verdict_on(alloc, domain, flow, entries)
 }
 
-/// The verdict on each flow, in the order of the topology, by a certificate of the domain's topology: a
-/// list for each flow, of the topology's LANs.
+/// The verdict on each flow, in the order of the topology, by a certificate of the domain's
+/// topology: a list for each flow, of the topology's LANs.
 pub fn check_all(
     alloc: Global,
     domain: &Domain,
@@ -125,7 +127,8 @@ pub fn check_all(
 ) -> Result<Vec<Verdict>, Memory>
     requires flows { length certificate.now ≡ length domain.now.topology.flows }
     requires lans { All (All (λ e. e.lan < length domain.now.topology.lans)) certificate.now }
-    // One verdict a flow, and each is what `check_flow` answers: yes exactly where the list is accepted,
+    // One verdict a flow, and each is what `check_flow` answers: yes exactly where the list is
+    // accepted,
     ensures count { IfOk result (λ vs. length vs.items ≡ length certificate.now) }
     ensures accepted { IfOk result (λ vs.
         OfEachFlow domain.now certificate.now vs.items IsExact) }

@@ -1,6 +1,7 @@
 //! The entries of a flow, with the first of each LAN at hand.
 
-ghost use Rattle.std.specs.Prelude.{◌≡◌, ◌<◌, All, IfNone, IsFalse, IsSome, IsTrue, None, Some, [], length, slice_get, slice_set};
+ghost use Rattle.std.specs.Prelude.{◌≡◌, ◌<◌, All, IfNone, IsFalse, IsSome, IsTrue, None, Some, []};
+ghost use Rattle.std.specs.Prelude.{length, slice_get, slice_set};
 ghost use Rattle.mc_theory.specs.Reasons.{entry_on, entry_at, twice as first_twice};
 ghost use Rattle.mc_check.specs.Firsts.{AreFirsts, AreNone, held};
 ghost use Rattle.mc_check.specs.Reasons.{reason_seen};
@@ -10,8 +11,8 @@ use mc_cert::Reached;
 use mc_topology::LanNo;
 use std::marker::Model;
 
-/// The entries of a flow, in order, with a vector that has the first entry of each LAN at the LAN's number.
-/// Contracts see the entries.
+/// The entries of a flow, in order, with a vector that has the first entry of each LAN at the LAN's
+/// number. Contracts see the entries.
 #[derive(Drop)]
 pub(crate) struct Named<'c> {
     entries: &'c [Reached],
@@ -48,8 +49,8 @@ fn is_put(firsts: &mut [Option<Reached>], entry: &Reached) -> bool
     }
 }
 
-/// Puts each entry at its LAN's place of a vector that holds none yet, and tells the first LAN that is
-/// named twice.
+/// Puts each entry at its LAN's place of a vector that holds none yet, and tells the first LAN that
+/// is named twice.
 pub(crate) fn put_firsts(firsts: &mut [Option<Reached>], entries: &[Reached]) -> Option<Reason>
     requires empty { AreNone firsts.old }
     requires lans { All (λ e. e.lan < length firsts.old) entries.now }

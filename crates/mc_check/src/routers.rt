@@ -2,7 +2,8 @@
 
 ghost use Rattle.std.specs.Prelude.{◌≡◌, ◌+◌, ◌<◌};
 ghost use Rattle.mc_theory.specs.Lists.{below};
-ghost use Rattle.mc_theory.specs.Reasons.{child_reason, entry_on, first_of, pair_reason, row_reason, wild_at};
+ghost use Rattle.mc_theory.specs.Reasons.{child_reason, entry_on, first_of, pair_reason};
+ghost use Rattle.mc_theory.specs.Reasons.{row_reason, wild_at};
 ghost use Rattle.mc_forward.specs.Domains.{pairs_of};
 ghost use Rattle.mc_check.specs.FlowNet.{flow_net};
 ghost use Rattle.mc_check.specs.Reasons.{reason_seen};
@@ -15,8 +16,8 @@ use mc_forward::RowFor;
 use mc_tables::Oif;
 use mc_topology::{LanNo, RouterNo};
 
-/// What keeps a LAN's entry from being the one that a router's pair gives, where the router takes from
-/// `base`'s LAN.
+/// What keeps a LAN's entry from being the one that a router's pair gives, where the router takes
+/// from `base`'s LAN.
 fn child_reason(
     named: &Named<'_>,
     base: &Reached,
@@ -75,7 +76,8 @@ fn pairs_reason(
     router: RouterNo,
     oifs: &[Oif],
 ) -> Option<Reason>
-    ensures { reason_seen result ≡ first_of (pair_reason (flow_net tables.now) named.now base.now router)
+    ensures { reason_seen result
+        ≡ first_of (pair_reason (flow_net tables.now) named.now base.now router)
         (pairs_of oifs.now) }
 {
     for oif in oifs {

@@ -2,7 +2,8 @@
 
 ghost use Rattle.std.specs.Prelude.{◌≡◌, ◌==◌, ◌||◌, ◌<◌, is_some, length};
 ghost use Rattle.mc_theory.specs.Lists.{below};
-ghost use Rattle.mc_theory.specs.Reasons.{all_pass, entry_on, first_of, has_source, is_source_entry, lan_reason};
+ghost use Rattle.mc_theory.specs.Reasons.{all_pass, entry_on, first_of, has_source};
+ghost use Rattle.mc_theory.specs.Reasons.{is_source_entry, lan_reason};
 ghost use Rattle.mc_check.specs.FlowNet.{flow_net};
 ghost use Rattle.mc_check.specs.Reasons.{reason_seen};
 
@@ -24,7 +25,8 @@ fn is_source_entry(named: &Named<'_>, lan: LanNo) -> bool
 
 /// Whether each entry of another LAN has a forwarder.
 fn others_are_forwarded(entries: &[Reached], lan: LanNo) -> bool
-    ensures { result ≡ all_pass (λ entry. (entry.lan == lan) || is_some entry.forwarder) entries.now }
+    ensures { result
+        ≡ all_pass (λ entry. (entry.lan == lan) || is_some entry.forwarder) entries.now }
 {
     for entry in entries {
         if entry.lan.0 != lan.0 && entry.forwarder.is_none() {

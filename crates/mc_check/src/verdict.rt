@@ -19,11 +19,11 @@ pub enum Verdict {
 pub enum Reason {
     /// (1) Two entries name the LAN.
     TwoEntries(LanNo),
-    /// (2) The source's LAN isn't named with rank 0, need 1 and no forwarder, or an entry of another LAN
-    /// has no forwarder.
+    /// (2) The source's LAN isn't named with rank 0, need 1 and no forwarder, or an entry of
+    /// another LAN has no forwarder.
     BadSource,
-    /// (3) The router has no row for the flow's source and group, but one of every source for its group
-    /// or for all groups, and the vif, the lowest such, is placed on a named LAN.
+    /// (3) The router has no row for the flow's source and group, but one of every source for its
+    /// group or for all groups, and the vif, the lowest such, is placed on a named LAN.
     Wildcard(RouterNo, u8),
     /// (4) The router sends by the vif what comes from a named LAN, and the vif isn't placed.
     Stray(RouterNo, u8),

@@ -1,18 +1,12 @@
 -- The names of the files that are packed.
-use Rattle.std.proofs.Common.{◌≡◌, ℕ, zero, suc, ◌+◌, ◌*◌, ◌≤◌, Bool, true, false, List, [], ◌∷◌}
-use Rattle.std.proofs.Common.{◌++◌, codes, length, map, take, refl, ap, sym, ◌∙◌, arith, add-one}
-use Rattle.std.proofs.Common.{lit≤, subst}
-use Rattle.std.specs.Prelude.{Option, Some, None, option_map, slice_get, flat_map, IsTrue, find}
-use Rattle.std.specs.Prelude.{cond}
-use Rattle.std.specs.List.{AllByRecursion}
+use Rattle.std.proofs.Common.{◌≡◌, ℕ, zero, suc, ◌+◌, Bool, true, false, List, [], ◌∷◌}
+use Rattle.std.proofs.Common.{◌++◌, codes, map, take, refl, ap, sym, ◌∙◌, add-one}
+use Rattle.std.specs.Prelude.{Option, Some, None, option_map, slice_get, flat_map, find}
 use Rattle.std.specs.Str.{bytes_eq}
 use Rattle.std.proofs.lemmas.List.{append_assoc}
 use denote.Ref.{Bor}
-use Rattle.mc_text.specs.Bundle.{IsPartName}
-use Rattle.mc_topology.specs.Names.{is_name}
 use Rattle.mc_topology.specs.Rows.{RouterRow}
-use Rattle.mc_topology.proofs.PartNames.{part_name}
-use Rattle.mc_files.specs.Files.{FileText, file_named, file_text}
+use Rattle.mc_files.specs.Files.{file_named, file_text}
 use Rattle.mc_files.specs.Packing.{PackedName, router_packed, lan_packed}
 
 -- ---- one more

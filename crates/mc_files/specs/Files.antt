@@ -1,5 +1,6 @@
 -- The files of a folder, as a source of files tells them, and what a call of the source answers.
-use Rattle.std.specs.Prelude.{◌≡◌, ℕ, ◌+◌, ◌<◌, List, [], ◌++◌, codes, find, length, Option, option_map, Some, None, Result, Ok, Err, ⊤}
+use Rattle.std.specs.Prelude.{◌≡◌, ℕ, ◌+◌, ◌<◌, List, [], ◌++◌, codes, find, length, Option}
+use Rattle.std.specs.Prelude.{option_map, Some, None, Result, Ok, Err, ⊤}
 use denote.Ref.{Bor}
 use Rattle.std.specs.Str.{bytes_eq}
 use Rattle.mc_text.specs.declared.input_bytes.ReadFault.{ReadFault}
@@ -14,10 +15,11 @@ pub record FileText : Type 0 where
 
 -- the bytes of the file with the name, of the first one where there are several
 abbrev pub file_named : List FileText → List ℕ → Option (List ℕ)
-file_named files name = option_map (λ file. file.bytes) (find (λ file. bytes_eq file.name name) files)
+file_named files name = option_map (λ file. file.bytes)
+    (find (λ file. bytes_eq file.name name) files)
 
--- What is answered of the file that was found, or of none: all of its bytes, or that they are more than the
--- limit. That the source failed, or that memory ran out, says nothing of the file.
+-- What is answered of the file that was found, or of none: all of its bytes, or that they are more
+-- than the limit. That the source failed, or that memory ran out, says nothing of the file.
 abbrev pub IsRead : {X : Type 0} → (X → List ℕ) → Option (List ℕ) → ℕ → Result X FileFault → Type 0
 IsRead items (Some bytes) limit (Ok read) = items read ≡ bytes
 IsRead items None limit (Ok read) = ⊥

@@ -1,6 +1,8 @@
--- What is packed of files, or why nothing is. The topology is judged before another file is asked for, and the
--- first file that isn't there or is too large is told. That the whole is too large is told last.
-use Rattle.std.specs.Prelude.{ℕ, nat_le, Bool, List, [], ◌∷◌, ◌++◌, codes, length, Option, Some, None, Result, Ok, Err, if◌then◌else◌}
+-- What is packed of files, or why nothing is. The topology is judged before another file is asked
+-- for, and the first file that isn't there or is too large is told. That the whole is too large is
+-- told last.
+use Rattle.std.specs.Prelude.{ℕ, nat_le, Bool, List, [], ◌∷◌, ◌++◌, length, Option, Some}
+use Rattle.std.specs.Prelude.{None, Result, Ok, Err, if◌then◌else◌}
 use Rattle.mc_text.specs.Steps.{◌>>=◌}
 use Rattle.mc_text.specs.Bundle.{PartText, bundle_spelling, max_part, max_bundle}
 use Rattle.mc_topology.specs.Reading.{reading_of}
@@ -17,10 +19,12 @@ part_bytes (Some bytes) = if nat_le (length bytes) max_part then Ok bytes else E
 -- the part that is made of a file
 abbrev pub part_packed : List FileText → PackedName → Result PartText PackFault
 part_packed files name =
-    part_bytes (file_named files name.file) >>= λ bytes. Ok (record { name = name.part; bytes = bytes })
+    part_bytes (file_named files name.file)
+    >>= λ bytes. Ok (record { name = name.part; bytes = bytes })
 
 -- the parts before, and after them those of the files with these names
-unfoldable pub parts_after : List FileText → List PartText → List PackedName → Result (List PartText) PackFault
+unfoldable pub parts_after : List FileText → List PartText → List PackedName
+    → Result (List PartText) PackFault
 parts_after files before [] = Ok before
 parts_after files before (name ∷ names) =
     part_packed files name >>= λ part. parts_after files (before ++ part ∷ []) names

@@ -11,7 +11,8 @@ use Rattle.mc_text.specs.declared.bundle_fault.BundleFault.TheVariants as bundle
 use Rattle.mc_files.specs.declared.fault.FileFault.{FileFault}
 use Rattle.mc_files.specs.declared.fault.FileFault.TheVariants as file
 use Rattle.mc_files.specs.declared.fault.PackFault.{PackFault}
-use Rattle.mc_files.specs.declared.fault.PackFault.TheVariants.{Topology, TooLarge, Read, Write, Memory}
+use Rattle.mc_files.specs.declared.fault.PackFault.TheVariants.{Topology, TooLarge, Read, Write}
+use Rattle.mc_files.specs.declared.fault.PackFault.TheVariants.{Memory}
 
 -- a file's fault, as the reason why nothing is packed
 abbrev pub of_file : FileFault → PackFault
@@ -24,8 +25,8 @@ abbrev pub of_writing : BundleFault → PackFault
 of_writing bundle.TooLarge = TooLarge
 of_writing _ = Write
 
--- What a step answers, seen by view, is what the definition gives. What devices do and want of memory say
--- nothing of the files.
+-- What a step answers, seen by view, is what the definition gives. What devices do and want of
+-- memory say nothing of the files.
 abbrev pub Gives : {X Y : Type 0} → (X → Y) → Result X PackFault → Result Y PackFault → Type 0
 Gives view (Ok x) step = step ≡ Ok (view x)
 Gives view (Err (Topology fault)) step = step ≡ Err (Topology fault)

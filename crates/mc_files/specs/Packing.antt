@@ -1,5 +1,6 @@
 -- The bundle that is packed of a folder's files.
-use Rattle.std.specs.Prelude.{◌≡◌, ℕ, Bool, true, false, List, [], ◌∷◌, ◌++◌, codes, map, flat_map, Some, ⊤}
+use Rattle.std.specs.Prelude.{◌≡◌, ℕ, Bool, true, false, List, [], ◌∷◌, ◌++◌, codes, flat_map}
+use Rattle.std.specs.Prelude.{Some, ⊤}
 use Rattle.mc_text.specs.Bundle.{PartText, AreWithinLimits}
 use Rattle.mc_topology.specs.Rows.{RouterRow}
 use Rattle.mc_topology.specs.Topology.{TopologyValue}
@@ -38,15 +39,17 @@ others_packed certified t =
 abbrev pub ArePacked : List FileText → List PackedName → List PartText → Type 0
 ArePacked files [] [] = ⊤
 ArePacked files (name ∷ names) (part ∷ parts) =
-    (part.name ≡ name.part) × (file_named files name.file ≡ Some part.bytes) × ArePacked files names parts
+    (part.name ≡ name.part) × (file_named files name.file ≡ Some part.bytes)
+    × ArePacked files names parts
 ArePacked files _ _ = ⊥
 
--- The parts of the bundle that is packed of the files: the topology, which has a meaning, and the files that it
--- names, in this order. They are within the limits of a bundle.
-pub record IsPacked (files : List FileText) (certified : Bool) (parts : List PartText) : Type 0 where
-  pub text : List ℕ
-  pub topology : TopologyValue
-  pub first : file_named files (codes "topology") ≡ Some text
-  pub stands : TopologyStands text topology
-  pub each : ArePacked files (topology_packed ∷ others_packed certified topology) parts
-  pub limits : AreWithinLimits parts
+-- The parts of the bundle that is packed of the files: the topology, which has a meaning, and the
+-- files that it names, in this order. They are within the limits of a bundle.
+pub record IsPacked (files : List FileText) (certified : Bool) (parts : List PartText) : Type 0
+  where
+    pub text : List ℕ
+    pub topology : TopologyValue
+    pub first : file_named files (codes "topology") ≡ Some text
+    pub stands : TopologyStands text topology
+    pub each : ArePacked files (topology_packed ∷ others_packed certified topology) parts
+    pub limits : AreWithinLimits parts

@@ -30,7 +30,8 @@ impl<'a, R: Files> Model for Folder<'a, R> {
 }
 
 impl<'a, R: Files> Folder<'a, R> {
-    /// A source over the folder, or over the present directory where its path is empty. No file is opened yet.
+    /// A source over the folder, or over the present directory where its path is empty. No file is
+    /// opened yet.
     pub fn new(system: &'a R, folder: &'a str) -> Folder<'a, R>
         ensures { result ≡ record { told = None; failed = 0 } }
     {

@@ -1,6 +1,6 @@
-//! The files of a domain's folder, and the bundle that is packed of them. A source of files may be a folder of
-//! the file system or files in memory. Only the topology is judged: of the other files nothing is known here
-//! but their names.
+//! The files of a domain's folder, and the bundle that is packed of them. A source of files may be
+//! a folder of the file system or files in memory. Only the topology is judged: of the other files
+//! nothing is known here but their names.
 #![tactic(auto)]
 
 mod fault;

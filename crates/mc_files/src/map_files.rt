@@ -46,7 +46,8 @@ impl<'a> MapFiles<'a> {
 
 /// The bytes of the file with the name.
 fn bytes_of<'a>(files: &[(&str, &'a [u8])], name: &str) -> Option<&'a [u8]>
-    ensures { option_map (λ bytes. bytes.now) result ≡ file_named (map file_text files.now) name.now }
+    ensures { option_map (λ bytes. bytes.now) result
+        ≡ file_named (map file_text files.now) name.now }
 {
     let (_, bytes) = files.iter().find(|(file, _)| *file == name)?;
     Some(bytes)

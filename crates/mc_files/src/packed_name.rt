@@ -3,7 +3,8 @@
 ghost use Rattle.std.specs.Prelude.{◌≡◌, ◌++◌, codes, flat_map, IfOk, OnOk};
 ghost use Rattle.std.specs.String.{string_bytes};
 ghost use Rattle.mc_text.specs.Bundle.{IsPartName};
-ghost use Rattle.mc_files.specs.Packing.{certificate_packed, lan_packed, others_packed, router_packed, topology_packed};
+ghost use Rattle.mc_files.specs.Packing.{certificate_packed, lan_packed, others_packed};
+ghost use Rattle.mc_files.specs.Packing.{router_packed, topology_packed};
 
 use mc_text::PartName;
 use mc_topology::{LanNo, RouterNo, Topology};

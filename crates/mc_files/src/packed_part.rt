@@ -2,7 +2,8 @@
 
 ghost use Rattle.std.specs.Prelude.{◌≡◌, ◌≢◌, ◌<◌, [], ◌∷◌, IfErr, IfOk};
 ghost use Rattle.mc_text.specs.PartView.{part_text, part_texts};
-ghost use Rattle.mc_files.specs.PackReading.{judged, names_told as names_of_others, part_packed, parts_after as parts_read_after, parts_read};
+ghost use Rattle.mc_files.specs.PackReading.{judged, names_told as names_of_others, part_packed};
+ghost use Rattle.mc_files.specs.PackReading.{parts_after as parts_read_after, parts_read};
 ghost use Rattle.mc_files.specs.PackRun.{Gives, GivesOf, failed_files};
 ghost use Rattle.mc_topology.specs.Reading.{reading_of};
 
@@ -53,7 +54,8 @@ fn part_of<F: FileSource>(
     requires { F.failed files.old < u64.MAX }
     ensures same { F.names files.new ≡ F.names files.old }
     ensures kept { F.told files.new ≡ F.told files.old }
-    ensures part { GivesOf (F.told files.old) (λ part. part) result (λ told. part_packed told name.now) }
+    ensures part { GivesOf (F.told files.old) (λ part. part) result
+        (λ told. part_packed told name.now) }
     ensures no_write { IfErr result (λ fault. fault ≢ PackFault.Write) }
     ensures failures { F.failed files.new ≡ failed_files result (F.failed files.old) }
 {
@@ -88,8 +90,10 @@ fn parts_after<F: FileSource>(
 
 /// The topology of a text.
 fn topology_of(alloc: Global, text: &[u8]) -> Result<Topology, PackFault>
-    ensures topology { Gives (λ topology. topology) result (judged PackFault.Topology (reading_of text.now)) }
-    ensures no_device { IfErr result (λ fault. (fault ≢ PackFault.Write) × (fault ≢ PackFault.Read)) }
+    ensures topology { Gives (λ topology. topology) result
+        (judged PackFault.Topology (reading_of text.now)) }
+    ensures no_device { IfErr result (λ fault. (fault ≢ PackFault.Write)
+        × (fault ≢ PackFault.Read)) }
 {
     match Topology::read(alloc, text) {
         Ok(topology) => Ok(topology),
@@ -107,7 +111,8 @@ fn topology_of(alloc: Global, text: &[u8]) -> Result<Topology, PackFault>
 #[tactic(auto, unfolding(crate::specs::PackReading::names_told))]
 fn names_told(alloc: Global, text: &[u8], certified: bool) -> Result<Vec<FileName>, PackFault>
     ensures names { Gives (λ names. names.items) result (names_of_others certified text.now) }
-    ensures no_device { IfErr result (λ fault. (fault ≢ PackFault.Write) × (fault ≢ PackFault.Read)) }
+    ensures no_device { IfErr result (λ fault. (fault ≢ PackFault.Write)
+        × (fault ≢ PackFault.Read)) }
 {
     let topology = topology_of(alloc, text)?;
     Ok(other_names(alloc, &topology, certified)?)

@@ -7,7 +7,8 @@ ghost use Rattle.mc_text.specs.Device.{AppendsPart};
 ghost use Rattle.mc_text.specs.PartView.{part_texts};
 ghost use Rattle.mc_files.specs.Files.{FileText};
 ghost use Rattle.mc_files.specs.Packing.{IsPacked};
-ghost use Rattle.mc_files.specs.PackRun.{Answers, SaysNothing, WritesPacked, WritesPartOfPacked, failed_files, failed_writes, of_writing};
+ghost use Rattle.mc_files.specs.PackRun.{Answers, SaysNothing, WritesPacked, WritesPartOfPacked};
+ghost use Rattle.mc_files.specs.PackRun.{failed_files, failed_writes, of_writing};
 
 use crate::fault::PackFault;
 use crate::packed_part::{borrowed, parts_of};
@@ -31,11 +32,13 @@ fn write_parts<W: Output>(parts: &[Part<'_>], output: &mut W) -> Result<(), Pack
     ensures same { W.names output.new ≡ W.names output.old }
     ensures ok { OnOk result
         (AppendsBundle (W.took output.old) (W.took output.new) (part_texts parts.now)) }
-    ensures faults { IfErr result (λ fault. (fault ≡ PackFault.TooLarge) ⊎ (fault ≡ PackFault.Write)) }
+    ensures faults { IfErr result (λ fault. (fault ≡ PackFault.TooLarge)
+        ⊎ (fault ≡ PackFault.Write)) }
     ensures too_large { result ≡ Err PackFault.TooLarge → ¬ AreWithinLimits (part_texts parts.now) }
     ensures within { result ≡ Err PackFault.Write → AreWithinLimits (part_texts parts.now) }
     ensures cut { result ≡ Err PackFault.Write
-        → AppendsPart (W.took output.old) (W.took output.new) (bundle_spelling (part_texts parts.now)) }
+        → AppendsPart (W.took output.old) (W.took output.new)
+        (bundle_spelling (part_texts parts.now)) }
     ensures unwritten { IfErr result (λ fault. fault ≢ PackFault.Write → output.new ≡ output.old) }
     ensures failures { W.failed output.new ≡ failed_writes result (W.failed output.old) }
 {
@@ -45,17 +48,19 @@ fn write_parts<W: Output>(parts: &[Part<'_>], output: &mut W) -> Result<(), Pack
     }
 }
 
-/// Packs the bundle of a folder's files: `topology`, for each router in the topology's order `vif-<router>` and
-/// `cache-<router>`, for each LAN `igmp-<lan>`, and `certificate` where `certified` says that it is to be there.
-/// Each file may have 16,777,216 bytes, and the bundle 268,435,456. All files are read before anything is
-/// written. The counts of failures of the files and of the output have to be below `u64::MAX`.
+/// Packs the bundle of a folder's files: `topology`, for each router in the topology's order
+/// `vif-<router>` and `cache-<router>`, for each LAN `igmp-<lan>`, and `certificate` where
+/// `certified` says that it is to be there. Each file may have 16,777,216 bytes, and the bundle
+/// 268,435,456. All files are read before anything is written. The counts of failures of the files
+/// and of the output have to be below `u64::MAX`.
 ///
 /// # Errors
 ///
-/// The first fault in the bundle's order: `Read` where a file isn't there or can't be read, `TooLarge` where it
-/// has too many bytes, and `Topology` before another file is asked for. `TooLarge` last, where the bundle has
-/// too many bytes. `Write` at the first call of `write` that answers an error or takes no byte; a proper part of
-/// the bundle was written then, and otherwise nothing. Or `Memory`.
+/// The first fault in the bundle's order: `Read` where a file isn't there or can't be read,
+/// `TooLarge` where it has too many bytes, and `Topology` before another file is asked for.
+/// `TooLarge` last, where the bundle has too many bytes. `Write` at the first call of `write` that
+/// answers an error or takes no byte; a proper part of the bundle was written then, and otherwise
+/// nothing. Or `Memory`.
 pub fn pack<F: FileSource, W: Output>(
     alloc: Global,
     files: &mut F,

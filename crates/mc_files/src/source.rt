@@ -18,12 +18,13 @@ pub trait FileSource {
     // the references that it is reached through
     ghost names: { Self → List GName } = { λ _. [] };
 
-    /// Reads the file with the name, which has to have at most `limit` bytes. It may be called while the count
-    /// of failures is below `u64::MAX`.
+    /// Reads the file with the name, which has to have at most `limit` bytes. It may be called
+    /// while the count of failures is below `u64::MAX`.
     ///
     /// # Errors
     ///
-    /// `Failed` where the file isn't there or can't be read, `TooLarge` where it has more bytes, or `Memory`.
+    /// `Failed` where the file isn't there or can't be read, `TooLarge` where it has more bytes, or
+    /// `Memory`.
     fn read(&mut self, alloc: Global, name: &str, limit: usize) -> Result<Vec<u8>, FileFault>
         requires { failed self.old < u64.MAX }
         ensures same { names self.new ≡ names self.old }

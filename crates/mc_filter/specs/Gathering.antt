@@ -1,5 +1,6 @@
 -- A walk over records in progress, by tests. Only the contracts of private functions speak of it.
-use Rattle.std.specs.Prelude.{◌≡◌, ℕ, ◌<◌, ◌==◌, ◌&&◌, ◌||◌, Bool, true, false, not, List, length, slice_index, slice_index_or}
+use Rattle.std.specs.Prelude.{◌≡◌, ℕ, ◌<◌, ◌==◌, ◌&&◌, ◌||◌, Bool, true, false, not, List, length}
+use Rattle.std.specs.Prelude.{slice_index, slice_index_or}
 use Rattle.std.specs.List.{list_any}
 use Rattle.mc_igmp.specs.declared.record.Record.{Record}
 use Rattle.mc_igmp.specs.declared.record.Kind.{Kind}
@@ -41,9 +42,12 @@ wanted records group s = list_any (wanted_by group s) records
 abbrev pub excluding : List Record → ℕ → Bool
 excluding records group = list_any (excludes_by group) records
 
--- What was gathered for a group and what the records that are left want is what all records want of it.
-pub record Gathers (records : List Record) (group : ℕ) (gathered : Gathered) (left : List Record) : Type 0 where
-  pub excludes : (is_exclude_mode gathered.filter.mode || excluding left group) ≡ excluding records group
+-- What was gathered for a group and what the records that are left want is what all records want of
+-- it.
+pub record Gathers (records : List Record) (group : ℕ) (gathered : Gathered)
+    (left : List Record) : Type 0 where
+  pub excludes : (is_exclude_mode gathered.filter.mode || excluding left group)
+      ≡ excluding records group
   pub wants : (s : ℕ) →
       ((admits gathered.filter s || has gathered.included.items s) || wanted left group s)
       ≡ wanted records group s

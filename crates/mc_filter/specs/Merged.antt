@@ -1,4 +1,5 @@
--- The one filter that the records for a group merge to, over all records at once (RFC 3376, section 3.2).
+-- The one filter that the records for a group merge to, over all records at once (RFC 3376, section
+-- 3.2).
 use Rattle.std.specs.Prelude.{◌≡◌, ◌↔◌, ℕ, List, Contains, All, Any}
 use Rattle.std.specs.List.Sorted.{IsStrictlyIncreasing}
 use Rattle.mc_igmp.specs.declared.record.Record.{Record}
@@ -18,14 +19,16 @@ HasExclude records group = Any (IsFor group kind.Exclude) records
 
 -- the source is in the union of the INCLUDE lists for the group
 abbrev pub InSomeInclude : List Record → ℕ → ℕ → Type 0
-InSomeInclude records group source = Any (λ r. IsFor group kind.Include r × Contains r.sources source) records
+InSomeInclude records group source = Any (λ r. IsFor group kind.Include r
+    × Contains r.sources source) records
 
 -- the source is in the intersection of the EXCLUDE lists for the group
 abbrev pub InEachExclude : List Record → ℕ → ℕ → Type 0
-InEachExclude records group source = All (λ r. IsFor group kind.Exclude r → Contains r.sources source) records
+InEachExclude records group source = All (λ r. IsFor group kind.Exclude r
+    → Contains r.sources source) records
 
--- EXCLUDE of the intersection of the EXCLUDE lists less all INCLUDE lists, if there is an EXCLUDE record. Else
--- INCLUDE of the union of the INCLUDE lists.
+-- EXCLUDE of the intersection of the EXCLUDE lists less all INCLUDE lists, if there is an EXCLUDE
+-- record. Else INCLUDE of the union of the INCLUDE lists.
 abbrev pub IsMergedIn : Mode → List ℕ → List Record → ℕ → Type 0
 IsMergedIn Exclude sources records group =
     HasExclude records group

@@ -15,8 +15,8 @@ pub record SourceFilter : Type 0 where
 abbrev pub include_nothing : SourceFilter
 include_nothing = record { mode = Include; sources = [] }
 
--- A filter of this mode with this list admits a source. INCLUDE admits the sources in the list, and EXCLUDE
--- admits all others.
+-- A filter of this mode with this list admits a source. INCLUDE admits the sources in the list, and
+-- EXCLUDE admits all others.
 abbrev pub AdmitsIn : Mode → List ℕ → ℕ → Type 0
 AdmitsIn Include sources source = Contains sources source
 AdmitsIn Exclude sources source = ¬ (Contains sources source)
@@ -31,7 +31,8 @@ TellsNoFilter kind.Exclude = ⊥
 TellsNoFilter (kind.Change type) = Unit {0}
 TellsNoFilter (kind.Unknown type) = Unit {0}
 
--- The same as a test: whether a filter of this mode admits a source, by whether its list has the source.
+-- The same as a test: whether a filter of this mode admits a source, by whether its list has the
+-- source.
 abbrev pub admits_by : Mode → Bool → Bool
 admits_by Include listed = listed
 admits_by Exclude listed = not listed

@@ -21,7 +21,8 @@ pub(crate) fn append(addresses: &mut Vec<Addr>, sources: &Sources<'_>) -> Result
 /// Puts addresses in ascending order, each once.
 pub(crate) fn make_ascending(addresses: &mut Vec<Addr>)
     ensures ascending { IsStrictlyIncreasing addresses.new.items }
-    ensures same { (address : ℕ) → has addresses.new.items address ≡ has addresses.old.items address }
+    ensures same { (address : ℕ)
+        → has addresses.new.items address ≡ has addresses.old.items address }
 {
     addresses.sort_unstable();
     addresses.dedup();

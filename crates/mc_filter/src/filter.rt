@@ -5,7 +5,8 @@ ghost use Rattle.std.specs.List.Sorted.{IsStrictlyIncreasing};
 ghost use Rattle.mc_igmp.specs.declared.record.Kind.TheVariants as kind;
 ghost use Rattle.mc_igmp.specs.Wants.{Admits};
 ghost use Rattle.mc_filter.specs.Addresses.{has};
-ghost use Rattle.mc_filter.specs.SourceFilter.{FilterAdmits, TellsNoFilter, include_nothing, admits, admits_by};
+ghost use Rattle.mc_filter.specs.SourceFilter.{FilterAdmits, TellsNoFilter, include_nothing};
+ghost use Rattle.mc_filter.specs.SourceFilter.{admits, admits_by};
 
 use crate::addresses::{append, is_listed, keep_common, make_ascending, take_away};
 use mc_igmp::{Kind, Record};
@@ -22,7 +23,8 @@ pub enum Mode {
     Exclude,
 }
 
-/// A mode and a list of sources, which is ascending and has none twice. Its value in contracts is the two.
+/// A mode and a list of sources, which is ascending and has none twice. Its value in contracts is
+/// the two.
 #[derive(Debug, Drop)]
 pub struct Filter {
     mode: Mode,
@@ -51,14 +53,17 @@ impl Filter {
         }
     }
 
-    /// Merges in what a record tells (RFC 3376, section 3.2): afterwards the filter admits what it did
-    /// before and what the record admits. A record of another type than 1 and 2 changes nothing.
+    /// Merges in what a record tells (RFC 3376, section 3.2): afterwards the filter admits what it
+    /// did before and what the record admits. A record of another type than 1 and 2 changes
+    /// nothing.
     pub fn merge(&mut self, group_record: &Record<'_>) -> Result<(), Memory>
         ensures admits { OnOk result ((source : ℕ) →
-            FilterAdmits self.new source ↔ (FilterAdmits self.old source ⊎ Admits group_record.now source)) }
+            FilterAdmits self.new source
+            ↔ (FilterAdmits self.old source ⊎ Admits group_record.now source)) }
         ensures mode { OnOk result ((self.new.mode ≡ Mode.Exclude) ↔
             ((self.old.mode ≡ Mode.Exclude) ⊎ (group_record.now.kind ≡ kind.Exclude))) }
-        ensures other_types { TellsNoFilter group_record.now.kind → IsOk result × (self.new ≡ self.old) }
+        ensures other_types { TellsNoFilter group_record.now.kind
+            → IsOk result × (self.new ≡ self.old) }
         ensures err { OnErr result (self.new ≡ self.old) }
         ensures ascending { IsStrictlyIncreasing self.new.sources }
     {
@@ -76,7 +81,8 @@ impl Filter {
     /// Merges in a filter of this mode with these sources, in whatever order they stand.
     pub(crate) fn merge_list(&mut self, mode: Mode, mut listed: Vec<Addr>) -> Result<(), Memory>
         ensures admits { OnOk result ((source : ℕ) →
-            admits self.new source ≡ (admits self.old source || admits_by mode (has listed.items source))) }
+            admits self.new source
+            ≡ (admits self.old source || admits_by mode (has listed.items source))) }
         ensures mode { OnOk result ((self.new.mode ≡ Mode.Exclude) ↔
             ((self.old.mode ≡ Mode.Exclude) ⊎ (mode ≡ Mode.Exclude))) }
         ensures err { OnErr result (self.new ≡ self.old) }

@@ -11,8 +11,8 @@ use mc_igmp::{Kind, Record};
 use mc_text::{Addr, Memory};
 use std::alloc::Global;
 
-/// What records for one group tell. An EXCLUDE list shrinks what is merged, but INCLUDE lists grow: they
-/// are merged as one at the end, so that no pass goes over the sources of all earlier records.
+/// What records for one group tell. An EXCLUDE list shrinks what is merged, but INCLUDE lists grow:
+/// they are merged as one at the end, so that no pass goes over the sources of all earlier records.
 #[derive(Debug, Drop)]
 pub(crate) struct Gathered {
     /// What all records but those of INCLUDE lists merge to.

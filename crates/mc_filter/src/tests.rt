@@ -7,7 +7,8 @@ use std::alloc::{AllocError, Global};
 use std::fmt::Write;
 use std::test::Fail;
 
-// Reports of one record for 239.1.2.3, as lines of a list. A, B and C are 10.0.0.1, 10.0.0.2 and 10.0.0.3.
+// Reports of one record for 239.1.2.3, as lines of a list. A, B and C are 10.0.0.1, 10.0.0.2 and
+// 10.0.0.3.
 const INCLUDE_A: &str = "2200e1f70000000101000001ef0102030a000001\n";
 
 const INCLUDE_B: &str = "2200e1f60000000101000001ef0102030a000002\n";
@@ -130,7 +131,8 @@ fn wants_of_lists(rt: HostRuntime) -> Result<(), Fail> {
         ("2200e5f90000000107000000ef010203\n", "not wanted"),
         ("1164ee9b00000000\n", "not wanted"),
         ("1700f7faef010203\n", "not wanted"),
-        // Reports of version 2 and of version 1, one with a byte more, one for another group, a wrong one.
+        // Reports of version 2 and of version 1, one with a byte more, one for another group, a
+        // wrong one.
         ("1600f8faef010203\n", "wanted"),
         ("1200fcfaef010203\n", "wanted"),
         ("1600f7faef01020301\n", "wanted"),
@@ -160,7 +162,8 @@ fn wants_of_one_group(rt: HostRuntime) -> Result<(), Fail> {
     Ok(())
 }
 
-// Reports of three hosts, as a Linux kernel sent them, for two groups. Of a third one nothing is told.
+// Reports of three hosts, as a Linux kernel sent them, for two groups. Of a third one nothing is
+// told.
 #[test]
 fn wants_of_several_groups(rt: HostRuntime) -> Result<(), Fail> {
     let alloc = rt.alloc();

@@ -1,6 +1,7 @@
 //! What the hosts of a LAN want of a group.
 
-ghost use Rattle.std.specs.Prelude.{◌≡◌, ◌↔◌, ◌<◌, ℕ, IfOk, List, [], Some, length, slice_get, slice_index, vec_len};
+ghost use Rattle.std.specs.Prelude.{◌≡◌, ◌↔◌, ◌<◌, ℕ, IfOk, List, [], Some, length, slice_get};
+ghost use Rattle.std.specs.Prelude.{slice_index, vec_len};
 ghost use Rattle.std.specs.List.Sorted.{IsStrictlyIncreasing};
 ghost use Rattle.mc_igmp.specs.declared.record.Record.{Record};
 ghost use Rattle.mc_igmp.specs.Wants.{Wants};
@@ -14,8 +15,8 @@ use mc_igmp::ReportList;
 use mc_text::{Addr, Memory};
 use std::alloc::Global;
 
-/// The filter that all records for a group merge to (RFC 3376, section 3.2). It admits a source exactly if
-/// one of them does.
+/// The filter that all records for a group merge to (RFC 3376, section 3.2). It admits a source
+/// exactly if one of them does.
 #[tactic(auto, using(crate::proofs::MergedLemmas::merged_admits_wanted))]
 pub fn wants_of(alloc: Global, reports: &ReportList, group: Addr) -> Result<Filter, Memory>
     ensures merged { IfOk result (IsMergedValue reports.now group) }
@@ -31,8 +32,8 @@ pub fn wants_of(alloc: Global, reports: &ReportList, group: Addr) -> Result<Filt
     gathered.into_filter()
 }
 
-/// The filters that all records for each group merge to, in the order of the groups, which ascend. The
-/// list is walked over once.
+/// The filters that all records for each group merge to, in the order of the groups, which ascend.
+/// The list is walked over once.
 pub fn wants_of_groups(
     alloc: Global,
     reports: &ReportList,

@@ -3,7 +3,8 @@
 ghost use Rattle.std.specs.Prelude.{◌≡◌, ◌≢◌, ◌↔◌, ◌<◌, ◌≤◌, ◌++◌, ◌∷◌, [], ℕ, Bool, List, None};
 ghost use Rattle.std.specs.Prelude.{length};
 ghost use Rattle.mc_theory.specs.Nets.{Net, placed_vifs};
-ghost use Rattle.mc_theory.specs.Flights.{Flight, Pick, EveryRun, InRange, happens, place_of, run, start};
+ghost use Rattle.mc_theory.specs.Flights.{Flight, Pick, EveryRun, InRange, happens, place_of, run};
+ghost use Rattle.mc_theory.specs.Flights.{start};
 ghost use Rattle.mc_theory.specs.Certificates.{Entry, IsTree, IsAccepted, IsRight};
 ghost use Rattle.mc_theory.specs.Certificates.{IsSafe, IsDeliveredWhole};
 ghost use Rattle.mc_theory.specs.Headline.{HeadlineHolds};
@@ -15,11 +16,12 @@ ghost use Rattle.mc_forward.specs.Domains.{DomainValue, IsDomain, net_of, ttl_of
 
 use crate::laws::domains_are_nets;
 
-/// Under all conditions of a certificate but the last, every run of a flow's packet, complete or not, is
-/// safe: no LAN carries two copies, none strays, each copy is as its LAN's entry says, and the copies and
-/// the steps are bounded.
+/// Under all conditions of a certificate but the last, every run of a flow's packet, complete or
+/// not, is safe: no LAN carries two copies, none strays, each copy is as its LAN's entry says, and
+/// the copies and the steps are bounded.
 pub fn every_run_of_a_flow_is_safe()
-    ensures { (d : DomainValue) (flow : ℕ) (es : List Entry) → IsDomain d → IsTree (net_of d flow) es →
+    ensures { (d : DomainValue) (flow : ℕ) (es : List Entry) → IsDomain d
+        → IsTree (net_of d flow) es →
         EveryRun (net_of d flow) 1 (IsSafe (net_of d flow) es) }
 {
     domains_are_nets();
@@ -28,7 +30,8 @@ pub fn every_run_of_a_flow_is_safe()
 
 /// A complete run without loss carries exactly the named LANs whose need the packet's TTL meets.
 pub fn every_complete_run_of_a_flow_delivers()
-    ensures { (d : DomainValue) (flow : ℕ) (es : List Entry) → IsDomain d → IsTree (net_of d flow) es →
+    ensures { (d : DomainValue) (flow : ℕ) (es : List Entry) → IsDomain d
+        → IsTree (net_of d flow) es →
         EveryRun (net_of d flow) 1 (IsDeliveredWhole es) }
 {
     domains_are_nets();
@@ -64,12 +67,13 @@ pub fn no_reason_accepts_the_list()
     mc_theory::no_reason_is_acceptance();
 }
 
-/// Another finding than `Clean`, of a travel at a TTL from the flow's to 255, shows that the flow is not
-/// right.
+/// Another finding than `Clean`, of a travel at a TTL from the flow's to 255, shows that the flow
+/// is not right.
 pub fn a_finding_shows_that_a_flow_is_wrong()
     ensures { (d : DomainValue) (flow t : ℕ) (numbers : List ℕ) (last : Bool) (is : List ℕ)
         (x : Finding) → IsDomain d → ttl_of d flow ≤ t → t ≤ 255 →
-        IsTravel (net_of d flow) (length d.topology.lans) numbers last is (start (net_of d flow) t) x →
+        IsTravel (net_of d flow) (length d.topology.lans) numbers last is (start (net_of d flow) t)
+        x →
         x ≢ Clean → ¬ IsRight (net_of d flow) }
 {
     domains_are_nets();
@@ -80,15 +84,16 @@ pub fn a_finding_shows_that_a_flow_is_wrong()
 pub fn a_travel_through_a_domain_ends()
     ensures { (d : DomainValue) (flow t : ℕ) (numbers : List ℕ) (last : Bool) (is : List ℕ)
         (x : Finding) → IsDomain d →
-        IsTravel (net_of d flow) (length d.topology.lans) numbers last is (start (net_of d flow) t) x →
+        IsTravel (net_of d flow) (length d.topology.lans) numbers last is (start (net_of d flow) t)
+        x →
         length is ≤ length (placed_vifs (net_of d flow)) }
 {
     domains_are_nets();
     mc_theory::a_travel_ends();
 }
 
-/// Two clean travels, one at TTL 255 and one at the flow's, certify it by the entries that the first
-/// makes.
+/// Two clean travels, one at TTL 255 and one at the flow's, certify it by the entries that the
+/// first makes.
 pub fn clean_travels_certify_a_flow()
     ensures { (d : DomainValue) (flow : ℕ)
         (numbers : List ℕ) (last : Bool) (is : List ℕ)
@@ -105,8 +110,8 @@ pub fn clean_travels_certify_a_flow()
     mc_theory::clean_travels_certify();
 }
 
-/// A run with one pick more is the run, and then what this pick makes happen; the picks are in range if
-/// those before are, and a copy waits at the last one's place.
+/// A run with one pick more is the run, and then what this pick makes happen; the picks are in
+/// range if those before are, and a copy waits at the last one's place.
 pub fn a_run_goes_on_by_a_pick()
     ensures flight { (n : Net) (ps : List Pick) (p : Pick) (f : Flight) →
         run n (ps ++ p ∷ []) f ≡ happens n p (run n ps f) }

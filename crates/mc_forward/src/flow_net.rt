@@ -32,7 +32,10 @@ impl<'d> Model for FlowNet<'d> {
 
     ghost view = { λ n. record { domain = n.domain.now; flow = n.flow } };
 
-    ghost invariant = { λ n. IsKept (record { domain = n.domain.now; flow = n.flow }) n.rows.items };
+    ghost invariant = { λ n. IsKept (record {
+      domain = n.domain.now;
+      flow = n.flow;
+    }) n.rows.items };
 }
 
 /// No row yet, for so many routers.

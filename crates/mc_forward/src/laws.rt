@@ -4,7 +4,8 @@ ghost use Rattle.std.specs.Prelude.{◌≡◌, ◌<◌, ◌≤◌, ℕ, List, le
 ghost use Rattle.std.specs.List.Sorted.{IsStrictlyIncreasing};
 ghost use Rattle.mc_theory.specs.Nets.{IsNet, WantsBelow};
 ghost use Rattle.mc_theory.specs.Nets.Row.{Exact};
-ghost use Rattle.mc_forward.specs.Domains.{DomainValue, IsDomain, net_of, row_of, source_of, ttl_of};
+ghost use Rattle.mc_forward.specs.Domains.{DomainValue, IsDomain, net_of, row_of, source_of};
+ghost use Rattle.mc_forward.specs.Domains.{ttl_of};
 
 /// What every domain keeps is what the theorems about a flow rest on: its net is one, wanting LANs
 /// are LANs of the topology, its source is on one, and its packets have a time to live of 1 to 255.

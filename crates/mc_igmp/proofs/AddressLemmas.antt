@@ -1,9 +1,8 @@
 -- Addresses as bytes and back.
 use Rattle.std.proofs.Common.{◌≡◌, ℕ, zero, suc, ◌+◌, ◌*◌, ◌<◌, ◌≤◌, List, [], ◌∷◌, ◌++◌, length}
-use Rattle.std.proofs.Common.{get_or, take, drop, refl, ap, arith, inl, inr}
+use Rattle.std.proofs.Common.{get_or, take, drop, refl, ap, arith}
 use Rattle.std.specs.Int.{w32, from_be_bytes}
 use Rattle.std.specs.List.{flat_map, AllByRecursion}
-use Rattle.std.proofs.lemmas.Bool.{cases_lt}
 use Rattle.std.proofs.lemmas.List.{length-take, get_or-drop, get_or-take, get_or_past}
 use Rattle.std.proofs.lemmas.Nat.{from_be_bytes-to_be_bytes_4}
 use Rattle.mc_text.specs.Addr.{IsAddr, octets_of}
@@ -17,11 +16,8 @@ IsBytes bytes = (i : ℕ) → get_or bytes i 0 < 256
 pub IsBytes-drop : (n : ℕ) (bytes : List ℕ) → IsBytes bytes → IsBytes (drop n bytes)
 IsBytes-drop n bytes h i = rw get_or-drop (h (n + i))
 
-pub IsBytes-take : (n : ℕ) (bytes : List ℕ) → IsBytes bytes → IsBytes (take n bytes)
-IsBytes-take n bytes h i = elim (cases_lt i n) [
-  | inl lt ↦ rw (get_or-take n bytes i 0 lt) (h i)
-  | inr le ↦ rw (get_or_past (take n bytes) i 0 (omega (arith, length-take n bytes))) (omega arith)
-]
+pub IsBytes-part : (m n : ℕ) (bytes : List ℕ) → IsBytes bytes → IsBytes (take m (drop n bytes))
+IsBytes-part m n bytes h i = grind (arith, get_or-take, get_or_past, get_or-drop, length-take)
 
 -- the first address is in the first four bytes
 pub addresses_in-first : (s : List ℕ) → 4 ≤ length s → addresses_in s
@@ -48,7 +44,7 @@ unfolding addresses_in
 addresses_in-whole zero [] fits len = record { spelled = refl; count = refl; fit = tt }
 addresses_in-whole (suc n) (a ∷ b ∷ c ∷ d ∷ rest) fits len =
     let four = a ∷ b ∷ c ∷ d ∷ [] in
-    let front : IsBytes four = IsBytes-take 4 (a ∷ b ∷ c ∷ d ∷ rest) fits in
+    let front : IsBytes four = IsBytes-part 4 0 (a ∷ b ∷ c ∷ d ∷ rest) fits in
     let rest_fits = IsBytes-drop 4 (a ∷ b ∷ c ∷ d ∷ rest) fits in
     let others = addresses_in-whole n rest rest_fits (omega arith) in
     record {

@@ -1,5 +1,5 @@
--- A text, or the files of a folder, stand for one input at most, and what is packed of the files for the
--- same.
+-- A text, or the files of a folder, stand for one input at most, and what is packed of the files
+-- for the same.
 use Rattle.std.specs.Prelude.{◌≡◌, ℕ, false, List, [], ◌∷◌, Option, is_some, None, Some, Ok, refl}
 use Rattle.std.proofs.Common.{ap, ◌∙◌, sym, subst}
 use Rattle.mc_text.specs.Bundle.{PartText, IsBundle}

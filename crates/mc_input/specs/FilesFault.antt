@@ -1,4 +1,5 @@
--- Why a folder's files tell no domain, and what a call does to the number of the source's calls that failed.
+-- Why a folder's files tell no domain, and what a call does to the number of the source's calls
+-- that failed.
 use Rattle.std.specs.Prelude.{◌≡◌, ◌≢◌, ℕ, ◌+◌, List, Option, Some, Result, Ok, Err}
 use Rattle.mc_files.specs.Files.{FileText}
 use Rattle.mc_files.specs.declared.fault.FileFault.{FileFault}

@@ -6,8 +6,8 @@ use Rattle.mc_files.specs.Files.{FileText}
 use Rattle.mc_files.specs.Packing.{ArePacked, topology_packed, others_packed}
 use Rattle.mc_input.specs.Input.{InputValue, PartsStand}
 
--- The parts that are packed of the files without a certificate, none past the limit of a part, stand for the
--- input.
+-- The parts that are packed of the files without a certificate, none past the limit of a part,
+-- stand for the input.
 pub record FilesStand (files : List FileText) (input : InputValue) : Type 0 where
   pub parts : List PartText
   pub packed : ArePacked files (topology_packed ∷ others_packed false input.topology) parts

@@ -1,6 +1,8 @@
--- What a folder's files are read as, or why they are refused. Each file is judged before the next one is asked
--- for: the topology first, then the tables of each router and the reports of each LAN in the topology's order.
-use Rattle.std.specs.Prelude.{ℕ, nat_le, List, [], ◌∷◌, ◌++◌, codes, length, Option, Some, None, Result, Ok, Err, if◌then◌else◌}
+-- What a folder's files are read as, or why they are refused. Each file is judged before the next
+-- one is asked for: the topology first, then the tables of each router and the reports of each LAN
+-- in the topology's order.
+use Rattle.std.specs.Prelude.{ℕ, nat_le, List, [], ◌∷◌, ◌++◌, codes, length, Option, Some, None}
+use Rattle.std.specs.Prelude.{Result, Ok, Err, if◌then◌else◌}
 use Rattle.mc_text.specs.Steps.{◌>>=◌}
 use Rattle.mc_text.specs.Bundle.{PartText, max_part}
 use Rattle.mc_text.specs.declared.addr.Order.{Order}
@@ -39,7 +41,8 @@ part_bytes (Some bytes) = if nat_le (length bytes) max_part then Ok bytes else E
 -- the part that is packed of a file
 abbrev pub part_of : PackedName → List FileText → Result PartText FilesFault
 part_of name files =
-    part_bytes (file_named files name.file) >>= λ bytes. Ok (record { name = name.part; bytes = bytes })
+    part_bytes (file_named files name.file)
+    >>= λ bytes. Ok (record { name = name.part; bytes = bytes })
 
 -- what a part tells, with its fault as that of the files
 abbrev pub judged : {A : Type 0} → Result A InputFault → Result A FilesFault
@@ -55,7 +58,8 @@ topology_of files =
     >>= λ part. judged (refused_as Topology (reading_of part.bytes))
 
 -- the vifs of a router
-abbrev pub router_vifs : (router : List ℕ) → List FileText → Result (FinMap nat_cmp VifText) FilesFault
+abbrev pub router_vifs : (router : List ℕ) → List FileText
+    → Result (FinMap nat_cmp VifText) FilesFault
 router_vifs router files =
     part_of (packed_of (codes "vif") router) files >>= λ part. judged (vifs_of part)
 
@@ -65,7 +69,8 @@ router_cache router order files =
     part_of (packed_of (codes "cache") router) files >>= λ part. judged (cache_of order part)
 
 -- the tables of a router
-unfoldable pub router_tables : (router : List ℕ) → Order → List FileText → Result TablesValue FilesFault
+unfoldable pub router_tables : (router : List ℕ) → Order → List FileText
+    → Result TablesValue FilesFault
 router_tables router order files =
     router_vifs router files
     >>= λ vifs. router_cache router order files

@@ -1,5 +1,5 @@
--- What a bundle stands for: a topology, the tables of each router, the reports of each LAN, and the text of
--- the certificate where one is to be there.
+-- What a bundle stands for: a topology, the tables of each router, the reports of each LAN, and the
+-- text of the certificate where one is to be there.
 use Rattle.std.specs.Prelude.{◌≡◌, ℕ, List, [], ◌∷◌, Option, Some, None}
 use Rattle.mc_text.specs.Bundle.{PartText, IsBundle}
 use Rattle.mc_tables.specs.VifTable.{StandsForVifs}
@@ -10,17 +10,18 @@ use Rattle.mc_topology.specs.Rows.{RouterRow}
 use Rattle.mc_topology.specs.Topology.{TopologyValue}
 use Rattle.mc_topology.specs.Stands.{TopologyStands}
 use Rattle.mc_forward.specs.Domains.{TablesValue}
-use Rattle.mc_input.specs.Names.{topology_name, certificate_name, vif_name, cache_name, reports_name}
+use Rattle.mc_input.specs.Names.{topology_name, certificate_name, vif_name, cache_name}
+use Rattle.mc_input.specs.Names.{reports_name}
 
--- the topology, the tables of each router in the topology's order, and the records of the reports of each
--- LAN in the topology's order
+-- the topology, the tables of each router in the topology's order, and the records of the reports
+-- of each LAN in the topology's order
 pub record InputValue : Type 0 where
   pub topology : TopologyValue
   pub tables : List TablesValue
   pub reports : List (List Record)
 
--- The parts `vif/<router>` and `cache/<router>` stand for the router's tables, its addresses in the byte order
--- of the router.
+-- The parts `vif/<router>` and `cache/<router>` stand for the router's tables, its addresses in the
+-- byte order of the router.
 pub record TellsTables (r : RouterRow) (vif cache : PartText) (t : TablesValue) : Type 0 where
   pub vif_named : vif.name ≡ vif_name r.name
   pub vifs : StandsForVifs vif.bytes t.vifs
@@ -66,7 +67,8 @@ pub record PartsStand (parts : List PartText) (input : InputValue)
   pub certificate_told : TellCertificate last certificate
 
 -- a bundle of such parts
-pub record InputStands (text : List ℕ) (input : InputValue) (certificate : Option (List ℕ)) : Type 0 where
-  pub parts : List PartText
-  pub bundle : IsBundle text parts
-  pub stand : PartsStand parts input certificate
+pub record InputStands (text : List ℕ) (input : InputValue) (certificate : Option (List ℕ)) : Type 0
+  where
+    pub parts : List PartText
+    pub bundle : IsBundle text parts
+    pub stand : PartsStand parts input certificate

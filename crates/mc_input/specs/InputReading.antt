@@ -1,6 +1,8 @@
--- What a bundle is read as, or why it is refused. The bundle's framing is judged first, then the name of the
--- first part, the topology, the names and the number of the other parts, and their contents in their order.
-use Rattle.std.specs.Prelude.{◌≡◌, ◌≢◌, ℕ, ◌+◌, Bool, true, false, List, [], ◌∷◌, length, slice_get, ◌==◌, unwrap_or, Option, Some, None, Result, Ok, Err, if◌then◌else◌}
+-- What a bundle is read as, or why it is refused. The bundle's framing is judged first, then the
+-- name of the first part, the topology, the names and the number of the other parts, and their
+-- contents in their order.
+use Rattle.std.specs.Prelude.{◌≡◌, ◌≢◌, ℕ, ◌+◌, Bool, true, false, List, [], ◌∷◌, length, slice_get}
+use Rattle.std.specs.Prelude.{◌==◌, unwrap_or, Option, Some, None, Result, Ok, Err, if◌then◌else◌}
 use Rattle.std.specs.Str.{bytes_eq}
 use Rattle.mc_text.specs.Steps.{◌>>=◌}
 use Rattle.mc_text.specs.Bundle.{PartText}
@@ -17,11 +19,13 @@ use Rattle.mc_igmp.specs.ReadingList.{read_list}
 use Rattle.mc_topology.specs.Rows.{RouterRow}
 use Rattle.mc_topology.specs.Reading.{reading_of}
 use Rattle.mc_topology.specs.Topology.{TopologyValue}
-use Rattle.mc_input.specs.Names.{topology_name, certificate_name, vif_name, cache_name, reports_name}
+use Rattle.mc_input.specs.Names.{topology_name, certificate_name, vif_name, cache_name}
+use Rattle.mc_input.specs.Names.{reports_name}
 use Rattle.mc_forward.specs.Domains.{TablesValue}
 use Rattle.mc_input.specs.Input.{InputValue}
 use Rattle.mc_input.specs.declared.fault.InputFault.{InputFault}
-use Rattle.mc_input.specs.declared.fault.InputFault.TheVariants.{Bundle, Parts, Topology, Vif, Cache, Reports, Memory}
+use Rattle.mc_input.specs.declared.fault.InputFault.TheVariants.{Bundle, Parts, Topology, Vif}
+use Rattle.mc_input.specs.declared.fault.InputFault.TheVariants.{Cache, Reports, Memory}
 
 -- the fault of what is read, as the input's
 abbrev pub refused_as : {A E : Type 0} → (E → InputFault) → Result A E → Result A InputFault
@@ -107,7 +111,8 @@ tables_of order vif cache =
     Ok (record { vifs = vifs; cache = entries })
 
 -- the tables of routers, whose parts begin at a place
-unfoldable pub tables_from : List PartText → ℕ → List RouterRow → Result (List TablesValue) InputFault
+unfoldable pub tables_from : List PartText → ℕ → List RouterRow
+    → Result (List TablesValue) InputFault
 tables_from parts place [] = Ok []
 tables_from parts place (r ∷ rs) =
     tables_of r.order (part_at parts place) (part_at parts (place + 1))
@@ -119,7 +124,8 @@ abbrev pub reports_of : PartText → Result (List Record) InputFault
 reports_of part = refused_as (Reports part.name) (read_list part.bytes)
 
 -- the records of the reports of LANs, whose parts begin at a place
-unfoldable pub reports_from : List PartText → ℕ → List (List ℕ) → Result (List (List Record)) InputFault
+unfoldable pub reports_from : List PartText → ℕ → List (List ℕ)
+    → Result (List (List Record)) InputFault
 reports_from parts place [] = Ok []
 reports_from parts place (lan ∷ lans) =
     reports_of (part_at parts place)

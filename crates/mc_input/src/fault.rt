@@ -14,8 +14,8 @@ use std::alloc::AllocFailed;
 pub enum InputFault {
     /// (1) The framing of the bundle is wrong.
     Bundle(BundleFault),
-    /// (2) A part at this place, counted from 1, has another name than it should, is missing, or is one
-    /// too many.
+    /// (2) A part at this place, counted from 1, has another name than it should, is missing, or is
+    /// one too many.
     Parts(u32),
     /// (3) The topology is refused.
     Topology(TopologyFault),

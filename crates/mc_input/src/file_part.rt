@@ -5,7 +5,9 @@ ghost use Rattle.mc_text.specs.Bundle.{IsPartName};
 ghost use Rattle.mc_text.specs.PartView.{part_text};
 ghost use Rattle.mc_topology.specs.Names.{is_name};
 ghost use Rattle.mc_input.specs.FilesFault.{GivesOf, failed_files};
-ghost use Rattle.mc_input.specs.FilesReading.{lan_reports, packed_of, part_of as part_of_files, router_cache, router_vifs, topology_of as topology_of_files};
+ghost use Rattle.mc_input.specs.FilesReading.{lan_reports, packed_of, part_of as part_of_files};
+ghost use Rattle.mc_input.specs.FilesReading.{router_cache, router_vifs};
+ghost use Rattle.mc_input.specs.FilesReading.{topology_of as topology_of_files};
 
 use crate::files_fault::FilesFault;
 use crate::input::topology_of;
@@ -134,7 +136,8 @@ pub(crate) fn cache_in<F: FileSource>(
     requires reads { F.failed files.old < u64.MAX }
     ensures same { F.names files.new ≡ F.names files.old }
     ensures kept { F.told files.new ≡ F.told files.old }
-    ensures cache { GivesOf (F.told files.old) (λ cache. cache) result (router_cache router.now order) }
+    ensures cache { GivesOf (F.told files.old) (λ cache. cache) result
+        (router_cache router.now order) }
     ensures failures { F.failed files.new ≡ failed_files result (F.failed files.old) }
 {
     let part = part_named(alloc, files, "cache", router)?;

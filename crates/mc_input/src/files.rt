@@ -1,5 +1,5 @@
-//! What a folder's files tell of a domain. The files are read one after another: each is judged before the next
-//! one is asked for, and its text is let go.
+//! What a folder's files tell of a domain. The files are read one after another: each is judged
+//! before the next one is asked for, and its text is let go.
 
 ghost use Rattle.std.specs.Prelude.{◌≡◌, ◌<◌, List, IsTrue, Some, IfOk, IfSome, Ok};
 ghost use Rattle.mc_files.specs.Files.{FileText};
@@ -19,8 +19,8 @@ use mc_text::Order;
 use mc_topology::{LanNo, RouterNo, Topology};
 use std::alloc::Global;
 
-/// What a folder's files tell: the topology, and in its order the tables of each router and the report list of
-/// each LAN.
+/// What a folder's files tell: the topology, and in its order the tables of each router and the
+/// report list of each LAN.
 #[derive(Debug, Drop)]
 pub struct FilesInput {
     /// The topology.
@@ -95,15 +95,15 @@ fn reports_of_lans<F: FileSource>(
     Ok(reports)
 }
 
-/// Reads what a folder's files tell of a domain: `topology`, `vif-<router>` and `cache-<router>` for each
-/// router, and `igmp-<lan>` for each LAN, each in the order of the topology. Each file may have 16,777,216
-/// bytes, and is judged before the next one is asked for. The count of the source's failures has to be below
-/// `u64::MAX`.
+/// Reads what a folder's files tell of a domain: `topology`, `vif-<router>` and `cache-<router>`
+/// for each router, and `igmp-<lan>` for each LAN, each in the order of the topology. Each file may
+/// have 16,777,216 bytes, and is judged before the next one is asked for. The count of the source's
+/// failures has to be below `u64::MAX`.
 ///
 /// # Errors
 ///
-/// The first fault in this order: `Read` where a file isn't there or can't be read, `TooLarge` where it has too
-/// many bytes, and `Input` with what is wrong in it. Or `Input` with `Memory`.
+/// The first fault in this order: `Read` where a file isn't there or can't be read, `TooLarge`
+/// where it has too many bytes, and `Input` with what is wrong in it. Or `Input` with `Memory`.
 pub fn read_files<F: FileSource>(alloc: Global, files: &mut F) -> Result<FilesInput, FilesFault>
     requires reads { F.failed files.old < u64.MAX }
     ensures same { F.names files.new ≡ F.names files.old }

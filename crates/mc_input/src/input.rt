@@ -2,9 +2,12 @@
 
 ghost use Rattle.std.specs.Prelude.{◌≡◌, ℕ, Bool, List, Option, is_some, IfOk, Ok};
 ghost use Rattle.mc_input.specs.Input.{InputValue, InputStands};
-ghost use Rattle.mc_input.specs.InputReading.{Gives, certificate_in, input_in as input_in_parts, input_of, refused_as, topology_in as topology_in_parts};
+ghost use Rattle.mc_input.specs.InputReading.{Gives, certificate_in, input_in as input_in_parts};
+ghost use Rattle.mc_input.specs.InputReading.{input_of, refused_as};
+ghost use Rattle.mc_input.specs.InputReading.{topology_in as topology_in_parts};
 ghost use Rattle.mc_input.specs.InputView.{certificate_seen, input_seen, input_value};
-ghost use Rattle.mc_input.specs.declared.fault.InputFault.TheVariants.{Bundle as bundle_fault, Topology as topology_fault};
+ghost use Rattle.mc_input.specs.declared.fault.InputFault.TheVariants.{Bundle as bundle_fault};
+ghost use Rattle.mc_input.specs.declared.fault.InputFault.TheVariants.{Topology as topology_fault};
 ghost use Rattle.mc_topology.specs.Reading.{reading_of};
 ghost use Rattle.mc_text.specs.BundleReading.{bundle_of as parts_of_text};
 
@@ -18,8 +21,8 @@ use mc_text::{Bundle, BundleFault};
 use mc_topology::{Topology, TopologyFault, TopologyFaultKind};
 use std::alloc::Global;
 
-/// What a bundle tells: the topology, and in its order the tables of each router and the report list of
-/// each LAN. Then the text of the certificate, where one was asked for.
+/// What a bundle tells: the topology, and in its order the tables of each router and the report
+/// list of each LAN. Then the text of the certificate, where one was asked for.
 #[derive(Debug, Drop)]
 pub struct BundleInput<'a> {
     /// The topology.
@@ -57,8 +60,8 @@ fn topology_in(alloc: Global, bundle: &Bundle<'_>) -> Result<Topology, InputFaul
     topology_of(alloc, bundle.part(0).bytes)
 }
 
-/// What the parts tell: first the topology, then the names and the number of the other parts, and then
-/// their contents.
+/// What the parts tell: first the topology, then the names and the number of the other parts, and
+/// then their contents.
 #[tactic(auto, unfolding(crate::specs::InputReading::input_in))]
 fn input_in<'a>(
     alloc: Global,
@@ -68,7 +71,8 @@ fn input_in<'a>(
     ensures input { Gives input_value result (input_in_parts certified bundle.now) }
     ensures certificate { IfOk result (λ input. certificate_seen input.certificate ≡
         certificate_in certified bundle.now input.topology) }
-    ensures certified { IfOk result (λ input. is_some (certificate_seen input.certificate) ≡ certified) }
+    ensures certified { IfOk result (λ input. is_some (certificate_seen input.certificate)
+        ≡ certified) }
 {
     let topology = topology_in(alloc, bundle)?;
     names_in(bundle, &topology, certified)?;
@@ -99,14 +103,15 @@ fn bundle_of(alloc: Global, text: &[u8]) -> Result<Bundle<'_>, InputFault>
     }
 }
 
-/// Reads what a bundle tells of a domain: the parts `topology`, `vif/<router>` and `cache/<router>` for each
-/// router, `igmp/<lan>` for each LAN, each in the order of the topology, and `certificate` where `certified`
-/// says that one is to be there.
+/// Reads what a bundle tells of a domain: the parts `topology`, `vif/<router>` and `cache/<router>`
+/// for each router, `igmp/<lan>` for each LAN, each in the order of the topology, and `certificate`
+/// where `certified` says that one is to be there.
 ///
 /// # Errors
 ///
-/// The framing of the whole bundle is judged first, then the name of the first part, the topology, the names
-/// and the number of the other parts, and then their contents in their order. Or `Memory`.
+/// The framing of the whole bundle is judged first, then the name of the first part, the topology,
+/// the names and the number of the other parts, and then their contents in their order. Or
+/// `Memory`.
 #[tactic(auto, unfolding(crate::specs::InputReading::input_of))]
 pub fn read_input<'a>(
     alloc: Global,
@@ -117,9 +122,11 @@ pub fn read_input<'a>(
     ensures found { IfOk result (λ input.
         InputStands text.now (input_value input) (certificate_seen input.certificate)) }
     // It has the text of a certificate exactly where one was asked for.
-    ensures certified { IfOk result (λ input. is_some (certificate_seen input.certificate) ≡ certified) }
+    ensures certified { IfOk result (λ input. is_some (certificate_seen input.certificate)
+        ≡ certified) }
     // A bundle that stands for an input is read as that, unless memory runs out.
-    ensures only { (value : InputValue) (certificate : Option (List ℕ)) → is_some certificate ≡ certified →
+    ensures only { (value : InputValue) (certificate : Option (List ℕ))
+        → is_some certificate ≡ certified →
         InputStands text.now value certificate → Gives input_seen result (Ok (value, certificate)) }
     // Which fault it is.
     ensures fault { Gives input_value result (input_of certified text.now) }

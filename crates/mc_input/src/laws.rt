@@ -7,12 +7,14 @@ ghost use Rattle.mc_files.specs.Packing.{IsPacked};
 ghost use Rattle.mc_input.specs.FilesInput.{FilesStand};
 ghost use Rattle.mc_input.specs.Input.{InputValue, InputStands};
 
-/// The text of a bundle stands for one input at most, and one text of a certificate, where each has one or
-/// neither has.
+/// The text of a bundle stands for one input at most, and one text of a certificate, where each has
+/// one or neither has.
 pub fn texts_stand_for_one_input()
-    ensures input { (text : List ℕ) (a b : InputValue) (c d : Option (List ℕ)) → is_some d ≡ is_some c
+    ensures input { (text : List ℕ) (a b : InputValue) (c d : Option (List ℕ))
+        → is_some d ≡ is_some c
         → InputStands text a c → InputStands text b d → a ≡ b }
-    ensures certificate { (text : List ℕ) (a b : InputValue) (c d : Option (List ℕ)) → is_some d ≡ is_some c
+    ensures certificate { (text : List ℕ) (a b : InputValue) (c d : Option (List ℕ))
+        → is_some d ≡ is_some c
         → InputStands text a c → InputStands text b d → c ≡ d }
 {}
 
@@ -22,7 +24,8 @@ pub fn files_stand_for_one_input()
         → a ≡ b }
 {}
 
-/// The bundle that is packed of files without a certificate stands for the input that the files stand for.
+/// The bundle that is packed of files without a certificate stands for the input that the files
+/// stand for.
 pub fn packed_files_stand_for_their_input()
     ensures { (files : List FileText) (parts : List PartText) (text : List ℕ) (v : InputValue)
         → FilesStand files v → IsPacked files false parts → IsBundle text parts

@@ -1,5 +1,5 @@
-//! What a run is handed: a domain's texts, as the parts of one bundle or as the files of a folder, each by its
-//! reader, in the one order in which they are judged.
+//! What a run is handed: a domain's texts, as the parts of one bundle or as the files of a folder,
+//! each by its reader, in the one order in which they are judged.
 #![tactic(auto)]
 
 mod fault;

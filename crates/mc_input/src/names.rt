@@ -2,7 +2,11 @@
 
 ghost use Rattle.std.specs.Prelude.{◌≡◌, ◌+◌, ◌*◌, ◌<◌, ◌++◌, ◌^◌, length, OnOk, if◌then◌else◌};
 ghost use Rattle.std.specs.Str.{bytes_eq};
-ghost use Rattle.mc_input.specs.InputReading.{named as part_named, routers_named as each_router_named, lans_named as each_lan_named, last_named as last_part_named, names_in as all_named, part_count};
+ghost use Rattle.mc_input.specs.InputReading.{named as part_named};
+ghost use Rattle.mc_input.specs.InputReading.{routers_named as each_router_named};
+ghost use Rattle.mc_input.specs.InputReading.{lans_named as each_lan_named};
+ghost use Rattle.mc_input.specs.InputReading.{last_named as last_part_named, names_in as all_named};
+ghost use Rattle.mc_input.specs.InputReading.{part_count};
 
 use crate::fault::InputFault;
 use mc_text::Bundle;
@@ -18,7 +22,8 @@ fn is_joined(bytes: &[u8], front: &[u8], rest: &[u8]) -> bool
     }
 }
 
-/// Looks whether the part at a place, counted from 0, has this name, whose front and rest are given.
+/// Looks whether the part at a place, counted from 0, has this name, whose front and rest are
+/// given.
 pub(crate) fn named(
     bundle: &Bundle<'_>,
     place: usize,

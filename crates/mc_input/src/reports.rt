@@ -2,7 +2,8 @@
 
 ghost use Rattle.std.specs.Prelude.{◌≡◌, ◌≤◌, length};
 ghost use Rattle.mc_text.specs.PartView.{part_text};
-ghost use Rattle.mc_input.specs.InputReading.{Gives, reports_of as reports_in_part, lans_place, last_place, reports_from};
+ghost use Rattle.mc_input.specs.InputReading.{Gives, reports_of as reports_in_part, lans_place};
+ghost use Rattle.mc_input.specs.InputReading.{last_place, reports_from};
 
 use crate::fault::InputFault;
 use mc_igmp::{ListFault, ListFaultKind, ReportList};

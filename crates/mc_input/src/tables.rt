@@ -2,7 +2,9 @@
 
 ghost use Rattle.std.specs.Prelude.{◌≡◌, ◌≤◌, length};
 ghost use Rattle.mc_text.specs.PartView.{part_text};
-ghost use Rattle.mc_input.specs.InputReading.{Gives, vifs_of, cache_of, tables_of as tables_in_parts, lans_place, tables_from};
+ghost use Rattle.mc_input.specs.InputReading.{Gives, vifs_of, cache_of};
+ghost use Rattle.mc_input.specs.InputReading.{tables_of as tables_in_parts, lans_place};
+ghost use Rattle.mc_input.specs.InputReading.{tables_from};
 
 use crate::fault::InputFault;
 use mc_forward::Tables;

@@ -1,5 +1,6 @@
 -- The entry of each LAN, by the LAN's number.
-use Rattle.std.specs.Prelude.{◌≡◌, ℕ, ◌-◌, Bool, false, not, ◌||◌, nat_le, List, [], ◌∷◌, Option, Some, None, slice_get}
+use Rattle.std.specs.Prelude.{◌≡◌, ℕ, ◌-◌, Bool, false, not, ◌||◌, nat_le, List, [], ◌∷◌, Option}
+use Rattle.std.specs.Prelude.{Some, None, slice_get}
 use Rattle.mc_theory.specs.Nets.{Net, Interface}
 use Rattle.mc_theory.specs.Flights.{Copy}
 use Rattle.mc_theory.specs.Certificates.{Entry}
@@ -26,11 +27,17 @@ held_entries (Some e ∷ places) = e ∷ held_entries places
 -- the need of a copy with this sender, after the entries that are held
 abbrev pub need_held : Net → List (Option Entry) → Option Interface → ℕ
 need_held n by_lan None = 1
-need_held n by_lan (Some i) = need_over (threshold_of i.1 (pairs_of (n.row i.0))) (entry_held by_lan (from_lan n (Some i)))
+need_held n by_lan (Some i) = need_over (threshold_of i.1 (pairs_of (n.row i.0)))
+    (entry_held by_lan (from_lan n (Some i)))
 
 -- a copy's entry, after those that are held
 abbrev pub entry_by : Net → List (Option Entry) → Copy → Entry
-entry_by n by_lan c = record { lan = c.lan; rank = 255 - c.ttl; need = need_held n by_lan c.sender; forwarder = c.sender }
+entry_by n by_lan c = record {
+  lan = c.lan;
+  rank = 255 - c.ttl;
+  need = need_held n by_lan c.sender;
+  forwarder = c.sender;
+}
 
 -- an entry with a need that all packets of the flow meet
 abbrev pub meets_need : Net → Option Entry → Bool

@@ -49,8 +49,8 @@ pub record IsTtlOfFault (d : DomainValue) (flow ttl : ℕ) : Type 0 where
   pub greatest : (t : Travel) → IsTravelOfFirst d flow 255 t → FindsFault t → ttl ≡ 255
   pub least : (t : Travel) → IsTravelOfFirst d flow 255 t → FindsNothing t → ttl ≡ ttl_of d flow
 
--- The entries are those of the copies that the travel at TTL 255 carried, in some order: each has its copy's LAN,
--- as its rank 255 less its copy's TTL, and its copy's sender as its forwarder.
+-- The entries are those of the copies that the travel at TTL 255 carried, in some order: each has
+-- its copy's LAN, as its rank 255 less its copy's TTL, and its copy's sender as its forwarder.
 pub record IsOfTravel (d : DomainValue) (flow : ℕ) (es : List Entry) : Type 0 where
   pub travel : Travel
   pub flight : Flight

@@ -5,8 +5,8 @@ use Rattle.mc_theory.specs.Certificates.{IsTree}
 use Rattle.mc_theory.specs.Made.{entries_of}
 use Rattle.mc_forward.specs.Domains.{DomainValue, net_of}
 
--- The copies are of the domain's LANs and routers, and their entries meet all conditions of a certificate but the
--- last, with needs up to 255.
+-- The copies are of the domain's LANs and routers, and their entries meet all conditions of a
+-- certificate but the last, with needs up to 255.
 pub record AreClean (d : DomainValue) (flow : ℕ) (cs : List Copy) : Type 0 where
   pub tree : IsTree (net_of d flow) (entries_of (net_of d flow) cs)
   pub needs : All (λ e. e.need ≤ 255) (entries_of (net_of d flow) cs)

@@ -1,5 +1,5 @@
-//! The entries that a clean travel at TTL 255 makes, one for each copy that it carried, in a vector by the
-//! numbers of their LANs.
+//! The entries that a clean travel at TTL 255 makes, one for each copy that it carried, in a vector
+//! by the numbers of their LANs.
 
 ghost use Rattle.std.specs.Prelude.{◌≡◌, ◌<◌, ◌≤◌, All, IfOk, IfSome, Some, [], length, slice_set};
 ghost use Rattle.mc_theory.specs.Lists.{Distinct};
@@ -42,7 +42,8 @@ fn threshold_of(vif: u8, oifs: &[Oif]) -> u8
     0
 }
 
-/// The least TTL with which packets come over a pair with this threshold, from a LAN with this entry.
+/// The least TTL with which packets come over a pair with this threshold, from a LAN with this
+/// entry.
 fn need_over(threshold: u8, base: Option<Reached>) -> u8
     requires { need_over threshold base ≤ 255 }
     ensures { result ≡ need_over threshold base }

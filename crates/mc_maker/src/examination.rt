@@ -1,12 +1,14 @@
 //! A flow is examined: it has a certificate, or something is found.
 
-ghost use Rattle.std.specs.Prelude.{◌≡◌, ◌↔◌, ◌<◌, All, IfNone, IfOk, IfSome, IsSome, IsTrue, length, map};
+ghost use Rattle.std.specs.Prelude.{◌≡◌, ◌↔◌, ◌<◌, All, IfNone, IfOk, IfSome, IsSome, IsTrue};
+ghost use Rattle.std.specs.Prelude.{length, map};
 ghost use Rattle.std.specs.List.Sorted.{IsStrictlyIncreasing};
 ghost use Rattle.mc_theory.specs.Certificates.{IsAccepted, IsReordering, IsRight};
 ghost use Rattle.mc_theory.specs.Made.{entries_of};
 ghost use Rattle.mc_forward.specs.Domains.{net_of, ttl_of};
 ghost use Rattle.mc_cert.specs.Certificate.{IsEntryOf, IsList};
-ghost use Rattle.mc_maker.specs.Examined.{FindsFault, FindsNothing, IfCertified, IfFound, IsOfTravel, IsTravelOfFirst, IsTtlOfFault, is_certified};
+ghost use Rattle.mc_maker.specs.Examined.{FindsFault, FindsNothing, IfCertified, IfFound};
+ghost use Rattle.mc_maker.specs.Examined.{IsOfTravel, IsTravelOfFirst, IsTtlOfFault, is_certified};
 ghost use Rattle.mc_maker.specs.Making.{AreClean};
 
 use crate::entries::{entries_by_lan, listed};
@@ -32,8 +34,8 @@ pub enum Examined {
     },
 }
 
-/// The entries of the copies that a clean travel at TTL 255 carried, by ascending numbers of their LANs, if
-/// they reach each LAN that wants the flow.
+/// The entries of the copies that a clean travel at TTL 255 carried, by ascending numbers of their
+/// LANs, if they reach each LAN that wants the flow.
 fn certificate_of(
     alloc: Global,
     domain: &Domain,
@@ -64,9 +66,9 @@ fn certificate_of(
     Ok(Some(entries))
 }
 
-/// Examines the flow with this number: the travel of a packet of TTL 255 shows that the flow is not right, or
-/// its copies make the entries of a certificate, or these leave a LAN unserved and so does a packet of the
-/// flow's least TTL.
+/// Examines the flow with this number: the travel of a packet of TTL 255 shows that the flow is not
+/// right, or its copies make the entries of a certificate, or these leave a LAN unserved and so
+/// does a packet of the flow's least TTL.
 ///
 /// # Errors
 ///

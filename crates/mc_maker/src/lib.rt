@@ -1,5 +1,5 @@
-//! The maker: for a flow that is right the certificate's entries, and for another one a travel that shows
-//! what is wrong.
+//! The maker: for a flow that is right the certificate's entries, and for another one a travel that
+//! shows what is wrong.
 #![tactic(auto)]
 
 mod entries;

@@ -2,7 +2,8 @@
 use Rattle.std.specs.Prelude.{Option, Some, None}
 use Rattle.mc_theory.specs.Findings.{Finding as FindingValue}
 use Rattle.mc_replay.specs.declared.finding.Finding.{Finding}
-use Rattle.mc_replay.specs.declared.finding.Finding.TheVariants.{Clean, Duplicate, Loop, Stray, Missed}
+use Rattle.mc_replay.specs.declared.finding.Finding.TheVariants.{Clean, Duplicate, Loop, Stray}
+use Rattle.mc_replay.specs.declared.finding.Finding.TheVariants.{Missed}
 
 abbrev pub finding_value : Finding → FindingValue
 finding_value Clean = FindingValue.Clean

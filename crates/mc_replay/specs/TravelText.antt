@@ -4,7 +4,8 @@ use Rattle.mc_topology.specs.Topology.{TopologyValue}
 use Rattle.mc_theory.specs.Events.{Event, Outcome}
 use Rattle.mc_theory.specs.Events.Outcome.{Open, NoRow, OtherVif, Sent}
 use Rattle.mc_replay.specs.declared.finding.Finding.{Finding}
-use Rattle.mc_replay.specs.declared.finding.Finding.TheVariants.{Clean, Duplicate, Loop, Stray, Missed}
+use Rattle.mc_replay.specs.declared.finding.Finding.TheVariants.{Clean, Duplicate, Loop, Stray}
+use Rattle.mc_replay.specs.declared.finding.Finding.TheVariants.{Missed}
 
 -- the name of a LAN, and of a router; empty for a number that the topology hasn't
 abbrev pub lan_name : TopologyValue → ℕ → List ℕ
@@ -17,15 +18,18 @@ abbrev pub outcome_text : Outcome → List ℕ
 outcome_text Open = codes "open"
 outcome_text NoRow = codes "no row"
 outcome_text OtherVif = codes "other vif"
-outcome_text (Sent copies strays) = codes "sent " ++ decimal copies ++ codes " strayed " ++ decimal strays
+outcome_text (Sent copies strays) = codes "sent " ++ decimal copies ++ codes " strayed "
+    ++ decimal strays
 
 -- `r1 0 ttl 3 sent 1 strayed 0`
 abbrev pub event_text : TopologyValue → Event → List ℕ
-event_text t e = router_name t e.router ++ codes " " ++ decimal e.vif ++ codes " ttl " ++ decimal e.ttl ++ codes " " ++ outcome_text e.outcome
+event_text t e = router_name t e.router ++ codes " " ++ decimal e.vif ++ codes " ttl "
+    ++ decimal e.ttl ++ codes " " ++ outcome_text e.outcome
 
 abbrev pub finding_text : TopologyValue → Finding → List ℕ
 finding_text t Clean = codes "Clean"
 finding_text t (Duplicate lan) = codes "Duplicate " ++ lan_name t lan
 finding_text t (Loop lan) = codes "Loop " ++ lan_name t lan
-finding_text t (Stray router vif) = codes "Stray " ++ router_name t router ++ codes " " ++ decimal vif
+finding_text t (Stray router vif) = codes "Stray " ++ router_name t router ++ codes " "
+    ++ decimal vif
 finding_text t (Missed lan) = codes "Missed " ++ lan_name t lan

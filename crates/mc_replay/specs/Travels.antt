@@ -11,8 +11,8 @@ use Rattle.mc_forward.specs.Domains.{DomainValue, net_of}
 use Rattle.mc_replay.specs.declared.travel.Travel.{Travel}
 use Rattle.mc_replay.specs.FindingValues.{finding_value}
 
--- what is replayed: a packet with this TTL of the net's flow, with LANs numbered below a count, and what
--- the picker chooses by
+-- what is replayed: a packet with this TTL of the net's flow, with LANs numbered below a count, and
+-- what the picker chooses by
 pub record Replay : Type 0 where
   pub net : Net
   pub lans : ℕ
@@ -20,20 +20,27 @@ pub record Replay : Type 0 where
   pub choices : Choices
 
 abbrev pub replay_of : DomainValue → (flow ttl : ℕ) → Choices → Replay
-replay_of d flow ttl choices = record { net = net_of d flow; lans = length d.topology.lans; ttl = ttl; choices = choices }
+replay_of d flow ttl choices = record {
+  net = net_of d flow;
+  lans = length d.topology.lans;
+  ttl = ttl;
+  choices = choices;
+}
 
--- From flight f on, these events are those of the run of the picker's choices, which ends with flight g.
--- That shows x, and no flight before it shows anything.
-pub record Goes (n : Net) (lans : ℕ) (choices : Choices) (f : Flight) (es : List Event) (g : Flight) (x : Finding) : Type 0 where
+-- From flight f on, these events are those of the run of the picker's choices, which ends with
+-- flight g. That shows x, and no flight before it shows anything.
+pub record Goes (n : Net) (lans : ℕ) (choices : Choices) (f : Flight) (es : List Event) (g : Flight)
+    (x : Finding) : Type 0 where
   pub picks : List ℕ
   pub travel : IsTravel n lans choices.numbers choices.last picks f x
   pub events : es ≡ events n picks f
   pub ends : g ≡ run n (handles picks) f
 
--- The travel's events are those of the run of the picker's choices, up to flight g, which is the first to
--- show something: the travel's finding.
+-- The travel's events are those of the run of the picker's choices, up to flight g, which is the
+-- first to show something: the travel's finding.
 abbrev pub IsRunTo : Replay → Travel → Flight → Type 0
-IsRunTo r t g = Goes r.net r.lans r.choices (start r.net r.ttl) t.events.items g (finding_value t.finding)
+IsRunTo r t g = Goes r.net r.lans r.choices (start r.net r.ttl) t.events.items g
+    (finding_value t.finding)
 
 abbrev pub IsRunOfChoices : Replay → Travel → Type 0
 IsRunOfChoices r t = (g : Flight) × IsRunTo r t g

@@ -5,8 +5,8 @@ use mc_topology::{LanNo, RouterNo};
 /// What the flight shows that a travel ends with.
 #[derive(Clone, Copy, Debug, PartialEq, Eq)]
 pub enum Finding {
-    /// Nothing waits, no LAN carried two copies, none left the known domain, and each LAN that wants the
-    /// flow carried one.
+    /// Nothing waits, no LAN carried two copies, none left the known domain, and each LAN that
+    /// wants the flow carried one.
     Clean,
     /// The LAN carried a second copy.
     Duplicate(LanNo),

@@ -1,6 +1,7 @@
 //! The first copy that each LAN carried, in a vector by the LANs' numbers.
 
-ghost use Rattle.std.specs.Prelude.{◌≡◌, ◌<◌, ◌≤◌, All, IfOk, IsFalse, IsSome, IsTrue, None, Some, [], length, option_and_then, slice_get, slice_set, take};
+ghost use Rattle.std.specs.Prelude.{◌≡◌, ◌<◌, ◌≤◌, All, IfOk, IsFalse, IsSome, IsTrue, None, Some};
+ghost use Rattle.std.specs.Prelude.{[], length, option_and_then, slice_get, slice_set, take};
 ghost use Rattle.mc_theory.specs.Findings.{double};
 ghost use Rattle.mc_replay.specs.Firsts.{AreFirsts, held};
 
@@ -35,8 +36,8 @@ fn is_second(firsts: &mut [Option<Carried>], copy: &Carried) -> bool
     }
 }
 
-/// Takes in the copies after the first `seen`, which were taken in before and of which no two are of one
-/// LAN, and tells the first copy that has an earlier one on its LAN.
+/// Takes in the copies after the first `seen`, which were taken in before and of which no two are
+/// of one LAN, and tells the first copy that has an earlier one on its LAN.
 pub(crate) fn take_in(
     firsts: &mut [Option<Carried>],
     copies: &[Carried],

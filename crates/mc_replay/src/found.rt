@@ -14,9 +14,9 @@ use crate::followed::Followed;
 use mc_forward::{Carried, Flight};
 use mc_topology::LanNo;
 
-/// Whether the walk back from a copy, over the first copies of the LANs that each was taken from, comes by
-/// the copy's own LAN. The walk ends at the source's copy, before it has gone over as many LANs as there
-/// are copies.
+/// Whether the walk back from a copy, over the first copies of the LANs that each was taken from,
+/// comes by the copy's own LAN. The walk ends at the source's copy, before it has gone over as many
+/// LANs as there are copies.
 fn comes_by_its_lan(
     followed: &Followed<'_>,
     copies: &[Carried],
@@ -59,8 +59,8 @@ fn missed(followed: &Followed<'_>, firsts: &[Option<Carried>]) -> Option<LanNo>
     None
 }
 
-/// The finding of a flight whose copies' firsts are these, and whose first second copy is this; none if
-/// the flight goes on.
+/// The finding of a flight whose copies' firsts are these, and whose first second copy is this;
+/// none if the flight goes on.
 pub(crate) fn finding_of(
     followed: &Followed<'_>,
     flight: &Flight<'_>,

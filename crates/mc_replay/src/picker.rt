@@ -5,14 +5,14 @@ ghost use Rattle.mc_theory.specs.Findings.{Choices, after_choice, choice};
 
 use std::marker::Model;
 
-/// Picks the copy that is handled next, by numbers that it tells one after the other, and then always the
-/// first copy or always the last.
+/// Picks the copy that is handled next, by numbers that it tells one after the other, and then
+/// always the first copy or always the last.
 pub trait Picker {
     // the numbers that are left, and whether it then takes the last
     ghost choices: { Self → Choices };
 
-    /// The index of one of so many waiting copies: the first of its numbers, modulo so many, or after all
-    /// numbers 0 or the greatest index.
+    /// The index of one of so many waiting copies: the first of its numbers, modulo so many, or
+    /// after all numbers 0 or the greatest index.
     fn pick(&mut self, waiting: usize) -> usize
         requires { 0 < waiting }
         ensures value { result ≡

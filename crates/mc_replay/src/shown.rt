@@ -1,7 +1,8 @@
 //! An event and a finding as they are written, by the names of a topology.
 
 ghost use Rattle.std.specs.Prelude.{◌≡◌, Some};
-ghost use Rattle.mc_replay.specs.TravelText.{event_text, finding_text, lan_name, outcome_text, router_name};
+ghost use Rattle.mc_replay.specs.TravelText.{event_text, finding_text, lan_name, outcome_text};
+ghost use Rattle.mc_replay.specs.TravelText.{router_name};
 
 use crate::finding::Finding;
 use mc_forward::{Event, Outcome};

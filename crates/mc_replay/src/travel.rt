@@ -1,7 +1,8 @@
 //! Travels of packets.
 
 ghost use Rattle.std.specs.Prelude.{◌≡◌, ◌<◌, IfOk, length};
-ghost use Rattle.mc_replay.specs.Travels.{HasShortTravel, IsRunOfChoices, IsRunTo, ShowsItsFinding, ShowsWrongFlow, WalksEndAtSource, replay_of};
+ghost use Rattle.mc_replay.specs.Travels.{HasShortTravel, IsRunOfChoices, IsRunTo, ShowsItsFinding};
+ghost use Rattle.mc_replay.specs.Travels.{ShowsWrongFlow, WalksEndAtSource, replay_of};
 
 use crate::finding::Finding;
 use crate::firsts::{no_firsts, take_in};
@@ -12,8 +13,8 @@ use mc_forward::{Domain, Event, Flight};
 use mc_text::Memory;
 use std::alloc::Global;
 
-/// The travel of a packet: what its copies did, one handling after the other, up to the first flight that
-/// shows something, and what that shows.
+/// The travel of a packet: what its copies did, one handling after the other, up to the first
+/// flight that shows something, and what that shows.
 #[derive(Debug, Drop)]
 pub struct Travel {
     /// The handlings, in order.
@@ -31,8 +32,8 @@ pub struct Ended<'d> {
     pub flight: Flight<'d>,
 }
 
-/// The travel of a packet of a flow with this time to live, 1 to 255, and the flight that it ends with.
-/// The picker may have been asked already where the answer is `Memory`.
+/// The travel of a packet of a flow with this time to live, 1 to 255, and the flight that it ends
+/// with. The picker may have been asked already where the answer is `Memory`.
 ///
 /// # Errors
 ///
@@ -75,8 +76,9 @@ pub fn replay_to_end<'d, P: Picker>(
     }
 }
 
-/// The travel of a packet of a flow with this time to live, 1 to 255, whose copies are handled in the order
-/// that the picker chooses. The picker may have been asked already where the answer is `Memory`.
+/// The travel of a packet of a flow with this time to live, 1 to 255, whose copies are handled in
+/// the order that the picker chooses. The picker may have been asked already where the answer is
+/// `Memory`.
 ///
 /// # Errors
 ///
@@ -90,8 +92,8 @@ pub fn replay<P: Picker>(
 ) -> Result<Travel, Memory>
     requires flow { flow < length domain.now.topology.flows }
     requires ttl { 0 < ttl }
-    // The travel is the run of the picker's choices: its events are exactly that run's, its finding is that
-    // of the flight which they end with, and no flight before shows anything.
+    // The travel is the run of the picker's choices: its events are exactly that run's, its finding
+    // is that of the flight which they end with, and no flight before shows anything.
     ensures run { IfOk result (IsRunOfChoices
         (replay_of domain.now flow ttl (P.choices picker.old))) }
     // It has at most as many events as there are placed interfaces.
@@ -100,10 +102,12 @@ pub fn replay<P: Picker>(
     // That flight shows what the words of the finding say:
     ensures shown { IfOk result (ShowsItsFinding
         (replay_of domain.now flow ttl (P.choices picker.old))) }
-    // the walk back from each copy ends at the source's copy, so `Loop` and `Duplicate` are told apart.
+    // the walk back from each copy ends at the source's copy, so `Loop` and `Duplicate` are told
+    // apart.
     ensures walks { IfOk result (WalksEndAtSource
         (replay_of domain.now flow ttl (P.choices picker.old))) }
-    // Another finding than `Clean` shows that the flow isn't right, if the TTL is at least the flow's.
+    // Another finding than `Clean` shows that the flow isn't right, if the TTL is at least the
+    // flow's.
     ensures wrong { IfOk result (ShowsWrongFlow
         (replay_of domain.now flow ttl (P.choices picker.old))) }
 {

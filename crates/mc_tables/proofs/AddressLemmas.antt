@@ -50,6 +50,7 @@ made_printed Little octets four fit =
     let back = octets_of-from (reverse octets) (length-reverse octets ∙ four) turned in
     (from_octets_fits (reverse octets) turned, sym (ap reverse back ∙ reverse-reverse octets))
 
+-- decoded octets that make an address are those that it is printed by
 printed_found : {E : Type 0} (order : Order) (decoded : Result (List ℕ) E) (a : ℕ)
     → ((octets : List ℕ) → decoded ≡ Ok octets → (k : ℕ) → get_or octets k 0 < 256)
     → address_of_octets order decoded ≡ Some a → IsAddr a × (decoded ≡ Ok (printed_octets order a))
@@ -61,6 +62,7 @@ printed_found order (Ok octets) a fit e =
     (subst IsAddr g.1 made.0, ap Ok (made.1 ∙ ap (printed_octets order) g.1))
 printed_found order (Err f) a fit e = absurd cc
 
+-- the octets that an address is printed by make it
 printed_only : {E : Type 0} (order : Order) (decoded : Result (List ℕ) E) (a : ℕ) → IsAddr a
     → decoded ≡ Ok (printed_octets order a) → address_of_octets order decoded ≡ Some a
 printed_only order decoded a small e =
@@ -69,19 +71,23 @@ printed_only order decoded a small e =
     (Some (from_be_bytes w32 (octets_in_order order (printed_octets order a)))) None)
     (length-printed_octets order a) ∙ ap Some (from_printed order a small)
 
+-- the address that is read is the one that the word writes
 pub address_found : (order : Order) (word : List ℕ) (a : ℕ) → address_in order word ≡ Some a
     → WritesAddress order word a
 address_found order word a e = printed_found order (decode_of word) a (decoded_fit word) e
 
+-- the address that the word writes is read
 pub address_only : (order : Order) (word : List ℕ) (a : ℕ) → WritesAddress order word a
     → address_in order word ≡ Some a
 address_only order word a h = printed_only order (decode_of word) a h.0 h.1
 
+-- an answer in range that the word shows is what the word writes
 both : (order : Order) (word : List ℕ) (read : Option ℕ) → IfSome read IsAddr
     → IfSome read (λ a. IsAddressWord order word a) → IfSome read (WritesAddress order word)
 both order word None small writes = tt
 both order word (Some a) small writes = (small, writes)
 
+-- an answer that is found and only found where the word shows it is what reading gives
 pub address_is : (order : Order) (word : List ℕ) (read : Option ℕ) → IfSome read IsAddr
     → IfSome read (λ a. IsAddressWord order word a)
     → ((a : ℕ) → IsAddr a → IsAddressWord order word a → read ≡ Some a)

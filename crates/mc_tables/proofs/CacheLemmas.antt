@@ -39,10 +39,12 @@ use Rattle.mc_tables.proofs.OifLemmas.{oifs_found, oifs_only}
 
 -- ---- the incoming vif and the outgoing ones
 
+-- a number that is there is the incoming vif
 number_is : (o i : Option ℕ) → incoming_number o ≡ Ok i → (n : ℕ) × (o ≡ Some n) × (i ≡ Some n)
 number_is None i e = absurd cc
 number_is (Some n) i e = (n, refl, cc)
 
+-- the entry that is read is what the words write
 entry_found : (iif : List ℕ) (outgoing : List (List ℕ)) (i : Option ℕ) (entry : Option Entry)
     → incoming_in iif ≡ Ok i → entry_in i outgoing ≡ Ok entry → WriteEntry iif outgoing entry
 entry_found iif [] None entry incoming e =
@@ -76,6 +78,7 @@ other_word iif n h =
     let digit : digit_value 45 < 10 = minus.0.0.1.0 in
     absurd (omega (arith, digit)))
 
+-- the entry that the words write is read
 entry_only : (iif : List ℕ) (outgoing : List (List ℕ)) (entry : Option Entry)
     → WriteEntry iif outgoing entry → (i : Option ℕ) × (incoming_in iif ≡ Ok i)
     × (entry_in i outgoing ≡ Ok entry)
@@ -90,6 +93,7 @@ entry_only iif outgoing (Some entry) h = (
 
 -- ---- the words of a row
 
+-- the row that is read is what the words tell
 row_words_found : (order : Order) (words : List (List ℕ)) (row : RowText)
     → row_in_words order words ≡ Ok row → WordsTellRow order words row
 unfolding row_in_words
@@ -114,6 +118,7 @@ row_words_found order (group ∷ origin ∷ iif ∷ packets ∷ bytes ∷ wrong 
     subst (WordsTellRow order words) (ok_is made row x.2) all
 row_words_found order words row e = absurd cc
 
+-- the row that the words tell is read
 row_words_only : (order : Order) (words : List (List ℕ)) (row : RowText)
     → WordsTellRow order words row → row_in_words order words ≡ Ok row
 unfolding row_in_words
@@ -136,16 +141,20 @@ row_words_only order words row h = absurd h
 abbrev pub MayFollow : List RowText → RowText → Type 0
 MayFollow earlier row = (length earlier < 65536) × (entry_repeats earlier row ≡ false)
 
+-- there are no more rows than allowed, and no two of one source and group
 abbrev pub MayStand : List RowText → Type 0
 MayStand rows = (length rows ≤ 65536) × IsDistinct same_key (filter_map key_of rows)
 
+-- sources and groups are in a total order
 pub key_total : IsTotalOrder key_cmp
 key_total = then_total (on_total (λ key. key.0) nat_cmp_total)
     (on_total (λ key. key.1) nat_cmp_total)
 
+-- to have one source and group is an equivalence
 pub key_laws : IsEquivalence same_key
 key_laws = eq_by_cmp_equiv key_total
 
+-- a line that is read as a row tells it, and the row may follow the earlier ones
 line_found : (order : Order) (earlier : List RowText) (line : LineText) (row : RowText)
     → row_in_line order earlier line ≡ Ok row → LineTellsRow order line row × MayFollow earlier row
 unfolding row_in_line
@@ -161,6 +170,7 @@ line_found order earlier line row e =
     subst (λ (x : RowText). LineTellsRow order line x × MayFollow earlier x) (ok_is w.0 row r.1)
     (told, (ltb-true (length earlier) 65536 n.0, not-true _ r.0))
 
+-- a row that a line tells and that may follow the earlier ones is read
 line_only : (order : Order) (earlier : List RowText) (line : LineText) (row : RowText)
     → LineTellsRow order line row → MayFollow earlier row → row_in_line order earlier line ≡ Ok row
 unfolding row_in_line
@@ -168,16 +178,19 @@ line_only order earlier line row told new =
     let room : ltb (length earlier) 65536 ≡ true = lt-ltb (length earlier) 65536 new.0 in
     rw (told.ended, room, row_words_only order (words_of line.bytes) row told.words, new.1) refl
 
+-- and so with its number
 at_found : (order : Order) (earlier : List RowText) (line : LineText) (row : RowText)
     → row_at order earlier line ≡ Ok row → LineTellsRow order line row × MayFollow earlier row
 at_found order earlier line row e =
     line_found order earlier line row
     (at_line_ok line.number (row_in_line order earlier line) row e)
 
+-- and so with its number
 at_only : (order : Order) (earlier : List RowText) (line : LineText) (row : RowText)
     → LineTellsRow order line row → MayFollow earlier row → row_at order earlier line ≡ Ok row
 at_only order earlier line row told new = rw (line_only order earlier line row told new) refl
 
+-- rows stay ones that may stand when one that may follow is added
 rows_grow : (earlier : List RowText) (row : RowText) → MayStand earlier → MayFollow earlier row
     → MayStand (earlier ++ row ∷ [])
 rows_grow earlier row stands new = (
@@ -185,6 +198,7 @@ rows_grow earlier row stands new = (
   rw filter_map-append (distinct_grows key_laws _ (key_of row) stands.1 new.1),
 )
 
+-- in rows that may stand each row may follow those before it
 rows_follow : (earlier : List RowText) (row : RowText) (later : List RowText)
     → MayStand (earlier ++ row ∷ later) → MayFollow earlier row
 rows_follow earlier row later stands = (
@@ -192,6 +206,7 @@ rows_follow earlier row later stands = (
   distinct_follows key_laws _ (key_of row) _ (rw filter_map-append at stands.1),
 )
 
+-- so lines are read as rows
 reads_rows : (order : Order) → ReadsRows (row_at order) (LineTellsRow order) MayFollow MayStand
 reads_rows order = record {
   found = at_found order;
@@ -200,12 +215,14 @@ reads_rows order = record {
   follows = rows_follow;
 }
 
+-- the empty list may stand
 nothing_stands : MayStand []
 unfolding IsDistinct
 nothing_stands = (omega arith, tt)
 
 -- ---- the text
 
+-- the rows that are read are those of the text
 rows_of : (order : Order) (text : List ℕ) (rows : List RowText) → cache_rows_in order text ≡ Ok rows
     → AreCacheRows order text rows
 rows_of order text rows e =
@@ -220,6 +237,7 @@ rows_of order text rows e =
       keys_differ = t.3.1;
     }
 
+-- the rows of the text are read
 of_rows : (order : Order) (text : List ℕ) (rows : List RowText) → AreCacheRows order text rows
     → cache_rows_in order text ≡ Ok rows
 of_rows order text rows h =
@@ -243,6 +261,7 @@ pub cache_only : (order : Order) (text : List ℕ) (table : CacheText)
     → StandsForCache order text table → cache_in order text ≡ Ok table
 cache_only order text table h = rw (of_rows order text h.rows h.lines) (ap Ok (sym h.as_table))
 
+-- what is read, unless memory runs out, is what the text stands for
 pub read_is_found : (order : Order) (text : List ℕ) (read : Result CacheText TableFault)
     → ((read ≡ Err out_of_memory → ⊥) → read ≡ cache_in order text)
     → IfOk read (StandsForCache order text)

@@ -1,15 +1,11 @@
 -- The look-ups of a cache answer by its table.
-use Rattle.std.proofs.Common.{◌≡◌, ℕ, Bool, true, false, ltb, arith, List, [], ◌∷◌, Option, Some}
-use Rattle.std.proofs.Common.{None, Bor, refl, sym, ap, ◌∙◌, inl, inr}
+use Rattle.std.proofs.Common.{◌≡◌, ℕ, true, false, ltb, arith, List, [], ◌∷◌, Option, Some}
+use Rattle.std.proofs.Common.{None, refl, ◌∙◌, inl, inr}
 use Rattle.std.specs.Prelude.{nat_eq, is_some, if◌then◌else◌}
-use Rattle.std.specs.Option.{option_map, option_copied}
+use Rattle.std.specs.Option.{option_map}
 use Rattle.std.specs.List.{filter_map, cons_option, list_any}
-use Rattle.std.specs.Ordering.{nat_cmp, eq_by_cmp}
-use Rattle.std.specs.Cmp.{unsigned_tied}
 use Rattle.std.specs.FinMap as map
-use Rattle.std.specs.FinSet as set
 use Rattle.std.proofs.lemmas.Bool.{cases_Bool, lt-ltb, eqb-false}
-use Rattle.std.proofs.lemmas.Cmp.{nat_cmp_total, nat_eq_equiv}
 use Rattle.mc_tables.specs.declared.entry.Entry.{Entry}
 use Rattle.mc_tables.specs.CacheTable.{RowText, key_cmp, same_key, exact_entry, key_of}
 
@@ -18,6 +14,7 @@ abbrev entry_of_key : ℕ × ℕ → Option ((ℕ × ℕ) × Entry) → Option E
 entry_of_key key None = None
 entry_of_key key (Some exact) = if same_key key exact.0 then Some exact.1 else None
 
+-- the entry of a row, if it is of this key
 abbrev entry_at : ℕ × ℕ → RowText → Option Entry
 entry_at key row = entry_of_key key (exact_entry row)
 
@@ -32,6 +29,7 @@ skip_entry key (Some exact) rest e =
       | inr other ↦ rw other refl
     ]
 
+-- so the rest of the rows is searched alone
 skip_row : (key : ℕ × ℕ) (row : RowText) (rows : List RowText) → entry_at key row ≡ None
     → map.find key_cmp key (filter_map exact_entry (row ∷ rows))
     ≡ map.find key_cmp key (filter_map exact_entry rows)
@@ -46,6 +44,7 @@ key_of_entry key None entries keys same = same
 key_of_entry key (Some exact) entries keys same =
     elim (cases_Bool (same_key key exact.0)) [ inl is ↦ rw is refl | inr other ↦ rw other same ]
 
+-- the rows have an entry for a key where it is among their keys
 pub key_among : (key : ℕ × ℕ) (rows : List RowText)
     → is_some (map.find key_cmp key (filter_map exact_entry rows))
     ≡ list_any (same_key key) (filter_map key_of rows)
@@ -64,6 +63,7 @@ zero_apart group origin other apart =
     lt-ltb 0 origin (let h : origin ≡ 0 → ⊥ = eqb-false origin 0 apart in omega (arith, h)) in
     rw positive refl
 
+-- an entry whose origin isn't 0 is none of (0, group)
 apart_from_zero : (group : ℕ) (row : RowText) → nat_eq row.origin 0 ≡ false → (entry : Option Entry)
     → entry_of_key (0, group) (option_map (λ e. ((row.origin, row.group), e)) entry) ≡ None
 apart_from_zero group row other None = refl
@@ -72,6 +72,7 @@ apart_from_zero group row other (Some entry) =
     zero_apart group row.origin row.group other in
     rw apart refl
 
+-- no row has an entry for (0, group)
 row_without : (group : ℕ) (row : RowText) → entry_at (0, group) row ≡ None
 row_without group row =
     elim (cases_Bool (nat_eq row.origin 0)) [
@@ -79,6 +80,7 @@ row_without group row =
       | inr other ↦ rw other (apart_from_zero group row other row.entry)
     ]
 
+-- and so no rows have
 pub zero_absent : (group : ℕ) (rows : List RowText)
     → map.find key_cmp (0, group) (filter_map exact_entry rows) ≡ None
 zero_absent group [] = refl

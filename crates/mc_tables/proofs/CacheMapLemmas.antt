@@ -1,10 +1,9 @@
 -- What the maps of the library keep, as the table of a cache.
-use Rattle.std.proofs.Common.{◌≡◌, ℕ, Bool, true, false, cond, List, [], ◌∷◌, Option, Some, None}
+use Rattle.std.proofs.Common.{◌≡◌, ℕ, Bool, true, false, cond, List, [], ◌∷◌, Some}
 use Rattle.std.proofs.Common.{refl, sym, ap, ◌∙◌}
 use Rattle.std.specs.Prelude.{◌||◌}
 use Rattle.std.specs.List.{list_any}
-use Rattle.std.specs.Ordering.{nat_cmp, is_eq, eq_by_cmp, ordering_then}
-use Rattle.std.specs.declared.cmp.Ordering.{Ordering}
+use Rattle.std.specs.Ordering.{nat_cmp, eq_by_cmp, ordering_then}
 use Rattle.std.specs.declared.cmp.Ordering.TheVariants.{Less, Equal, Greater}
 use Rattle.std.specs.FinMap as map
 use Rattle.std.specs.FinMap.{IsAntisymmetric, nat_cmp-IsAntisymmetric}
@@ -40,6 +39,7 @@ find_looked_up key [] = refl
 find_looked_up key (e ∷ es) =
     ap (cond (eq_by_cmp key_cmp key e.0) (Some e.1)) (find_looked_up key es)
 
+-- looking up a key among the entries finds what their map has there
 pub looked_up : (key : ℕ × ℕ) (es : List ((ℕ × ℕ) × Entry)) →
     lookup (is_at (key_cmp key)) es ≡ map.get (map.from_entries {R = key_cmp} es) key
 looked_up key es = find_looked_up key es ∙ sym (map.get-from_entries key_total es key)
@@ -62,6 +62,7 @@ pub is_member : (group : ℕ) (groups : List ℕ) →
     ≡ set.contains (set.from_list {R = nat_cmp} groups) group
 is_member group groups = sym (set.contains-from_list nat_cmp_total groups group)
 
+-- a choice of true is a disjunction
 cond_or : (b c : Bool) → cond b true c ≡ (b || c)
 cond_or true c = refl
 cond_or false c = refl

@@ -1,9 +1,9 @@
 -- A table that grows by a row at a time is the table of all the rows.
-use Rattle.std.proofs.Common.{◌≡◌, ℕ, ◌+◌, Bool, true, false, List, [], ◌∷◌, ◌++◌, length, Option}
+use Rattle.std.proofs.Common.{◌≡◌, ℕ, ◌+◌, true, false, List, [], ◌∷◌, ◌++◌, length, Option}
 use Rattle.std.proofs.Common.{Some, None, Result, Ok, Err, refl, sym, ap, ◌∙◌, inl, inr}
 use Rattle.std.specs.Prelude.{nat_lt, not, is_some, codes}
 use Rattle.std.specs.Option.{option_map}
-use Rattle.std.specs.List.{filter_map, cons_option, list_any}
+use Rattle.std.specs.List.{filter_map, cons_option}
 use Rattle.std.specs.Ordering.{nat_cmp}
 use Rattle.std.specs.FinMap as map
 use Rattle.std.specs.FinMap.{nat_cmp-IsAntisymmetric}
@@ -25,7 +25,7 @@ use Rattle.mc_tables.specs.CacheTable.{RowText, CacheText, key_cmp, same_key, ex
 use Rattle.mc_tables.specs.CacheTable.{wildcard_of, table_of}
 use Rattle.mc_tables.specs.CacheReading.{row_in_words, entry_repeats, row_in_line, row_at, cache_in}
 use Rattle.mc_tables.specs.CacheSteps.{has_key, with_exact, with_wildcard, row_added, entry_added}
-use Rattle.mc_tables.specs.CacheSteps.{row_with_room, line_added, table_after}
+use Rattle.mc_tables.specs.CacheSteps.{line_added, table_after}
 use Rattle.mc_tables.proofs.CacheLemmas.{key_total}
 use Rattle.mc_tables.proofs.CacheLookupLemmas.{key_among}
 use Rattle.mc_tables.proofs.CacheMapLemmas.{key_antisymmetric}
@@ -58,6 +58,7 @@ key_repeats (Some exact) rows =
     ap is_some (map.get-from_entries key_total (filter_map exact_entry rows) exact.0)
     ∙ key_among exact.0 rows
 
+-- what is not there is None
 none_is : {A : Type 0} (o : Option A) → is_some o ≡ false → o ≡ None
 none_is None e = refl
 none_is (Some x) e = absurd cc
@@ -105,6 +106,7 @@ row_follows rows row =
 
 -- ---- one line
 
+-- a row that was read is added as one that follows the others
 row_of_words : (rows : List RowText) (read : Result RowText TableFaultKind) →
     (read >>= row_added (table_of rows))
     ≡ ((read >>= λ row. demand (not (entry_repeats rows row)) RepeatedEntry >>= λ _. Ok row)
@@ -119,6 +121,7 @@ row_of_words rows (Ok row) =
       | false ↦ refl
     ]
 
+-- adding a line to the table of the rows is reading it after them
 line_follows : (order : Order) (rows : List RowText) (line : LineText) →
     line_added order (length rows) (table_of rows) line
     ≡ (row_in_line order rows line >>= λ row. Ok (table_of (rows ++ row ∷ [])))
@@ -146,9 +149,11 @@ at_line_then : (n : ℕ) (rows : List RowText) (read : Result RowText TableFault
 at_line_then n rows (Err kind) then after rest = refl
 at_line_then n rows (Ok row) then after rest = rest row
 
+-- one more row counts one more
 one_more : (rows : List RowText) (row : RowText) → length rows + 1 ≡ length (rows ++ row ∷ [])
 one_more rows row = sym (length-append rows (row ∷ []))
 
+-- adding all lines to the table of the rows is reading them after the rows
 pub table_of_lines : (order : Order) (lines : List LineText) (rows : List RowText) →
     table_after order (length rows) (table_of rows) lines
     ≡ (rows_after (row_at order) rows lines >>= λ all. Ok (table_of all))

@@ -1,14 +1,14 @@
 -- A word's parts round its colons.
 use Rattle.std.proofs.Common.{◌≡◌, ℕ, suc, ◌+◌, ◌≤◌, Bool, true, false, cond, ltb, List, [], ◌∷◌}
-use Rattle.std.proofs.Common.{length, take, drop, Option, Some, None, refl, sym, ap, ◌∙◌, arith}
+use Rattle.std.proofs.Common.{length, take, drop, Option, Some, None, refl, ap, ◌∙◌, arith}
 use Rattle.std.specs.Prelude.{not, position, is_some, unwrap_or}
 use Rattle.std.specs.List.{slice_split, position_or_len, prefix_len}
 use Rattle.std.proofs.lemmas.Bool.{ltb-true, ltb-false}
 use Rattle.std.proofs.lemmas.List.Splits.{slice_split-cons_no, slice_split_first}
-use Rattle.std.proofs.lemmas.List.Splits.{length-slice_split}
 use Rattle.mc_tables.proofs.WordLemmas.{guarded_is}
 
 module _ {X : Type 0} (p : X → Bool) where
+  -- a front is no longer than the list
   prefix_within : (xs : List X) → prefix_len p xs ≤ length xs
   prefix_within [] = omega arith
   prefix_within (x ∷ xs) =
@@ -18,10 +18,12 @@ module _ {X : Type 0} (p : X → Bool) where
         | false ↦ omega arith
       ]
 
+  -- a guarded value that is None was not let through
   not_there : (b : Bool) (n : ℕ) → cond b (Some n) None ≡ None → b ≡ false
   not_there true n e = absurd cc
   not_there false n e = refl
 
+  -- what is nowhere divided is one part
   one_part : (xs : List X) → length xs ≤ position_or_len p xs → slice_split p xs ≡ xs ∷ []
   one_part [] le = refl
   one_part (x ∷ xs) le =
@@ -32,11 +34,13 @@ module _ {X : Type 0} (p : X → Bool) where
             slice_split-cons_no p x xs e ∙ rw (one_part xs later) refl
       ] refl le
 
+  -- where nothing divides, there is one part
   pub split_none : (xs : List X) → position p xs ≡ None → slice_split p xs ≡ xs ∷ []
   split_none xs e = one_part xs
       (ltb-false (position_or_len p xs) (length xs)
       (not_there (ltb (position_or_len p xs) (length xs)) (position_or_len p xs) e))
 
+  -- the first place that divides parts the front from the parts of the rest
   pub split_some : (xs : List X) (d : X) (k : ℕ) → position p xs ≡ Some k
       → slice_split p xs ≡ take k xs ∷ slice_split p (drop (k + 1) xs)
   split_some xs d k e =
@@ -44,36 +48,17 @@ module _ {X : Type 0} (p : X → Bool) where
       slice_split_first p xs d (ltb-true (position_or_len p xs) (length xs) g.0)
       ∙ ap (λ n. take n xs ∷ slice_split p (drop (n + 1) xs)) g.1
 
-  none_from : (o : Option ℕ) → is_some o ≡ false → o ≡ None
+  -- what is not there is None
+  pub none_from : (o : Option ℕ) → is_some o ≡ false → o ≡ None
   none_from None e = refl
   none_from (Some k) e = absurd cc
 
-  some_from : (o : Option ℕ) → is_some o ≡ true → (k : ℕ) × (o ≡ Some k)
+  -- what is there has a value
+  pub some_from : (o : Option ℕ) → is_some o ≡ true → (k : ℕ) × (o ≡ Some k)
   some_from None e = absurd cc
   some_from (Some k) e = (k, refl)
 
-  -- one place and no second one
-  pub split_once : (xs rest : List X) (d : X) (k : ℕ) → position p xs ≡ Some k
-      → rest ≡ drop (k + 1) xs → is_some (position p rest) ≡ false → slice_split p xs ≡ take k xs
-      ∷ rest ∷ []
-  split_once xs rest d k first is none =
-      split_some xs d k first ∙ ap (λ (r : List X). take k xs ∷ slice_split p r) (sym is)
-      ∙ ap (λ (parts : List (List X)). take k xs ∷ parts)
-      (split_none rest (none_from (position p rest) none))
-
-  pub split_twice : (xs rest : List X) (d : X) (k : ℕ) → position p xs ≡ Some k
-      → rest ≡ drop (k + 1) xs → is_some (position p rest) ≡ true → length (slice_split p xs) ≡ 2
-      → ⊥
-  split_twice xs rest d k first is some two =
-      let second = some_from (position p rest) some in
-      let parts = split_some xs d k first
-      ∙ ap (λ (r : List X). take k xs ∷ slice_split p r) (sym is)
-      ∙ ap (λ (ps : List (List X)). take k xs ∷ ps) (split_some rest d second.0 second.1) in
-      absurd (omega (arith, ap length parts, two, length-slice_split p (drop (second.0 + 1) rest)))
-
-  pub split_never : (xs : List X) → position p xs ≡ None → length (slice_split p xs) ≡ 2 → ⊥
-  split_never xs none two = absurd (omega (arith, ap length (split_none xs none), two))
-
+  -- a place before the end, or else the end
   place_cases : (b : Bool) (n len : ℕ) → ltb n len ≡ b → n ≤ len
       → unwrap_or (cond b (Some n) None) len ≡ n
   place_cases true n len e le = refl

@@ -24,6 +24,7 @@ use Rattle.mc_tables.specs.CacheTable.{LineTellsRow, key_cmp, same_key, exact_en
 -- ---- what stands in a map of what has P has P
 
 module _ (P : ℕ × ℕ → Type 0) where
+  -- one more that has P leaves all with P
   put_has : (vif threshold : ℕ) (es : List (ℕ × ℕ)) → P (vif, threshold) → AllByRecursion P es
       → AllByRecursion P (fin.put nat_cmp vif threshold es)
   put_has vif threshold [] new all = (new, tt)
@@ -40,14 +41,17 @@ module _ (P : ℕ × ℕ → Type 0) where
         | Greater ↦ λ is. (all.0, put_has vif threshold es new all.1)
       ] refl
 
+  -- all of nothing have P
   none_there : (es : List (ℕ × ℕ)) → length es ≡ 0 → AllByRecursion P es
   none_there [] e = tt
   none_there (oif ∷ es) e = absurd (omega arith)
 
+  -- all of the empty map have P
   no_entries : AllByRecursion P (fin.entries (fin.empty {K = ℕ} {X = ℕ} {R = nat_cmp}))
   no_entries = none_there (fin.entries (fin.empty {K = ℕ} {X = ℕ} {R = nat_cmp}))
       (sym (fin.len-entries (fin.empty {K = ℕ} {X = ℕ} {R = nat_cmp})) ∙ fin.len-empty nat_cmp ℕ)
 
+  -- a map of pairs that have P has such entries alone
   entries_have : (told : List (ℕ × ℕ)) → AllByRecursion P told
       → AllByRecursion P (fin.entries (fin.from_entries {R = nat_cmp} told))
   entries_have [] all = no_entries
@@ -58,26 +62,31 @@ module _ (P : ℕ × ℕ → Type 0) where
 
 -- ---- the vifs of a map ascend
 
+-- an order that passes as less is Less
 is_less : (r : Ordering) → T (is_lt r) → r ≡ Less
 is_less Less h = refl
 is_less Equal h = absurd h
 is_less Greater h = absurd h
 
+-- a conjunction that holds has both parts
 both_of : (a b : Bool) → T (a && b) → T a × T b
 both_of true b h = (tt, h)
 both_of false b h = absurd h
 
+-- the vifs after one below them all are greater
 vifs_above : (vif : ℕ) (es : List (ℕ × ℕ)) → T (below_all nat_cmp vif es)
     → AllByRecursion (λ v. nat_cmp vif v ≡ Less) (map (λ oif. oif.vif) (map to_oif es))
 vifs_above vif [] h = tt
 vifs_above vif (e ∷ es) h = let p = both_of _ _ h in (is_less _ p.0, vifs_above vif es p.1)
 
+-- the vifs of sorted entries ascend
 vifs_sorted : (es : List (ℕ × ℕ)) → T (is_sorted nat_cmp es)
     → IsStrictlySortedBy nat_cmp (map (λ oif. oif.vif) (map to_oif es))
 unfolding IsStrictlySortedBy
 vifs_sorted [] h = tt
 vifs_sorted (e ∷ es) h = let p = both_of _ _ h in (vifs_above e.0 es p.0, vifs_sorted es p.1)
 
+-- so those of a map do
 vifs_ascend : (thresholds : fin.FinMap nat_cmp ℕ)
     → IsStrictlyIncreasing (map (λ oif. oif.vif) (by_vif thresholds))
 vifs_ascend thresholds =
@@ -86,9 +95,11 @@ vifs_ascend thresholds =
 
 -- ---- the entry of a line
 
+-- a vif up to 31 and a threshold from 1 to 254
 abbrev InRange : ℕ × ℕ → Type 0
 InRange oif = (oif.0 ≤ 31) × (1 ≤ oif.1) × (oif.1 ≤ 254)
 
+-- words write outgoing vifs in range
 told_in_range : (words : List (List ℕ)) (told : List (ℕ × ℕ)) → EachTells WritesOif words told
     → AllByRecursion InRange told
 told_in_range [] [] each = tt
@@ -99,12 +110,14 @@ told_in_range (word ∷ words) (oif ∷ told) each = (
   told_in_range words told each.1,
 )
 
+-- and the list of them is in range
 as_oifs : (es : List (ℕ × ℕ)) → AllByRecursion InRange es
     → AllByRecursion (λ oif. (oif.vif ≤ 31) × (1 ≤ oif.threshold) × (oif.threshold ≤ 254))
     (map to_oif es)
 as_oifs [] all = tt
 as_oifs (e ∷ es) all = (all.0, as_oifs es all.1)
 
+-- the entry that words write is one
 entry_stands : (iif : List ℕ) (outgoing : List (List ℕ)) (entry : Option Entry)
     → WriteEntry iif outgoing entry → IfSome entry IsEntry
 entry_stands iif outgoing None h = tt
@@ -120,6 +133,7 @@ entry_stands iif outgoing (Some entry) h =
           (as_oifs (fin.entries (fin.from_entries h.1.told)) (entries_have InRange h.1.told told));
     }
 
+-- so is that of a row that words tell
 row_stands : (order : Order) (words : List (List ℕ)) (row : RowText) → WordsTellRow order words row
     → IfSome row.entry IsEntry
 row_stands order (group ∷ origin ∷ iif ∷ packets ∷ bytes ∷ wrong ∷ outgoing) row h =
@@ -128,9 +142,11 @@ row_stands order words row h = absurd h
 
 -- ---- the entries of a table
 
+-- the entry of each resolved row is one
 abbrev pub HaveEntries : List RowText → Type 0
 HaveEntries rows = AllByRecursion (λ row. IfSome row.entry IsEntry) rows
 
+-- lines tell rows with such entries
 pub rows_stand : (order : Order) (lines : List LineText) (rows : List RowText)
     → EachTells (LineTellsRow order) lines rows → HaveEntries rows
 rows_stand order [] [] told = tt
@@ -139,6 +155,7 @@ rows_stand order (line ∷ lines) [] told = absurd told
 rows_stand order (line ∷ lines) (row ∷ rows) told =
     (row_stands order (words_of line.bytes) row told.0.words, rows_stand order lines rows told.1)
 
+-- what is found is the first entry, or one of the others
 find_stands : (key : ℕ × ℕ) (o : Option ((ℕ × ℕ) × Entry)) (rest : List ((ℕ × ℕ) × Entry))
     → IfSome o (λ exact. IsEntry exact.1) → IfSome (fin.find key_cmp key rest) IsEntry
     → IfSome (fin.find key_cmp key (cons_option o rest)) IsEntry
@@ -150,6 +167,7 @@ find_stands key (Some exact) rest stands others =
       | false ↦ others
     ]
 
+-- a row for one source has its entry, and one for every source none
 exact_stands : (b : Bool) (key : ℕ × ℕ) (entry : Option Entry) → IfSome entry IsEntry
     → IfSome {T = (ℕ × ℕ) × Entry} (cond b None (option_map (λ e. (key, e)) entry))
     (λ exact. IsEntry exact.1)
@@ -157,6 +175,7 @@ exact_stands true key entry stands = tt
 exact_stands false key None stands = tt
 exact_stands false key (Some entry) stands = stands
 
+-- what is found among the entries of the rows is an entry
 pub found_stands : (key : ℕ × ℕ) (rows : List RowText) → HaveEntries rows
     → IfSome (fin.find key_cmp key (filter_map exact_entry rows)) IsEntry
 found_stands key [] stands = tt

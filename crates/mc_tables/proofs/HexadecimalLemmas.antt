@@ -15,10 +15,12 @@ use Rattle.std.proofs.lemmas.List.Elements.{All-from_recursion}
 use Rattle.std.proofs.lemmas.Str.{IsUtf8-from_ascii, digit_value_digit}
 use Rattle.std.proofs.lemmas.Str.Ascii.{IsAscii-from_all}
 
+-- a byte that passes the test of a range is in it
 in_range : (low high c : ℕ) → is_in_range low high c ≡ true → (low ≤ c) × (c ≤ high)
 in_range low high c e = let p = and_parts (nat_le low c) (nat_le c high) e in
     (leb-true low c p.0, leb-true c high p.1)
 
+-- the digits A to F are below 16
 upper_small : (c : ℕ) → 65 ≤ c → c ≤ 70 → digit_value c < 16
 upper_small c low high =
     let a : ltb c 48 ≡ false = le-ltb c 48 (omega arith) in
@@ -27,6 +29,7 @@ upper_small c low high =
     let f : ltb c 91 ≡ true = lt-ltb c 91 (omega arith) in
     rw (a, b, d, f) (omega arith)
 
+-- and so are a to f
 lower_small : (c : ℕ) → 97 ≤ c → c ≤ 102 → digit_value c < 16
 lower_small c low high =
     let a : ltb c 48 ≡ false = le-ltb c 48 (omega arith) in
@@ -37,6 +40,7 @@ lower_small c low high =
     let h : ltb c 123 ≡ true = lt-ltb c 123 (omega arith) in
     rw (a, b, d, f, g, h) (omega arith)
 
+-- each hexadecimal digit is
 digit_small : (c : ℕ) → is_ascii_hexdigit c ≡ true → digit_value c < 16
 digit_small c e =
     elim (cases_Bool (is_in_range 48 57 c)) [
@@ -49,25 +53,30 @@ digit_small c e =
       ]
     ]
 
+-- and is ASCII, from `0` on
 digit_ascii : (c : ℕ) → is_ascii_hexdigit c ≡ true → (48 ≤ c) × (c < 128)
 digit_ascii c e = grind (arith)
 
+-- digits that pass the test are digits to the base 16
 all_digits : (word : List ℕ) → list_all is_ascii_hexdigit word ≡ true → AllDigits 16 word
 all_digits [] e = tt
 all_digits (c ∷ cs) e = let p = and_parts (is_ascii_hexdigit c) _ e in
     (digit_small c p.0, all_digits cs p.1)
 
+-- and ASCII
 all_ascii : (word : List ℕ) → list_all is_ascii_hexdigit word ≡ true
     → AllByRecursion (λ b. b < 128) word
 all_ascii [] e = tt
 all_ascii (c ∷ cs) e = let p = and_parts (is_ascii_hexdigit c) _ e in
     ((digit_ascii c p.0).1, all_ascii cs p.1)
 
+-- so they are a text
 pub digits_are_text : (word : List ℕ) → list_all is_ascii_hexdigit word ≡ true → IsUtf8 word
 digits_are_text word e =
     IsUtf8-from_ascii word
     (IsAscii-from_all word (All-from_recursion (λ b. b < 128) word (all_ascii word e)))
 
+-- they have no `+` at the front
 no_plus : (word : List ℕ) → list_all is_ascii_hexdigit word ≡ true
     → without_leading_plus word ≡ word
 no_plus [] e = refl
@@ -77,12 +86,14 @@ no_plus (c ∷ cs) e =
     ≡ false = ne_eqb c 43 (λ is. absurd (omega (arith, is, (digit_ascii c p.0).0))) in
     rw other refl
 
+-- up to eight of them write a number of 32 bits
 fits : (word : List ℕ) → length word ≤ 8 → list_all is_ascii_hexdigit word ≡ true
     → digits_value 16 word < 2 ^ 32
 fits word few e =
     let most : 16 ^ length word ≤ 16 ^ 8 = pow-le-pow_right (lit< tt) few in
     omega (arith, most, digits_value-lt 16 word (all_digits word e))
 
+-- what the library reads of them is the number that they write
 pub parsed_is : {E : Type 0} (word : List ℕ) (read : Result ℕ E) → 1 ≤ length word → length word ≤ 8
     → list_all is_ascii_hexdigit word ≡ true → ParsesUnsigned 32 16 word read
     → read ≡ Ok (digits_value 16 word)

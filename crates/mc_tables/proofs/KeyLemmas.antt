@@ -7,6 +7,7 @@ use Rattle.std.proofs.lemmas.Bool.{or_from}
 use Rattle.std.proofs.lemmas.Map.Keys.{IsDistinct-head, IsDistinct-tail, IsDistinct-push}
 use Rattle.mc_tables.specs.TableLines.{is_among}
 
+-- what all have, the one in the middle has
 holds_at : {K : Type 0} (P : K → Type 0) (xs : List K) (y : K) (ys : List K)
     → AllByRecursion P (xs ++ y ∷ ys) → P y
 holds_at P [] y ys all = all.0
@@ -23,11 +24,13 @@ module _ {K : Type 0} {same : K → K → Bool} (laws : IsEquivalence same) wher
       or_from (same y x) (list_any (same y) xs) (laws.symm y x ∙ apart)
       (new_in_distinct xs y ys (IsDistinct-tail same x (xs ++ y ∷ ys) distinct))
 
+  -- keys that differ and one that is new, if it is one, differ
   pub distinct_grows : (xs : List K) (key : Option K) → IsDistinct same xs
       → is_among same key xs ≡ false → IsDistinct same (xs ++ cons_option key [])
   distinct_grows xs None distinct new = rw append-nil distinct
   distinct_grows xs (Some y) distinct new = IsDistinct-push laws xs y distinct new
 
+  -- a key in the middle, if it is one, is new
   pub distinct_follows : (xs : List K) (key : Option K) (ys : List K)
       → IsDistinct same (xs ++ cons_option key ys) → is_among same key xs ≡ false
   distinct_follows xs None ys distinct = refl

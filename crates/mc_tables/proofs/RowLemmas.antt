@@ -13,6 +13,7 @@ use Rattle.mc_tables.specs.TableLines.{begins_with, HasHeader, EachTells, header
 use Rattle.mc_tables.specs.TableLines.{rows_after}
 use Rattle.mc_tables.proofs.StepLemmas.{bind_ok, demand_ok, demand_then, at_line_ok, ok_is}
 
+-- the lines that are read follow a header that ends and begins as it has to
 header_found : (first : List ℕ) (all lines : List LineText) → header_in first all ≡ Ok lines
     → (header : LineText) × (all ≡ header ∷ lines) × IsTrue header.ended
     × IsTrue (begins_with first (words_of header.bytes))
@@ -30,6 +31,7 @@ header_found first (header ∷ rest) lines e =
       demand_ok (begins_with first (words_of header.bytes)) NoHeader b.0 d.1,
     )
 
+-- what is read of a text was read within the limit
 fits_found : {A : Type 0} (b : Bool) (d : TableFault) (r : Result A TableFault) (y : A)
     → cond b (Err d) r ≡ Ok y → (b ≡ false) × (r ≡ Ok y)
 fits_found true d r y e = absurd cc
@@ -50,6 +52,7 @@ lines_found first text lines e =
       begins = h.3;
     }
 
+-- the lines of a text with its header are read
 pub lines_only : (first text : List ℕ) (lines : List LineText) → HasHeader first text lines
     → lines_in first text ≡ Ok lines
 lines_only first text lines h =

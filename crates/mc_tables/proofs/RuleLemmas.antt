@@ -22,6 +22,7 @@ use Rattle.mc_tables.proofs.CacheLemmas.{key_total, cache_found}
 use Rattle.mc_tables.proofs.CacheLookupLemmas.{zero_absent}
 use Rattle.mc_tables.proofs.EntryLemmas.{HaveEntries, rows_stand, found_stands}
 
+-- one answer has one index
 some_is : (i j : ℕ) (o : Option ℕ) → o ≡ Some i → o ≡ Some j → i ≡ j
 some_is i j o a b = cc
 

@@ -16,6 +16,7 @@ pub demand_ok : {E : Type 0} (b : Bool) (d : E) (u : Unit {0}) → demand b d �
 demand_ok true d u e = refl
 demand_ok false d u e = absurd cc
 
+-- and the step after it
 pub demand_then : {B E : Type 0} (b : Bool) (d : E) (f : Unit {0} → Result B E) (y : B)
     → (demand b d >>= f) ≡ Ok y → (b ≡ true) × (f tt ≡ Ok y)
 demand_then true d f y e = (refl, e)
@@ -32,10 +33,12 @@ pub ok_or_ok : {A E : Type 0} (o : Option A) (d : E) (x : A) → ok_or o d ≡ O
 ok_or_ok None d x e = absurd cc
 ok_or_ok (Some y) d x e = cc
 
+-- a line's number changes no value
 pub at_line_ok : {A : Type 0} (n : ℕ) (r : Result A TableFaultKind) (x : A) → at_line n r ≡ Ok x
     → r ≡ Ok x
 at_line_ok n (Ok y) x e = cc
 at_line_ok n (Err k) x e = absurd cc
 
+-- equal answers have equal values
 pub ok_is : {A E : Type 0} (x y : A) → (let r : Result A E = Ok x in r) ≡ Ok y → x ≡ y
 ok_is x y e = cc

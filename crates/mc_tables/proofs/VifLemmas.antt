@@ -33,6 +33,7 @@ use Rattle.mc_tables.proofs.WordLemmas.{number_found, number_only}
 use Rattle.mc_tables.proofs.KeyLemmas.{new_in_distinct, distinct_grows, distinct_follows}
 use Rattle.mc_tables.proofs.RowLemmas.{lines_found, lines_only, ReadsRows, rows_told, rows_read}
 
+-- the vif that is read is what the words tell
 pub words_found : (words : List (List ℕ)) (row : ℕ × VifText) → vif_in_words words ≡ Ok row
     → WordsTellVif words row
 unfolding vif_in_words
@@ -81,6 +82,7 @@ words_found (index ∷ device ∷ bytes_in ∷ packets_in ∷ bytes_out ∷ pack
     x) same all
 words_found words row e = absurd cc
 
+-- the vif that the words tell is read
 pub words_only : (words : List (List ℕ)) (row : ℕ × VifText) → WordsTellVif words row
     → vif_in_words words ≡ Ok row
 unfolding vif_in_words
@@ -107,10 +109,12 @@ words_only words row h = absurd h
 abbrev pub MayFollow : List (ℕ × VifText) → ℕ × VifText → Type 0
 MayFollow earlier row = (index_repeats earlier row ≡ false) × (device_repeats earlier row ≡ false)
 
+-- indexes and devices differ
 abbrev pub MayStand : List (ℕ × VifText) → Type 0
 MayStand rows = IsDistinct nat_eq (map (λ row. row.0) rows)
     × IsDistinct bytes_eq (filter_map device_of rows)
 
+-- a line that is read as a vif tells it, and the vif may follow the earlier ones
 line_found : (earlier : List (ℕ × VifText)) (line : LineText) (row : ℕ × VifText)
     → vif_in_line earlier line ≡ Ok row → LineTellsVif line row × MayFollow earlier row
 unfolding vif_in_line
@@ -127,12 +131,14 @@ line_found earlier line row e =
     subst (λ (x : ℕ × VifText). LineTellsVif line x × MayFollow earlier x) same
     (told, (not-true _ i.0, not-true _ v.0))
 
+-- a vif that a line tells and that may follow the earlier ones is read
 line_only : (earlier : List (ℕ × VifText)) (line : LineText) (row : ℕ × VifText)
     → LineTellsVif line row → MayFollow earlier row → vif_in_line earlier line ≡ Ok row
 unfolding vif_in_line
 line_only earlier line row told new =
     rw (told.ended, words_only (words_of line.bytes) row told.words, new.0, new.1) refl
 
+-- vifs stay ones that may stand when one that may follow is added
 rows_grow : (earlier : List (ℕ × VifText)) (row : ℕ × VifText) → MayStand earlier
     → MayFollow earlier row → MayStand (earlier ++ row ∷ [])
 rows_grow earlier row stands new = (
@@ -140,6 +146,7 @@ rows_grow earlier row stands new = (
   rw filter_map-append (distinct_grows nat_list_eq_equiv _ (device_of row) stands.1 new.1),
 )
 
+-- in vifs that may stand each may follow those before it
 rows_follow : (earlier : List (ℕ × VifText)) (row : ℕ × VifText) (later : List (ℕ × VifText))
     → MayStand (earlier ++ row ∷ later) → MayFollow earlier row
 rows_follow earlier row later stands = (
@@ -147,22 +154,27 @@ rows_follow earlier row later stands = (
   distinct_follows nat_list_eq_equiv _ (device_of row) _ (rw filter_map-append at stands.1),
 )
 
+-- what is read with the line's number is told
 at_found : (earlier : List (ℕ × VifText)) (line : LineText) (row : ℕ × VifText)
     → vif_at earlier line ≡ Ok row → LineTellsVif line row × MayFollow earlier row
 at_found earlier line row e =
     line_found earlier line row (at_line_ok line.number (vif_in_line earlier line) row e)
 
+-- what is told is read with the line's number
 at_only : (earlier : List (ℕ × VifText)) (line : LineText) (row : ℕ × VifText)
     → LineTellsVif line row → MayFollow earlier row → vif_at earlier line ≡ Ok row
 at_only earlier line row told new = rw (line_only earlier line row told new) refl
 
+-- the empty list may stand
 nothing_stands : MayStand []
 unfolding IsDistinct
 nothing_stands = (tt, tt)
 
+-- so lines are read as vifs
 pub reads_vifs : ReadsRows vif_at LineTellsVif MayFollow MayStand
 reads_vifs = record { found = at_found; only = at_only; grows = rows_grow; follows = rows_follow }
 
+-- the vifs that are read are those of the text
 rows_of : (text : List ℕ) (rows : List (ℕ × VifText)) → vif_rows_in text ≡ Ok rows
     → AreVifRows text rows
 rows_of text rows e =
@@ -177,6 +189,7 @@ rows_of text rows e =
       devices_differ = t.3.1;
     }
 
+-- the vifs of the text are read
 of_rows : (text : List ℕ) (rows : List (ℕ × VifText)) → AreVifRows text rows
     → vif_rows_in text ≡ Ok rows
 of_rows text rows h =
@@ -200,20 +213,24 @@ pub vifs_only : (text : List ℕ) (vifs : FinMap nat_cmp VifText) → StandsForV
     → vifs_in text ≡ Ok vifs
 vifs_only text vifs h = rw (of_rows text h.rows h.lines, h.as_map) refl
 
+-- other than nine words are no vif
 pub not_nine : (words : List (List ℕ)) → (length words ≡ 9 → ⊥) → vif_in_words words ≡ Err WordCount
 unfolding vif_in_words
 not_nine (index ∷ device ∷ bytes_in ∷ packets_in ∷ bytes_out ∷ packets_out ∷ flags ∷ local ∷ remote
     ∷ []) other = absurd (other refl)
 not_nine words other = refl
 
+-- the index that words tell is 31 at most
 words_to_31 : (words : List (List ℕ)) (row : ℕ × VifText) → WordsTellVif words row → row.0 ≤ 31
 words_to_31 (index ∷ device ∷ bytes_in ∷ packets_in ∷ bytes_out ∷ packets_out ∷ flags ∷ local
     ∷ remote ∷ []) row h = h.0.2
 words_to_31 words row h = absurd h
 
+-- the indexes are 0 to 31
 abbrev pub AreNumbered : List (ℕ × VifText) → Type 0
 AreNumbered rows = AllByRecursion (λ row. row.0 ≤ 31) rows
 
+-- lines tell such indexes alone
 pub told_to_31 : (lines : List LineText) (rows : List (ℕ × VifText))
     → EachTells LineTellsVif lines rows → AreNumbered rows
 told_to_31 [] [] told = tt
@@ -231,6 +248,7 @@ lines_may_stand lines rows e =
     e in
     (t.3.0, t.3.1, subst AreNumbered t.1 (told_to_31 lines t.0 t.2))
 
+-- what is read, unless memory runs out, is what the text stands for
 pub read_is_found : (text : List ℕ) (read : Result (FinMap nat_cmp VifText) TableFault)
     → ((read ≡ Err out_of_memory → ⊥) → read ≡ vifs_in text) → IfOk read (StandsForVifs text)
 read_is_found text (Ok vifs) exact = vifs_found text vifs (sym (exact (λ e. absurd cc)))

@@ -27,6 +27,7 @@ pub index_among : (index : ℕ) (rows : List (ℕ × VifText))
 index_among index [] = refl
 index_among index (row ∷ rows) = rw (index_among index rows) refl
 
+-- a device that equals `none` is it
 is_none : (device : List ℕ) → bytes_eq device no_device ≡ true → device ≡ no_device
 is_none device e = (bytes_eq-Decides device no_device).0 e
 
@@ -44,6 +45,7 @@ device_among_cons other device true rest keys none some same =
 device_among_cons other device false rest keys none some same =
     rw (nat_list_eq_equiv.symm other.1.device device, same) refl
 
+-- and so of all rows
 pub device_among : (device : List ℕ) (rows : List (ℕ × VifText)) → bytes_eq device no_device ≡ false
     → list_any (λ row. bytes_eq row.1.device device) rows
     ≡ list_any (bytes_eq device) (filter_map device_of rows)
@@ -63,12 +65,14 @@ device_repeats_is earlier row some =
 
 -- ---- the map
 
+-- a key that differs from all is none of them
 none_same : {K : Type 0} (same : K → K → Bool) (key : K) (keys : List K)
     → AllByRecursion (λ other. same key other ≡ false) keys → list_any (same key) keys ≡ false
 none_same same key [] all = refl
 none_same same key (other ∷ keys) all =
     or_from (same key other) _ all.0 (none_same same key keys all.1)
 
+-- the first row's index finds its vif
 found_at : (index : ℕ) (row : ℕ × VifText) (rows : List (ℕ × VifText)) → index ≡ row.0
     → find nat_cmp index (row ∷ rows) ≡ Some row.1
 found_at index row rows e =
@@ -76,13 +80,14 @@ found_at index row rows e =
     unsigned_tied index row.0 ∙ eq-eqb index row.0 e in
     ap (λ b. cond b (Some row.1) (find nat_cmp index rows)) t
 
--- the first row with an index has what the map has there
+-- the vif of the row that passes first, or of a later one
 find_among : (row : ℕ × VifText) (b : Bool) (later : Option (ℕ × VifText))
     → option_map (λ r. r.1) (cond b (Some row) later)
     ≡ cond b (Some row.1) (option_map (λ r. r.1) later)
 find_among row true later = refl
 find_among row false later = refl
 
+-- the first row with an index has what the map has there
 pub find_first : (index : ℕ) (rows : List (ℕ × VifText))
     → option_map (λ row. row.1) (lists.find (λ row. nat_eq row.0 index) rows)
     ≡ find nat_cmp index rows
@@ -93,6 +98,7 @@ find_first index (row ∷ rows) =
     find_among row (nat_eq row.0 index) (lists.find (λ r. nat_eq r.0 index) rows)
     ∙ rw (tied, find_first index rows) refl
 
+-- another index is found among the rows after it
 found_after : (index : ℕ) (row : ℕ × VifText) (rows : List (ℕ × VifText)) → (index ≡ row.0 → ⊥)
     → find nat_cmp index (row ∷ rows) ≡ find nat_cmp index rows
 found_after index row rows ne =
@@ -100,15 +106,18 @@ found_after index row rows ne =
     unsigned_tied index row.0 ∙ ne_eqb index row.0 ne in
     ap (λ b. cond b (Some row.1) (find nat_cmp index rows)) t
 
+-- what was found has this device
 abbrev Has : List ℕ → Option VifText → Type 0
 Has device found = IsSomeAnd found (λ vif. vif.device ≡ device)
 
+-- the index of the row that passes first, or of a later one
 first_among : (row : ℕ × VifText) (b : Bool) (later : Option (ℕ × VifText))
     → option_map (λ r. r.0) (cond b (Some row) later)
     ≡ cond b (Some row.0) (option_map (λ r. r.0) later)
 first_among row true later = refl
 first_among row false later = refl
 
+-- the first index of a device is the first row's, or a later one
 first_cons : (device : List ℕ) (row : ℕ × VifText) (rows : List (ℕ × VifText))
     → first_index_with device (row ∷ rows)
     ≡ cond (bytes_eq row.1.device device) (Some row.0) (first_index_with device rows)
@@ -153,6 +162,7 @@ index_found device (row ∷ rows) index distinct e =
           (index_found device rows index (IsDistinct-tail nat_eq row.0 _ distinct) h)
     ] refl (sym (first_cons device row rows) ∙ e)
 
+-- the keys after the first differ too
 distinct_rest : (key : Option (List ℕ)) (keys : List (List ℕ))
     → IsDistinct bytes_eq (cons_option key keys) → IsDistinct bytes_eq keys
 distinct_rest None keys distinct = distinct
@@ -206,6 +216,7 @@ index_only device (row ∷ rows) index some distinct h =
           ] refl
     ]
 
+-- the index that is answered has the device in the map
 pub index_found_in_map : (device : List ℕ) (rows : List (ℕ × VifText)) (answer : Option ℕ)
     → IsDistinct nat_eq (map (λ row. row.0) rows) → answer ≡ first_index_with device rows
     → IfSome answer (λ index. HasDevice (from_entries rows) index device)
@@ -214,6 +225,7 @@ index_found_in_map device rows (Some index) distinct is =
     subst (Has device) (sym (get-from_entries nat_cmp_total rows index))
     (index_found device rows index distinct (sym is))
 
+-- the index that has the device in the map is answered
 pub index_only_in_map : (device : List ℕ) (rows : List (ℕ × VifText)) (index : ℕ)
     → (device ≡ no_device → ⊥) → IsDistinct bytes_eq (filter_map device_of rows)
     → HasDevice (from_entries rows) index device → first_index_with device rows ≡ Some index
@@ -224,6 +236,7 @@ index_only_in_map device rows index some distinct has =
 
 -- ---- the indexes
 
+-- an index that is found among rows of indexes up to 31 is 31 at most
 find_to_31 : (rows : List (ℕ × VifText)) (index : ℕ) → AllByRecursion (λ row. row.0 ≤ 31) rows
     → IsSome (find nat_cmp index rows) → index ≤ 31
 find_to_31 [] index all there = absurd (let wrong = there in cc)
@@ -234,15 +247,18 @@ find_to_31 (row ∷ rows) index all there =
           (subst IsSome (found_after index row rows apart) there)
     ]
 
+-- and so one that the map has
 pub index_in_map : (rows : List (ℕ × VifText)) (index : ℕ) → AllByRecursion (λ row. row.0 ≤ 31) rows
     → IsSome (get (from_entries {R = nat_cmp} rows) index) → index ≤ 31
 index_in_map rows index all there =
     find_to_31 rows index all (subst IsSome (get-from_entries nat_cmp_total rows index) there)
 
+-- what has a device is there
 there_with : (device : List ℕ) (o : Option VifText) → Has device o → IsSome o
 there_with device None has = absurd has
 there_with device (Some vif) has = refl
 
+-- and so is an index that is answered
 pub answer_in_map : (device : List ℕ) (rows : List (ℕ × VifText)) (answer : Option ℕ)
     → AllByRecursion (λ row. row.0 ≤ 31) rows
     → IfSome answer (λ index. HasDevice (from_entries rows) index device)

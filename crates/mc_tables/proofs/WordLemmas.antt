@@ -25,6 +25,7 @@ pub guarded_is : {A : Type 0} (b : Bool) (x y : A) → cond b (Some x) None ≡ 
 guarded_is true x y e = (refl, cc)
 guarded_is false x y e = absurd cc
 
+-- a digit that passes the test is below 10
 digit_small : (c : ℕ) → is_ascii_digit c ≡ true → digit_value c < 10
 digit_small c e =
     let p = and_parts (nat_le 48 c) (nat_le c 57) e in
@@ -35,19 +36,23 @@ digit_small c e =
       digit_value_digit c (leb-true 48 c p.0, leb-true c 57 p.1),
     )
 
+-- a digit below 10 passes the test
 digit_passes : (c : ℕ) → digit_value c < 10 → is_ascii_digit c ≡ true
 digit_passes c h = let r = digit_from_value c h in
     and_from (nat_le 48 c) (nat_le c 57) (le-leb 48 c r.0) (le-leb c 57 r.1)
 
+-- digits that pass the test are digits to the base 10
 all_digits : (word : List ℕ) → list_all is_ascii_digit word ≡ true → AllDigits 10 word
 all_digits [] e = tt
 all_digits (c ∷ cs) e = let p = and_parts (is_ascii_digit c) _ e in
     (digit_small c p.0, all_digits cs p.1)
 
+-- and digits to that base pass it
 digits_pass : (word : List ℕ) → AllDigits 10 word → list_all is_ascii_digit word ≡ true
 digits_pass [] h = refl
 digits_pass (c ∷ cs) h = and_from (is_ascii_digit c) _ (digit_passes c h.0) (digits_pass cs h.1)
 
+-- the number that is read is what the word writes
 pub number_found : (least most : ℕ) (word : List ℕ) (n : ℕ) → number_in least most word ≡ Some n
     → WritesNumber least most word n
 number_found least most word n e =
@@ -62,6 +67,7 @@ number_found least most word n e =
       omega (arith, g.1),
     )
 
+-- the number that the word writes is read
 pub number_only : (least most : ℕ) (word : List ℕ) (n : ℕ) → WritesNumber least most word n
     → number_in least most word ≡ Some n
 number_only least most word n h =

@@ -1,5 +1,6 @@
 -- Reading a text of /proc/net/ip_mr_cache from its front: its table, or the first fault.
-use Rattle.std.specs.Prelude.{ℕ, ◌==◌, nat_eq, nat_lt, Bool, not, if◌then◌else◌, List, [], ◌∷◌, length, map, Option, Some, None, Result, Ok, Err, codes}
+use Rattle.std.specs.Prelude.{ℕ, ◌==◌, nat_eq, nat_lt, Bool, not, if◌then◌else◌, List, [], ◌∷◌}
+use Rattle.std.specs.Prelude.{length, map, Option, Some, None, Result, Ok, Err, codes}
 use Rattle.std.specs.Option.{ok_or}
 use Rattle.std.specs.List.{list_any, filter_map, slice_split}
 use Rattle.std.specs.FinMap.{from_entries}
@@ -11,7 +12,11 @@ use Rattle.mc_tables.specs.declared.entry.Oif.{Oif}
 use Rattle.mc_tables.specs.declared.entry.Entry.{Entry}
 use Rattle.mc_tables.specs.declared.fault.TableFault.{TableFault}
 use Rattle.mc_tables.specs.declared.fault.TableFaultKind.{TableFaultKind}
-use Rattle.mc_tables.specs.declared.fault.TableFaultKind.TheVariants.{Unended, WordCount, BadCounter, BadAddress, BadIif, BadOif, BadThreshold, RepeatedOif, RepeatedEntry, TooLarge}
+use Rattle.mc_tables.specs.declared.fault.TableFaultKind.TheVariants.{Unended, WordCount}
+use Rattle.mc_tables.specs.declared.fault.TableFaultKind.TheVariants.{BadCounter, BadAddress}
+use Rattle.mc_tables.specs.declared.fault.TableFaultKind.TheVariants.{BadIif, BadOif, BadThreshold}
+use Rattle.mc_tables.specs.declared.fault.TableFaultKind.TheVariants.{RepeatedOif, RepeatedEntry}
+use Rattle.mc_tables.specs.declared.fault.TableFaultKind.TheVariants.{TooLarge}
 use Rattle.mc_tables.specs.Steps.{◌>>=◌, demand, at_line}
 use Rattle.mc_tables.specs.TableWords.{is_counter, number_in, address_in}
 use Rattle.mc_tables.specs.TableLines.{is_among, lines_in, rows_after}
@@ -53,7 +58,8 @@ incoming_number None = Err BadIif
 incoming_number (Some iif) = Ok (Some iif)
 
 abbrev pub incoming_in : List ℕ → Result (Option ℕ) TableFaultKind
-incoming_in word = if bytes_eq word (codes "-1") then Ok None else incoming_number (number_in 0 31 word)
+incoming_in word =
+    if bytes_eq word (codes "-1") then Ok None else incoming_number (number_in 0 31 word)
 
 abbrev pub entry_in : Option ℕ → List (List ℕ) → Result (Option Entry) TableFaultKind
 entry_in None [] = Ok None

@@ -1,5 +1,6 @@
 -- A cache that grows by a row at a time, while its lines are read.
-use Rattle.std.specs.Prelude.{ℕ, ◌+◌, nat_lt, Bool, false, not, List, [], ◌∷◌, Option, Some, None, is_some, Result, Ok}
+use Rattle.std.specs.Prelude.{ℕ, ◌+◌, nat_lt, Bool, false, not, List, [], ◌∷◌, Option, Some, None}
+use Rattle.std.specs.Prelude.{is_some, Result, Ok}
 use Rattle.std.specs.FinMap as map
 use Rattle.std.specs.FinSet as set
 use Rattle.std.specs.Ordering.{nat_cmp}
@@ -9,7 +10,8 @@ use Rattle.mc_text.specs.Words.{words_of}
 use Rattle.mc_tables.specs.declared.entry.Entry.{Entry}
 use Rattle.mc_tables.specs.declared.fault.TableFault.{TableFault}
 use Rattle.mc_tables.specs.declared.fault.TableFaultKind.{TableFaultKind}
-use Rattle.mc_tables.specs.declared.fault.TableFaultKind.TheVariants.{Unended, TooLarge, RepeatedEntry}
+use Rattle.mc_tables.specs.declared.fault.TableFaultKind.TheVariants.{Unended, TooLarge}
+use Rattle.mc_tables.specs.declared.fault.TableFaultKind.TheVariants.{RepeatedEntry}
 use Rattle.mc_tables.specs.Steps.{◌>>=◌, demand, at_line}
 use Rattle.mc_tables.specs.CacheTable.{RowText, CacheText, key_cmp, exact_entry, wildcard_of}
 use Rattle.mc_tables.specs.CacheReading.{row_in_words}
@@ -20,7 +22,8 @@ has_key entries None = false
 has_key entries (Some exact) = is_some (map.get entries exact.0)
 
 -- one entry more, if it is one
-abbrev pub with_exact : map.FinMap key_cmp Entry → Option ((ℕ × ℕ) × Entry) → map.FinMap key_cmp Entry
+abbrev pub with_exact : map.FinMap key_cmp Entry → Option ((ℕ × ℕ) × Entry)
+    → map.FinMap key_cmp Entry
 with_exact entries None = entries
 with_exact entries (Some exact) = map.insert entries exact.0 exact.1
 
@@ -46,7 +49,8 @@ entry_added table key entry = do
 
 -- a group more
 abbrev pub group_added : CacheText → ℕ → CacheText
-group_added table group = record { entries = table.entries; wildcards = set.insert table.wildcards group }
+group_added table group =
+    record { entries = table.entries; wildcards = set.insert table.wildcards group }
 
 -- the row of a line after so many others
 abbrev pub row_with_room : Order → ℕ → LineText → Result RowText TableFaultKind
@@ -63,4 +67,5 @@ line_added order count table line = row_with_room order count line >>= row_added
 abbrev pub table_after : Order → ℕ → CacheText → List LineText → Result CacheText TableFault
 table_after order count table [] = Ok table
 table_after order count table (line ∷ lines) =
-    at_line line.number (line_added order count table line) >>= λ more. table_after order (count + 1) more lines
+    at_line line.number (line_added order count table line) >>= λ more.
+    table_after order (count + 1) more lines

@@ -1,6 +1,8 @@
--- What a text of /proc/net/ip_mr_cache says (ipmr_mfc_seq_show in net/ipv4/ipmr.c, which writes a line by
--- "%08X %08X %-3hd", " %8lu %8lu %8lu" and for each outgoing vif " %2d:%-3d").
-use Rattle.std.specs.Prelude.{◌≡◌, ℕ, ◌≤◌, ◌==◌, nat_eq, Bool, IsTrue, List, [], ◌∷◌, ◌++◌, length, map as map_list, Option, Some, None, if◌then◌else◌, IfSome, codes, refl}
+-- What a text of /proc/net/ip_mr_cache says (ipmr_mfc_seq_show in net/ipv4/ipmr.c, which writes a
+-- line by "%08X %08X %-3hd", " %8lu %8lu %8lu" and for each outgoing vif " %2d:%-3d").
+use Rattle.std.specs.Prelude.{◌≡◌, ℕ, ◌≤◌, ◌==◌, nat_eq, Bool, IsTrue, List, [], ◌∷◌, ◌++◌, length}
+use Rattle.std.specs.Prelude.{map as map_list, Option, Some, None, if◌then◌else◌, IfSome, codes}
+use Rattle.std.specs.Prelude.{refl}
 use Rattle.std.specs.List.{IsDistinct, AllByRecursion, filter_map}
 use Rattle.std.specs.List.Sorted.{IsStrictlyIncreasing}
 use Rattle.std.specs.Option.{option_map}
@@ -44,16 +46,18 @@ pub record WriteOifs (words : List (List ℕ)) (oifs : List Oif) : Type 0 where
 -- the word of an incoming vif and the outgoing words: `-1` alone in an unresolved row
 abbrev pub WriteEntry : List ℕ → List (List ℕ) → Option Entry → Type 0
 WriteEntry iif outgoing None = (iif ≡ codes "-1") × (outgoing ≡ [])
-WriteEntry iif outgoing (Some entry) = WritesNumber 0 31 iif entry.iif × WriteOifs outgoing entry.oifs
+WriteEntry iif outgoing (Some entry) =
+    WritesNumber 0 31 iif entry.iif × WriteOifs outgoing entry.oifs
 
--- a row: a group, an origin, which is 0 in a row for every source, and an entry unless the row is unresolved
+-- a row: a group, an origin, which is 0 in a row for every source, and an entry unless the row is
+-- unresolved
 pub record RowText : Type 0 where
   pub group : ℕ
   pub origin : ℕ
   pub entry : Option Entry
 
--- Words tell a row: group, origin, incoming vif, packets, bytes, packets from a wrong vif, and the outgoing
--- vifs.
+-- Words tell a row: group, origin, incoming vif, packets, bytes, packets from a wrong vif, and the
+-- outgoing vifs.
 abbrev pub WordsTellRow : Order → List (List ℕ) → RowText → Type 0
 WordsTellRow order (group ∷ origin ∷ iif ∷ packets ∷ bytes ∷ wrong ∷ outgoing) row =
     WritesAddress order group row.group × WritesAddress order origin row.origin
@@ -109,16 +113,16 @@ table_of rows = record {
   wildcards = set.from_list (filter_map wildcard_of rows);
 }
 
--- What each entry of a table is: vifs from 0 to 31, of which the outgoing ones ascend, so that none stands
--- twice, and thresholds from 1 to 254.
+-- What each entry of a table is: vifs from 0 to 31, of which the outgoing ones ascend, so that none
+-- stands twice, and thresholds from 1 to 254.
 pub record IsEntry (entry : Entry) : Type 0 where
   pub incoming : entry.iif ≤ 31
   pub ascending : IsStrictlyIncreasing (map_list (λ oif. oif.vif) entry.oifs)
   pub ranges : AllByRecursion
       (λ oif. (oif.vif ≤ 31) × (1 ≤ oif.threshold) × (oif.threshold ≤ 254)) entry.oifs
 
--- What every table keeps, whatever text it was read from: each entry stands as above, and none is for the source
--- 0.0.0.0.
+-- What every table keeps, whatever text it was read from: each entry stands as above, and none is
+-- for the source 0.0.0.0.
 pub record IsCache (table : CacheText) : Type 0 where
   pub entries : (key : ℕ × ℕ) → IfSome (map.get table.entries key) IsEntry
   pub sources : (group : ℕ) → map.get table.entries (0, group) ≡ None

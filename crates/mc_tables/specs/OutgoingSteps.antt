@@ -1,12 +1,27 @@
 -- Outgoing vifs that are kept by ascending vif while their words are read.
-use Rattle.std.specs.Prelude.{ℕ, ◌==◌, nat_lt, Bool, not, List, [], ◌∷◌, insert, Result, Ok}
+use Rattle.std.specs.Prelude.{ℕ, ◌==◌, nat_lt, Bool, not, List, [], ◌∷◌, insert, Result, Ok, Err}
+use Rattle.std.specs.Option.{ok_or}
 use Rattle.std.specs.List.{list_any, position_or_len}
 use Rattle.mc_tables.specs.declared.entry.Oif.{Oif}
 use Rattle.mc_tables.specs.declared.fault.TableFaultKind.{TableFaultKind}
+use Rattle.mc_tables.specs.declared.fault.TableFaultKind.TheVariants.{BadOif, BadThreshold}
 use Rattle.mc_tables.specs.declared.fault.TableFaultKind.TheVariants.{RepeatedOif}
 use Rattle.mc_tables.specs.Steps.{◌>>=◌, demand}
+use Rattle.mc_tables.specs.TableWords.{number_in}
 use Rattle.mc_tables.specs.CacheTable.{to_oif}
 use Rattle.mc_tables.specs.CacheReading.{oif_in}
+
+-- the threshold of the parts after the first colon, of which there has to be one
+abbrev pub threshold_in : List (List ℕ) → Result ℕ TableFaultKind
+threshold_in (threshold ∷ []) = ok_or (number_in 1 254 threshold) BadThreshold
+threshold_in parts = Err BadOif
+
+-- the outgoing vif of the part before the first colon and of those after it
+abbrev pub oif_in_turn : List ℕ → List (List ℕ) → Result (ℕ × ℕ) TableFaultKind
+oif_in_turn vif after = do
+  v ← ok_or (number_in 0 31 vif) BadOif
+  t ← threshold_in after
+  Ok (v, t)
 
 -- one of them is this one
 abbrev pub has_vif : List Oif → ℕ → Bool
@@ -14,7 +29,8 @@ has_vif oifs vif = list_any (λ other. other.vif == vif) oifs
 
 -- one more at its place by vif
 abbrev pub with_oif : List Oif → ℕ × ℕ → List Oif
-with_oif oifs oif = insert oifs (position_or_len (λ other. nat_lt oif.0 other.vif) oifs) (to_oif oif)
+with_oif oifs oif =
+    insert oifs (position_or_len (λ other. nat_lt oif.0 other.vif) oifs) (to_oif oif)
 
 -- that of the word more
 abbrev pub oifs_with : List Oif → List ℕ → Result (List Oif) TableFaultKind

@@ -1,5 +1,6 @@
 -- The kernel's tables line by line: a header, and then a line for each row.
-use Rattle.std.specs.Prelude.{◌≡◌, ℕ, ◌≤◌, nat_lt, Bool, false, IsTrue, List, [], ◌∷◌, ◌++◌, length, Option, Some, None, Result, Ok, Err, if◌then◌else◌}
+use Rattle.std.specs.Prelude.{◌≡◌, ℕ, ◌≤◌, nat_lt, Bool, false, IsTrue, List, [], ◌∷◌, ◌++◌, length}
+use Rattle.std.specs.Prelude.{Option, Some, None, Result, Ok, Err, if◌then◌else◌}
 use Rattle.std.specs.List.{list_any}
 use Rattle.std.specs.Str.{bytes_eq}
 use Rattle.mc_text.specs.Lines.{LineText, lines_of}
@@ -15,8 +16,8 @@ abbrev pub begins_with : List ℕ → List (List ℕ) → Bool
 begins_with first [] = false
 begins_with first (word ∷ words) = bytes_eq word first
 
--- The text has at most 16,777,216 bytes. A line feed ends its header, whose first word is this one, and these are the
--- lines after the header.
+-- The text has at most 16,777,216 bytes. A line feed ends its header, whose first word is this one,
+-- and these are the lines after the header.
 pub record HasHeader (first : List ℕ) (text : List ℕ) (lines : List LineText) : Type 0 where
   pub size : length text ≤ 16777216
   pub header : LineText
@@ -51,7 +52,8 @@ lines_in first text =
     else header_in first (lines_of text)
 
 -- the rows of the lines, each of which is read after the earlier ones
-abbrev pub rows_after : {L R E : Type 0} → (List R → L → Result R E) → List R → List L → Result (List R) E
+abbrev pub rows_after : {L R E : Type 0} → (List R → L → Result R E) → List R → List L
+    → Result (List R) E
 rows_after row_in earlier [] = Ok earlier
 rows_after row_in earlier (line ∷ lines) =
     row_in earlier line >>= λ row. rows_after row_in (earlier ++ row ∷ []) lines

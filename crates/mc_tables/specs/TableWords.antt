@@ -1,5 +1,6 @@
 -- The words of the kernel's tables: what each kind of word is, and the value that it writes.
-use Rattle.std.specs.Prelude.{ℕ, ◌≤◌, ◌==◌, nat_le, Bool, ◌&&◌, List, length, drop, reverse, slice_index, Option, Some, None, Result, Ok, Err, if◌then◌else◌}
+use Rattle.std.specs.Prelude.{ℕ, ◌≤◌, ◌==◌, nat_le, Bool, ◌&&◌, List, length, drop, reverse}
+use Rattle.std.specs.Prelude.{slice_index, Option, Some, None, Result, Ok, Err, if◌then◌else◌}
 use Rattle.std.specs.Char.{is_ascii_digit, is_ascii_hexdigit}
 use Rattle.std.specs.List.{list_all}
 use Rattle.std.specs.Int.{w32, from_be_bytes}
@@ -40,7 +41,8 @@ is_decimal word = nat_le 1 (length word) && list_all is_ascii_digit word
 -- the number that it writes
 abbrev pub number_in : ℕ → ℕ → List ℕ → Option ℕ
 number_in least most word =
-    if is_decimal word && (nat_le least (digits_value 10 word) && nat_le (digits_value 10 word) most)
+    if is_decimal word
+    && (nat_le least (digits_value 10 word) && nat_le (digits_value 10 word) most)
     then Some (digits_value 10 word)
     else None
 

@@ -10,8 +10,8 @@ use Rattle.mc_tables.specs.VifTable.{VifText, no_device}
 abbrev pub HasDevice : FinMap nat_cmp VifText → ℕ → List ℕ → Type 0
 HasDevice vifs index device = IsSomeAnd (get vifs index) (λ vif. vif.device ≡ device)
 
--- What every table keeps, whatever text it was read from: indexes are 0 to 31, and two vifs have one device only
--- where it is `none`.
+-- What every table keeps, whatever text it was read from: indexes are 0 to 31, and two vifs have
+-- one device only where it is `none`.
 pub record IsVifTable (vifs : FinMap nat_cmp VifText) : Type 0 where
   pub numbered : (index : ℕ) → IsSome (get vifs index) → index ≤ 31
   pub devices_differ : (device : List ℕ) (i j : ℕ) → device ≢ no_device →
@@ -19,4 +19,5 @@ pub record IsVifTable (vifs : FinMap nat_cmp VifText) : Type 0 where
 
 -- the index of the first row with this device
 abbrev pub first_index_with : List ℕ → List (ℕ × VifText) → Option ℕ
-first_index_with device rows = option_map (λ row. row.0) (find (λ row. bytes_eq row.1.device device) rows)
+first_index_with device rows =
+    option_map (λ row. row.0) (find (λ row. bytes_eq row.1.device device) rows)

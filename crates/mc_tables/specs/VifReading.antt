@@ -1,5 +1,6 @@
 -- Reading a text of /proc/net/ip_mr_vif from its front: its vifs, or the first fault.
-use Rattle.std.specs.Prelude.{ℕ, nat_eq, Bool, not, if◌then◌else◌, List, [], ◌∷◌, map, Result, Ok, Err, codes}
+use Rattle.std.specs.Prelude.{ℕ, nat_eq, Bool, not, if◌then◌else◌, List, [], ◌∷◌, map, Result, Ok}
+use Rattle.std.specs.Prelude.{Err, codes}
 use Rattle.std.specs.Option.{ok_or}
 use Rattle.std.specs.List.{list_any, filter_map}
 use Rattle.std.specs.Ordering.{nat_cmp}
@@ -11,7 +12,10 @@ use Rattle.mc_text.specs.Words.{words_of}
 use Rattle.mc_text.specs.DeviceName.{is_device_name}
 use Rattle.mc_tables.specs.declared.fault.TableFault.{TableFault}
 use Rattle.mc_tables.specs.declared.fault.TableFaultKind.{TableFaultKind}
-use Rattle.mc_tables.specs.declared.fault.TableFaultKind.TheVariants.{Unended, WordCount, BadIndex, BadDevice, BadCounter, BadFlags, BadAddress, RepeatedIndex, RepeatedDevice}
+use Rattle.mc_tables.specs.declared.fault.TableFaultKind.TheVariants.{Unended, WordCount, BadIndex}
+use Rattle.mc_tables.specs.declared.fault.TableFaultKind.TheVariants.{BadDevice, BadCounter}
+use Rattle.mc_tables.specs.declared.fault.TableFaultKind.TheVariants.{BadFlags, BadAddress}
+use Rattle.mc_tables.specs.declared.fault.TableFaultKind.TheVariants.{RepeatedIndex, RepeatedDevice}
 use Rattle.mc_tables.specs.Steps.{◌>>=◌, demand, at_line}
 use Rattle.mc_tables.specs.TableWords.{is_counter, is_hexadecimal, number_in}
 use Rattle.mc_tables.specs.TableLines.{is_among, lines_in, rows_after}
@@ -27,17 +31,18 @@ flags_in word = if is_hexadecimal 5 8 word then Ok (digits_value 16 word) else E
 
 -- the words from the left
 unfoldable pub vif_in_words : List (List ℕ) → Result (ℕ × VifText) TableFaultKind
-vif_in_words (index ∷ device ∷ bytes_in ∷ packets_in ∷ bytes_out ∷ packets_out ∷ flags ∷ local ∷ remote ∷ []) = do
-  i ← ok_or (number_in 0 31 index) BadIndex
-  name ← device_in device
-  _ ← demand (is_counter bytes_in) BadCounter
-  _ ← demand (is_counter packets_in) BadCounter
-  _ ← demand (is_counter bytes_out) BadCounter
-  _ ← demand (is_counter packets_out) BadCounter
-  bits ← flags_in flags
-  _ ← demand (is_hexadecimal 8 8 local) BadAddress
-  _ ← demand (is_hexadecimal 8 8 remote) BadAddress
-  Ok (i, record { device = name; tunnel = is_tunnel bits; register = is_register bits })
+vif_in_words (index ∷ device ∷ bytes_in ∷ packets_in ∷ bytes_out ∷ packets_out ∷ flags ∷ local
+    ∷ remote ∷ []) = do
+      i ← ok_or (number_in 0 31 index) BadIndex
+      name ← device_in device
+      _ ← demand (is_counter bytes_in) BadCounter
+      _ ← demand (is_counter packets_in) BadCounter
+      _ ← demand (is_counter bytes_out) BadCounter
+      _ ← demand (is_counter packets_out) BadCounter
+      bits ← flags_in flags
+      _ ← demand (is_hexadecimal 8 8 local) BadAddress
+      _ ← demand (is_hexadecimal 8 8 remote) BadAddress
+      Ok (i, record { device = name; tunnel = is_tunnel bits; register = is_register bits })
 vif_in_words words = Err WordCount
 
 -- an earlier row has the index

@@ -1,6 +1,7 @@
--- What a text of /proc/net/ip_mr_vif says (ipmr_vif_seq_show in net/ipv4/ipmr.c, which writes a line by
--- "%2td %-10s %8ld %7ld  %8ld %7ld %05X %08X %08X\n").
-use Rattle.std.specs.Prelude.{◌≡◌, ℕ, ◌==◌, nat_eq, Bool, not, bit_and, IsTrue, List, [], ◌∷◌, map, Option, Some, None, if◌then◌else◌, codes, refl}
+-- What a text of /proc/net/ip_mr_vif says (ipmr_vif_seq_show in net/ipv4/ipmr.c, which writes a
+-- line by "%2td %-10s %8ld %7ld  %8ld %7ld %05X %08X %08X\n").
+use Rattle.std.specs.Prelude.{◌≡◌, ℕ, ◌==◌, nat_eq, Bool, not, bit_and, IsTrue, List, [], ◌∷◌, map}
+use Rattle.std.specs.Prelude.{Option, Some, None, if◌then◌else◌, codes, refl}
 use Rattle.std.specs.List.{IsDistinct, filter_map}
 use Rattle.std.specs.Ordering.{nat_cmp}
 use Rattle.std.specs.Str.{bytes_eq}
@@ -43,14 +44,16 @@ pub record WritesFlags (word : List ℕ) (vif : VifText) : Type 0 where
   pub tunnel : vif.tunnel ≡ is_tunnel (digits_value 16 word)
   pub register : vif.register ≡ is_register (digits_value 16 word)
 
--- Nine words tell a vif and its index: index, device, bytes in, packets in, bytes out, packets out, flags, local address
--- (or interface index) and remote address.
+-- Nine words tell a vif and its index: index, device, bytes in, packets in, bytes out, packets out,
+-- flags, local address (or interface index) and remote address.
 abbrev pub WordsTellVif : List (List ℕ) → ℕ × VifText → Type 0
-WordsTellVif (index ∷ device ∷ bytes_in ∷ packets_in ∷ bytes_out ∷ packets_out ∷ flags ∷ local ∷ remote ∷ []) row =
+WordsTellVif (index ∷ device ∷ bytes_in ∷ packets_in ∷ bytes_out ∷ packets_out ∷ flags ∷ local
+    ∷ remote ∷ []) row =
     WritesNumber 0 31 index row.0 × (IsTrue (is_device_name device) × (row.1.device ≡ device))
     × IsTrue (is_counter bytes_in) × IsTrue (is_counter packets_in)
     × IsTrue (is_counter bytes_out) × IsTrue (is_counter packets_out)
-    × WritesFlags flags row.1 × IsTrue (is_hexadecimal 8 8 local) × IsTrue (is_hexadecimal 8 8 remote)
+    × WritesFlags flags row.1
+    × IsTrue (is_hexadecimal 8 8 local) × IsTrue (is_hexadecimal 8 8 remote)
 WordsTellVif words row = ⊥
 
 -- a line that a line feed ends

@@ -52,7 +52,8 @@ impl CacheRows {
     /// Adds a row. After an error the rows are of no use.
     pub fn add(&mut self, row: CacheRow) -> Result<(), TableFaultKind>
         ensures added { OnOk result (row_added self.old row ≡ Ok self.new) }
-        ensures fault { IfErr result (λ fault. fault ≢ Memory → row_added self.old row ≡ Err fault) }
+        ensures fault { IfErr result (λ fault. fault ≢ Memory →
+            row_added self.old row ≡ Err fault) }
     {
         let CacheRow {
             group,

@@ -1,6 +1,7 @@
 //! The forwarding cache, `/proc/net/ip_mr_cache`.
 
-ghost use Rattle.std.specs.Prelude.{◌≡◌, ◌≢◌, ◌<◌, ◌||◌, [], OnOk, IfOk, IfErr, IfSome, Ok, Err, None};
+ghost use Rattle.std.specs.Prelude.{◌≡◌, ◌≢◌, ◌<◌, ◌||◌, [], OnOk, IfOk, IfErr, IfSome, Ok, Err};
+ghost use Rattle.std.specs.Prelude.{None};
 ghost use Rattle.std.specs.Option.{option_copied};
 ghost use Rattle.std.specs.FinMap as map;
 ghost use Rattle.std.specs.FinSet as set;
@@ -120,7 +121,8 @@ fn add_line(
     order: Order,
 ) -> Result<(), TableFaultKind>
     ensures room { OnOk result (count < 65536) }
-    ensures added { OnOk result (line_added order count rows.old (line_text line.now) ≡ Ok rows.new) }
+    ensures added { OnOk result
+        (line_added order count rows.old (line_text line.now) ≡ Ok rows.new) }
     ensures fault { IfErr result (λ fault. fault ≢ Memory →
         line_added order count rows.old (line_text line.now) ≡ Err fault) }
 {

@@ -47,9 +47,9 @@ pub fn vifs_are_numbered_to_31()
         (index : ℕ) → IsSome (get vifs index) → index ≤ 31 }
 {}
 
-/// The vifs of a cache's entries are 0 to 31, the thresholds 1 to 254, and the outgoing vifs ascend,
-/// so that none stands twice.
+/// The vifs of a cache's entries are 0 to 31, the thresholds 1 to 254, and the outgoing vifs
+/// ascend, so that none stands twice.
 pub fn entries_ascend_in_range()
-    ensures { (order : Order) (text : List ℕ) (table : CacheText) → StandsForCache order text table →
-        (key : ℕ × ℕ) → IfSome (get table.entries key) IsEntry }
+    ensures { (order : Order) (text : List ℕ) (table : CacheText) →
+        StandsForCache order text table → (key : ℕ × ℕ) → IfSome (get table.entries key) IsEntry }
 {}

@@ -1,10 +1,12 @@
 //! The outgoing vifs of a row of `/proc/net/ip_mr_cache`.
 
-ghost use Rattle.std.specs.Prelude.{◌≡◌, ◌≢◌, ◌==◌, [], IfOk, IfErr, OnOk, Ok, Err, IfSome, IfNone, nat_lt, ◌∷◌, ◌≤◌, length, position};
-ghost use Rattle.std.specs.List.{position_or_len, slice_split};
+ghost use Rattle.std.specs.Prelude.{◌≡◌, ◌≢◌, ◌==◌, [], IfOk, IfErr, OnOk, Ok, Err, IfSome, IfNone};
+ghost use Rattle.std.specs.Prelude.{None, nat_lt, ◌∷◌, ◌≤◌, length, position};
+ghost use Rattle.std.specs.List.{list_all, position_or_len, slice_split};
 ghost use Rattle.mc_tables.specs.declared.fault.TableFaultKind.TheVariants.{Memory};
-ghost use Rattle.mc_tables.specs.CacheReading.{oif_in_parts, oif_in, oifs_in};
-ghost use Rattle.mc_tables.specs.OutgoingSteps.{has_vif, oifs_with};
+ghost use Rattle.mc_tables.specs.TableWords.{number_in};
+ghost use Rattle.mc_tables.specs.CacheReading.{oif_in, oifs_in};
+ghost use Rattle.mc_tables.specs.OutgoingSteps.{threshold_in, oif_in_turn, has_vif, oifs_with};
 
 use crate::entry::{Oif, Oifs};
 use crate::fault::TableFaultKind;
@@ -26,13 +28,17 @@ pub fn oifs_of_words(alloc: Global, words: Words<'_>) -> Result<Oifs, TableFault
     Ok(Oifs::from_vec(oifs))
 }
 
-/// Adds the outgoing vif of a word.
+/// Adds the outgoing vif of a word. A kernel prints them by ascending vif.
 fn add_oif(oifs: &mut Vec<Oif>, word: &[u8]) -> Result<(), TableFaultKind>
     ensures added { OnOk result (oifs_with oifs.old.items word.now ≡ Ok oifs.new.items) }
     ensures fault { IfErr result (λ fault. fault ≢ Memory →
         oifs_with oifs.old.items word.now ≡ Err fault) }
 {
     let (vif, threshold) = oif_of_word(word)?;
+    if are_below(oifs.as_slice(), vif) {
+        oifs.push(Oif { vif, threshold })?;
+        return Ok(());
+    }
     if has_oif(oifs.as_slice(), vif) {
         return Err(TableFaultKind::RepeatedOif);
     }
@@ -42,7 +48,7 @@ fn add_oif(oifs: &mut Vec<Oif>, word: &[u8]) -> Result<(), TableFaultKind>
 }
 
 /// Reads `n:t`, an outgoing vif and its threshold.
-#[tactic(auto, using(crate::proofs::RowWordLemmas::not_two))]
+#[tactic(auto, using(crate::proofs::RowWordLemmas::no_colon, crate::proofs::RowWordLemmas::parted))]
 fn oif_of_word(word: &[u8]) -> Result<(u8, u8), TableFaultKind>
     ensures { result ≡ oif_in word.now }
 {
@@ -50,27 +56,54 @@ fn oif_of_word(word: &[u8]) -> Result<(u8, u8), TableFaultKind>
     oif_of_parts(vif, threshold)
 }
 
-#[tactic(auto, unfolding(crate::specs::CacheReading::oif_in_parts))]
-fn oif_of_parts(vif: &[u8], threshold: &[u8]) -> Result<(u8, u8), TableFaultKind>
-    ensures { result ≡ oif_in_parts (vif.now ∷ threshold.now ∷ []) }
+/// Reads a vif and what stands after its colon.
+fn oif_of_parts(vif: &[u8], after: &[u8]) -> Result<(u8, u8), TableFaultKind>
+    ensures { result ≡ oif_in_turn vif.now (slice_split (λ b. b == 58) after.now) }
 {
     let vif = number(vif, 0, MAX_VIF).ok_or(TableFaultKind::BadOif)?;
-    let threshold = number(threshold, 1, MAX_THRESHOLD).ok_or(TableFaultKind::BadThreshold)?;
+    let threshold = threshold_of_word(after)?;
     Ok((vif, threshold))
 }
 
-/// The parts before and after the word's colon, if it has one and no other.
+/// The parts before and after the word's first colon, if it has one.
 fn parts_of(word: &[u8]) -> Option<(&[u8], &[u8])>
-    ensures found { IfSome result (λ parts.
-        slice_split (λ b. b == 58) word.now ≡ parts.0.now ∷ parts.1.now ∷ []) }
-    ensures only { IfNone result (length (slice_split (λ b. b == 58) word.now) ≢ 2) }
+    ensures found { IfSome result (λ parts. slice_split (λ b. b == 58) word.now
+        ≡ parts.0.now ∷ slice_split (λ b. b == 58) parts.1.now) }
+    ensures only { IfNone result (slice_split (λ b. b == 58) word.now ≡ word.now ∷ []) }
 {
     let colon = first_place_of(b':', word)?;
-    let threshold = &word[colon + 1..];
-    if first_place_of(b':', threshold).is_some() {
-        return None;
+    Some((&word[..colon], &word[colon + 1..]))
+}
+
+/// Reads a threshold.
+#[tactic(auto, using(crate::proofs::RowWordLemmas::threshold_found))]
+fn threshold_of_word(word: &[u8]) -> Result<u8, TableFaultKind>
+    ensures { result ≡ threshold_in (slice_split (λ b. b == 58) word.now) }
+{
+    match number(word, 1, MAX_THRESHOLD) {
+        Some(threshold) => Ok(threshold),
+        None => Err(fault_of_threshold(word)),
     }
-    Some((&word[..colon], threshold))
+}
+
+/// Why a word is no threshold: it has a second colon, or it writes none.
+#[tactic(auto, using(crate::proofs::RowWordLemmas::refusals))]
+fn fault_of_threshold(word: &[u8]) -> TableFaultKind
+    requires { number_in 1 254 word.now ≡ None }
+    ensures { threshold_in (slice_split (λ b. b == 58) word.now) ≡ Err result }
+{
+    if first_place_of(b':', word).is_some() {
+        TableFaultKind::BadOif
+    } else {
+        TableFaultKind::BadThreshold
+    }
+}
+
+/// Whether all vifs are less than this one.
+fn are_below(oifs: &[Oif], vif: u8) -> bool
+    ensures { result ≡ list_all (λ other. nat_lt other.vif vif) oifs.now }
+{
+    oifs.iter().all(|other| other.vif < vif)
 }
 
 fn has_oif(oifs: &[Oif], vif: u8) -> bool

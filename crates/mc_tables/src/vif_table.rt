@@ -1,6 +1,7 @@
 //! The table of virtual interfaces, `/proc/net/ip_mr_vif`.
 
-ghost use Rattle.std.specs.Prelude.{◌≡◌, ◌≢◌, ◌≤◌, ◌↔◌, ℕ, nat_eq, [], IfOk, IfErr, IfSome, IsSome, Ok, Err, Some, find};
+ghost use Rattle.std.specs.Prelude.{◌≡◌, ◌≢◌, ◌≤◌, ◌↔◌, ℕ, nat_eq, [], IfOk, IfErr, IfSome, IsSome};
+ghost use Rattle.std.specs.Prelude.{Ok, Err, Some, find};
 ghost use Rattle.std.specs.Option.{option_copied, option_map};
 ghost use Rattle.std.specs.List.{list_any};
 ghost use Rattle.std.specs.Ordering.{nat_cmp};
@@ -10,7 +11,8 @@ ghost use Rattle.mc_text.specs.LineView.{line_text};
 ghost use Rattle.mc_tables.specs.Memory.{out_of_memory};
 ghost use Rattle.mc_tables.specs.TableLines.{rows_after};
 ghost use Rattle.mc_tables.specs.VifTable.{VifText, no_device, StandsForVifs};
-ghost use Rattle.mc_tables.specs.VifReading.{index_repeats, device_repeats, vif_in_line, vifs_in_lines, vifs_in};
+ghost use Rattle.mc_tables.specs.VifReading.{index_repeats, device_repeats, vif_in_line};
+ghost use Rattle.mc_tables.specs.VifReading.{vifs_in_lines, vifs_in};
 ghost use Rattle.mc_tables.specs.VifLookups.{HasDevice, IsVifTable, first_index_with};
 
 use crate::fault::{TableFault, TableFaultKind};

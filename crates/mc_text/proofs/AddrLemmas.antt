@@ -1,17 +1,15 @@
 -- Addresses and their octets, and the two calls that read them: of dotted texts and of digits.
-use Rattle.std.proofs.Common.{◌≡◌, ℕ, zero, suc, ◌<◌, List, [], ◌∷◌, length, get_or, None, Result}
-use Rattle.std.proofs.Common.{Ok, Err, MatchResult, refl, sym, ap, ◌∙◌, arith}
+use Rattle.std.proofs.Common.{◌≡◌, ℕ, ◌<◌, List, [], ◌∷◌, length, get_or, Ok}
+use Rattle.std.proofs.Common.{refl, sym, ap, ◌∙◌, arith}
 use Rattle.std.specs.Int.{w32, from_be_bytes}
-use Rattle.std.specs.Result.{result_ok}
 use Rattle.std.specs.Net.Text.{ipv4_text}
 use Rattle.std.specs.Net.Grammar.{IsDotted}
 use Rattle.std.specs.declared.net.ipv4_addr.Ipv4Addr.{Ipv4Addr}
 use Rattle.std.proofs.NetLemmas.Texts.{IsDotted-ipv4_text}
 use Rattle.std.proofs.NetLemmas.Theorems.{IsIpv4Text_unique}
 use Rattle.std.proofs.lemmas.Nat.{be_bytes_4, from_be_bytes-to_be_bytes_4}
-use Rattle.hex.specs.Hex.{decode_of, decode_sized}
-use Rattle.hex.specs.declared.error.FromHexError.{FromHexError}
-use Rattle.hex.proofs.HexLemmas.{decode_sized-twice, decode_of-ok}
+use Rattle.hex.specs.Hex.{decode_of}
+use Rattle.hex.proofs.HexLemmas.{decode_of-ok}
 use Rattle.mc_text.specs.declared.addr.Order.{Order}
 use Rattle.mc_text.specs.declared.addr.Order.TheVariants.{Little, Big}
 use Rattle.mc_text.specs.Addr.{IsAddr, octets_of, dotted}
@@ -20,11 +18,7 @@ use Rattle.mc_text.specs.AddressWord.{printed_octets}
 -- where four numbers are bytes, what is read at any place is one
 four_fit : (a b c d k : ℕ) → a < 256 → b < 256 → c < 256 → d < 256
     → get_or (a ∷ b ∷ c ∷ d ∷ []) k 0 < 256
-four_fit a b c d zero p q r s = p
-four_fit a b c d (suc zero) p q r s = q
-four_fit a b c d (suc (suc zero)) p q r s = r
-four_fit a b c d (suc (suc (suc zero))) p q r s = s
-four_fit a b c d (suc (suc (suc (suc k)))) p q r s = omega arith
+four_fit a b c d k p q r s = grind arith
 
 -- each octet of an address is below 256
 pub octets_fit : (a k : ℕ) → get_or (octets_of a) k 0 < 256
@@ -60,16 +54,6 @@ dotted_once text octets a fits d e =
     let same = IsIpv4Text_unique text (record { octets = octets })
     (record { octets = octets_of a }) d own in
     ap (λ (x : Ipv4Addr). from_be_bytes w32 x.octets) same ∙ from_be_bytes-to_be_bytes_4 a fits
-
--- where decoding into room for four failed no four bytes are written
-pub not_decoded : (word bytes out : List ℕ) (r : Result (Unit {0}) FromHexError) → length bytes ≡ 4
-    → decode_of word ≡ Ok bytes
-    → MatchResult (decode_sized word 4) (λ bs. (r ≡ Ok tt) × (out ≡ bs)) (λ e. r ≡ Err e)
-    → result_ok r ≡ None → ⊥
-not_decoded word bytes out r four e h none =
-    let twice = decode_sized-twice word 4 (omega (arith, four, (decode_of-ok word bytes e).2)) in
-    let written = rw (twice ∙ e) at h in
-    let some = ap result_ok written.0 in absurd cc
 
 -- what digits are decoded to are bytes
 pub decoded_fit : (word octets : List ℕ) → decode_of word ≡ Ok octets → (k : ℕ)

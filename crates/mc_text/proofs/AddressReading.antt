@@ -1,19 +1,17 @@
 -- The function that reads an address finds what the relation says, and every address so written.
-use Rattle.std.proofs.Common.{◌≡◌, ℕ, zero, suc, ◌^◌, ◌-◌, ◌<◌, ◌==◌, true, ltb, List, [], ◌∷◌}
-use Rattle.std.proofs.Common.{◌++◌, length, get_or, append_assoc, arith, Some, Result, Ok, Err}
-use Rattle.std.proofs.Common.{refl, sym, ap, subst, ◌∙◌, inl, inr}
+use Rattle.std.proofs.Common.{◌≡◌, ℕ, ◌^◌, ◌<◌, ◌==◌, true, ltb, List, [], ◌∷◌, ◌++◌, length}
+use Rattle.std.proofs.Common.{get_or, append_assoc, arith, Some, Result, Ok, Err, refl, sym, ap}
+use Rattle.std.proofs.Common.{◌∙◌}
 use Rattle.std.specs.Prelude.{reverse}
 use Rattle.std.specs.Fmt.{decimal}
 use Rattle.std.specs.Int.{w32, from_be_bytes}
 use Rattle.std.specs.List.{list_all, slice_split}
 use Rattle.std.specs.Net.Text.{ipv4_text, dotted_text}
-use Rattle.std.specs.Str.{bytes_eq}
-use Rattle.std.proofs.lemmas.Bool.{and_parts, eqb-true, ltb-true, cases_lt}
 use Rattle.std.proofs.lemmas.Bool.Decides.{nat_tests}
 use Rattle.std.proofs.lemmas.Fmt.{decimal_is_IsNumeral}
 use Rattle.std.proofs.lemmas.List.{reverse-reverse, length-reverse, get_or-reverse, get_or_past}
 use Rattle.std.proofs.lemmas.Nat.{from_be_bytes-to_be_bytes_4}
-use Rattle.std.proofs.lemmas.Option.{cond_some, same_Some}
+use Rattle.std.proofs.lemmas.Option.{same_Some}
 use Rattle.std.proofs.lemmas.Slice.Eq.{bytes_eq-Decides}
 use Rattle.mc_text.specs.declared.addr.Order.{Order}
 use Rattle.mc_text.specs.declared.addr.Order.TheVariants.{Little, Big}
@@ -67,8 +65,7 @@ numbers_of-dotted a b c d a-fits b-fits c-fits d-fits =
 each_fits : (octets : List ℕ) → list_all (λ n. ltb n 256) octets ≡ true
     → (k : ℕ) → get_or octets k 0 < 256
 each_fits [] all k = omega arith
-each_fits (x ∷ xs) all zero = ltb-true x 256 (and_parts (ltb x 256) _ all).0
-each_fits (x ∷ xs) all (suc k) = each_fits xs (and_parts (ltb x 256) _ all).1 k
+each_fits (x ∷ xs) all k = grind (arith, nat_tests, each_fits xs)
 
 -- what is read is written so
 pub address_of_text-found : (text : List ℕ) (a : ℕ) → address_of_text text ≡ Some a
@@ -76,15 +73,8 @@ pub address_of_text-found : (text : List ℕ) (a : ℕ) → address_of_text text
 unfolding address_of_text
 address_of_text-found text a e =
     let octets = numbers_between_dots text in
-    let chosen = cond_some _ (from_be_bytes w32 octets) a e in
-    let (sizes, spelled) = and_parts _ (bytes_eq (ipv4_text octets) text) chosen.0 in
-    let (four, small) = and_parts (length octets == 4) _ sizes in
-    let fits = each_fits octets small in
-    let same = octets_of-from octets (eqb-true (length octets) 4 four) fits in (
-      subst IsAddr chosen.1 (from_octets_fits octets fits),
-      sym ((bytes_eq-Decides (ipv4_text octets) text).0 spelled)
-          ∙ ap ipv4_text (sym same ∙ ap octets_of chosen.1),
-    )
+    let same = (bytes_eq-Decides (ipv4_text octets) text).0 in
+    grind (arith, nat_tests, each_fits octets, from_octets_fits octets, octets_of-from octets, same)
 
 -- what is written so is read
 pub address_of_text-again : (text : List ℕ) (a : ℕ) → IsAddr a → text ≡ dotted a
@@ -113,26 +103,18 @@ in_order-printed Little a = reverse-reverse (octets_of a)
 -- four bytes from last to first are bytes
 fit_reversed : (octets : List ℕ) → length octets ≡ 4 → ((k : ℕ) → get_or octets k 0 < 256)
     → (k : ℕ) → get_or (reverse octets) k 0 < 256
-fit_reversed octets four fit k = elim (cases_lt k (length octets)) [
-  | inl within ↦ rw (get_or-reverse octets k 0 within) (fit (length octets - 1 - k))
-  | inr past ↦ rw (get_or_past (reverse octets) k 0 (omega (arith, length-reverse octets)))
-      (omega arith)
-]
+fit_reversed octets four fit k = grind (arith, get_or-reverse, get_or_past, length-reverse)
 
 -- the address of four octets is printed by them
 made_printed : (order : Order) (octets : List ℕ) (a : ℕ) → length octets ≡ 4
     → ((k : ℕ) → get_or octets k 0 < 256) → from_be_bytes w32 (octets_in_order order octets) ≡ a
     → IsAddr a × (octets ≡ printed_octets order a)
-made_printed Big octets a four fit e = (
-  subst IsAddr e (from_octets_fits octets fit),
-  sym (octets_of-from octets four fit) ∙ ap octets_of e,
-)
-made_printed Little octets a four fit e =
+made_printed order octets a four fit e =
     let turned = fit_reversed octets four fit in
-    let back = octets_of-from (reverse octets) (length-reverse octets ∙ four) turned in (
-      subst IsAddr e (from_octets_fits (reverse octets) turned),
-      sym (reverse-reverse octets) ∙ ap reverse (sym back ∙ ap octets_of e),
-    )
+    let small = from_octets_fits (reverse octets) turned in
+    let back = octets_of-from (reverse octets) (length-reverse octets ∙ four) turned in
+    let own = octets_of-from octets four fit in
+    grind (arith, from_octets_fits octets fit, own, small, back, reverse-reverse octets)
 
 -- what is read of four octets is an address that is printed by them
 octets_found : {E : Type 0} (order : Order) (decoded : Result (List ℕ) E) (a : ℕ)
@@ -140,9 +122,7 @@ octets_found : {E : Type 0} (order : Order) (decoded : Result (List ℕ) E) (a :
     → address_of_octets order decoded ≡ Some a
     → IsAddr a × (decoded ≡ Ok (printed_octets order a))
 octets_found order (Ok octets) a fit e =
-    let chosen = cond_some (length octets == 4) _ a e in
-    let made = made_printed order octets a (eqb-true _ 4 chosen.0) (fit octets refl) chosen.1 in
-    (made.0, ap Ok made.1)
+    grind (arith, nat_tests, made_printed order octets a, fit octets refl)
 octets_found order (Err f) a fit e = absurd cc
 
 -- what is read is shown so

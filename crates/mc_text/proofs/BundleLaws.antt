@@ -27,15 +27,11 @@ one_step : (n room : ℕ) (rest : List ℕ) (found : Result (Option (PartText ×
     → place_of (record { parts = n; room = room; rest = rest }) ≡ found
     → parts_from n room rest ≡ (found >>= λ f. with_next f parts_at)
 unfolding parts_from
-one_step zero room rest (Ok None) at = rw at refl
-one_step zero room rest (Ok (Some found)) at =
-    let h = place_takes (record { parts = 0; room = room; rest = rest }) (Some found) at in
-    absurd (omega (arith, h.counted))
+one_step zero room rest (Ok found) at =
+    grind (arith, place_takes (record { parts = 0; room = room; rest = rest }) found at)
+one_step (suc n) room rest (Ok found) at =
+    grind (arith, place_takes (record { parts = suc n; room = room; rest = rest }) found at)
 one_step zero room rest (Err fault) at = rw at refl
-one_step (suc n) room rest (Ok None) at = rw at refl
-one_step (suc n) room rest (Ok (Some found)) at =
-    let h = place_takes (record { parts = suc n; room = room; rest = rest }) (Some found) at in
-    let left : found.1.parts ≡ n = omega (arith, h.counted) in rw (at, left) refl
 one_step (suc n) room rest (Err fault) at = rw at refl
 
 -- ---- a loop over the parts
@@ -90,13 +86,7 @@ parts_take : (n : ℕ) (place : Place) (found : Option (PartText × Place)) (par
     → AreParts place parts
 parts_take n place None parts is at e =
     let h : IsEnd place = place_takes place None at in
-    subst (AreParts place) (ok_is [] parts e) (record {
-      names = tt;
-      sizes = tt;
-      count = omega arith;
-      size = h.room;
-      spelled = h.rest;
-    })
+    subst (AreParts place) (ok_is [] parts e) (grind arith)
 parts_take zero place (Some found) parts is at e =
     absurd (omega (arith, (place_takes place (Some found) at).counted))
 parts_take (suc n) place (Some (part, next)) parts is at e =
@@ -105,14 +95,8 @@ parts_take (suc n) place (Some (part, next)) parts is at e =
     let found = bind_ok (place_of next) _ others.0
     (sym (one_step next.parts next.room next.rest _ refl) ∙ others.1) in
     let more = parts_take n next found.0 others.0 (omega (arith, h.counted)) found.1 found.2 in
-    subst (AreParts place) (ok_is (part ∷ others.0) parts others.2) (record {
-      names = (h.named, more.names);
-      sizes = (h.small, more.sizes);
-      count = omega (arith, h.counted, more.count);
-      size = omega (arith, h.room, more.size, length-part_first part others.0);
-      spelled = h.rest ∙ ap (λ (l : List ℕ). part_spelling part ++ l) more.spelled
-          ∙ sym (append_assoc (part_spelling part) (flat_map part_spelling others.0) _);
-    })
+    subst (AreParts place) (ok_is (part ∷ others.0) parts others.2)
+    (grind (arith, length-part_first part others.0, append_assoc))
 
 -- the parts that stand at a place are read
 parts_again : (place : Place) (parts : List PartText) → AreParts place parts
@@ -126,20 +110,8 @@ parts_again place (part ∷ parts) h =
       room = place.room - length (part_spelling part);
       rest = flat_map part_spelling parts ++ codes "end\n";
     } in
-    let first : HasPart place part next = record {
-      named = h.names.0;
-      small = h.sizes.0;
-      counted = omega (arith, h.count);
-      room = omega (arith, taken, h.size);
-      rest = h.spelled ∙ simp append_assoc;
-    } in
-    let more = parts_again next parts (record {
-      names = h.names.1;
-      sizes = h.sizes.1;
-      count = omega (arith, h.count);
-      size = omega (arith, taken, h.size);
-      spelled = refl;
-    }) in
+    let first : HasPart place part next = grind (arith, taken, append_assoc) in
+    let more = parts_again next parts (grind (arith, taken)) in
     one_step place.parts place.room place.rest _ (part_again place part next first)
     ∙ rw more refl
 
@@ -155,15 +127,7 @@ bundle_takes text parts e =
     let read = rw magic at e in
     let found = bind_ok (place_of _) _ parts (sym (one_step _ _ _ _ refl) ∙ read) in
     let all = parts_take max_parts _ found.0 parts refl found.1 found.2 in
-    record {
-      names = all.names;
-      limits = record {
-        sizes = all.sizes;
-        count = all.count;
-        size = omega (arith, all.size);
-      };
-      spelled = sym (take-append-drop 17 text) ∙ rw (front, all.spelled) refl;
-    }
+    grind (arith, take-append-drop 17 text)
 
 -- a bundle of these parts is read as them
 pub bundle_again : (text : List ℕ) (parts : List PartText) → IsBundle text parts
@@ -173,13 +137,7 @@ bundle_again text parts h = rw h.spelled (parts_again (record {
   parts = max_parts;
   room = max_bundle - 17;
   rest = flat_map part_spelling parts ++ codes "end\n";
-}) parts (record {
-  names = h.names;
-  sizes = h.limits.sizes;
-  count = h.limits.count;
-  size = omega (arith, h.limits.size);
-  spelled = refl;
-}))
+}) parts (grind arith))
 
 -- a text is the bundle of one list of parts at most
 pub same_parts : (text : List ℕ) (ps qs : List PartText) → IsBundle text ps → IsBundle text qs
@@ -189,19 +147,10 @@ same_parts text ps qs p q = ok_is ps qs (sym (bundle_again text ps p) ∙ bundle
 -- what a reader that gives what reading gives has found
 pub found_bundle : (text : List ℕ) (r : Result (List PartText) BundleFault)
     → Gives (λ parts. parts) r (bundle_of text) → IfOk r (IsBundle text)
-found_bundle text (Ok parts) h = bundle_takes text parts h
-found_bundle text (Err fault) h = tt
-
--- an answer that is not want of memory is what reading gives
-given_is : (r read : Result (List PartText) BundleFault) → Gives (λ parts. parts) r read
-    → r ≢ Err faults.Memory → r ≡ read
-given_is (Ok parts) read h other = sym h
-given_is (Err faults.Memory) read h other = absurd (other refl)
-given_is (Err fault) read h other = sym h
+found_bundle text r h = grind (arith, bundle_takes text)
 
 -- a bundle's parts are what such a reader answers
 pub only_bundle : (text : List ℕ) (r : Result (List PartText) BundleFault)
     → Gives (λ parts. parts) r (bundle_of text)
     → (parts : List PartText) → IsBundle text parts → r ≢ Err faults.Memory → r ≡ Ok parts
-only_bundle text r h parts stands other = given_is r (bundle_of text) h other
-    ∙ bundle_again text parts stands
+only_bundle text r h parts stands other = grind (arith, bundle_again text parts stands)

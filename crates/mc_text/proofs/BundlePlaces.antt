@@ -1,7 +1,6 @@
 -- The places of a bundle: a part and the place after it, or the end.
-use Rattle.std.proofs.Common.{arith, ◌≡◌, ℕ, suc, ◌+◌, ◌-◌, ◌<◌, ◌≤◌, Bool, true, false, cond, eqb}
-use Rattle.std.proofs.Common.{leb, List, ◌∷◌, ◌++◌, length, get_or, Option, Some, None, Ok, refl}
-use Rattle.std.proofs.Common.{sym, subst, ◌∙◌, append_assoc}
+use Rattle.std.proofs.Common.{arith, ◌≡◌, ℕ, suc, ◌+◌, ◌<◌, ◌≤◌, Bool, false, cond, List, ◌∷◌, ◌++◌}
+use Rattle.std.proofs.Common.{length, Option, Some, None, Ok, refl, sym, append_assoc}
 use Rattle.std.specs.Prelude.{codes}
 use Rattle.std.specs.Fmt.{decimal}
 use Rattle.std.specs.Str.{bytes_eq}
@@ -14,7 +13,7 @@ use Rattle.std.proofs.lemmas.Slice.Eq.{bytes_eq-Decides}
 use Rattle.mc_text.specs.Bundle.{PartText, IsPartName, part_line, part_spelling, max_line, max_part}
 use Rattle.mc_text.specs.BundleReading.{Place, line_at, part_said, part_bytes_at, part_room}
 use Rattle.mc_text.specs.BundleReading.{is_too_large, place_after, part_place, end_place, place_of}
-use Rattle.mc_text.proofs.StepLemmas.{bind_ok, ok_is}
+use Rattle.mc_text.proofs.StepLemmas.{bind_ok}
 use Rattle.mc_text.proofs.BundleWords.{cut_at, IsLine, line_takes, line_again, said_take}
 use Rattle.mc_text.proofs.BundleWords.{said_again, Without-part_line}
 
@@ -26,22 +25,16 @@ part_bytes_take : (size : ℕ) (rest : List ℕ) (taken : List ℕ × List ℕ)
     → (length taken.0 ≡ size) × (rest ≡ taken.0 ++ (codes "\n" ++ taken.1))
 unfolding part_bytes_at
 part_bytes_take size rest taken e =
-    let within : leb (length rest) size ≡ false = grind (arith, nat_tests) in
-    let feed : eqb (get_or rest size 0) 10 ≡ true = grind (arith, nat_tests) in
-    let some : size < length rest = grind (arith, nat_tests) in
-    let cut = rw (within, feed) at e in
-    subst (λ (p : List ℕ × List ℕ). (length p.0 ≡ size) × (rest ≡ p.0 ++ (codes "\n" ++ p.1)))
-    (ok_is _ taken cut) (omega (arith, length-take size rest), cut_at 10 rest size some feed)
+    grind (arith, nat_tests, length-take size rest, cut_at 10 rest size)
 
 -- a part's bytes that stand there are read
 part_bytes_again : (bytes after : List ℕ)
     → part_bytes_at (length bytes) (bytes ++ (codes "\n" ++ after)) ≡ Ok (bytes, after)
 unfolding part_bytes_at
 part_bytes_again bytes after =
-    let long : leb (length (bytes ++ 10 ∷ after)) (length bytes) ≡ false =
-    simp length-append (grind (arith, nat_tests)) in
     let whole = take_at bytes (10 ∷ after) (length bytes) refl in
-    rw (long, get_or-append_seam bytes 10 after 0, whole, drop-append-add bytes (10 ∷ after) 1) refl
+    let back = drop-append-add bytes (10 ∷ after) 1 in
+    grind (arith, nat_tests, length-append, whole, get_or-append_seam bytes 10 after 0, back)
 
 -- ---- places
 
@@ -87,42 +80,22 @@ has_part place line name bytes back after size named spelled long back-is fits r
     let part : PartText = record { name = name; bytes = bytes } in
     let taken : length (part_spelling part) ≡ part_room line size =
     rw (spelled, ← long) (length-part_spelling part) in
-    record {
-      named = named;
-      small = grind (arith, nat_tests);
-      counted = grind (arith, nat_tests);
-      room = grind (arith, nat_tests);
-      rest = rest ∙ rw (back-is, spelled, ← long)
-          (line_then_bytes (part_line name (length bytes)) bytes after);
-    }
+    grind (arith, nat_tests, line_then_bytes line bytes after)
 
 -- a part that is read stands there
 part_takes : (place : Place) (line after : List ℕ) (said : List ℕ × ℕ)
     (found : Option (PartText × Place)) → part_said line ≡ Some said → IsLine place.rest line after
     → part_place place line after (Some said) ≡ Ok found → IsFound place found
 part_takes place line after said found said-is cut e =
-    let fits : is_too_large place line said.1 ≡ false = grind (arith, nat_tests) in
-    let small : said.1 ≤ max_part = grind (arith, nat_tests) in
-    let taken = bind_ok (part_bytes_at said.1 after) _ found (rw fits at e) in
-    let (long, back) = part_bytes_take said.1 after taken.0 taken.1 in
-    let (named, spelled) = said_take line said said-is (omega (arith, small)) in
-    let part : PartText = record { name = said.0; bytes = taken.0.0 } in
-    let next = place_after place (part_room line said.1) taken.0.1 in
-    subst (IsFound place) {x = Some (part, next)} (ok_is (Some (part, next)) found taken.2)
-    (has_part place line said.0 taken.0.0 after taken.0.1 said.1 named spelled long back fits
-    cut.parts)
+    let bytes = part_bytes_take said.1 after in
+    grind (arith, nat_tests, bytes, said_take line said said-is, has_part place line said.0)
 
 -- an end that is read stands there
 end_takes : (place : Place) (after : List ℕ) (found : Option (PartText × Place))
     → place.rest ≡ codes "end" ++ (codes "\n" ++ after) → end_place place after ≡ Ok found
     → IsFound place found
 end_takes place after found rest e =
-    let none : None ≡ found = grind (arith, nat_tests) in
-    let nothing : length after ≡ 0 = grind (arith, nat_tests) in
-    subst (IsFound place) none (record {
-      room = grind (arith, nat_tests);
-      rest = rest ∙ rw (nil_from_length after nothing) refl;
-    })
+    grind (arith, nat_tests, nil_from_length after)
 
 -- what a line says stands there
 found_at : (place : Place) (cut : List ℕ × List ℕ) (ends : Bool) (said : Option (List ℕ × ℕ))
@@ -130,11 +103,9 @@ found_at : (place : Place) (cut : List ℕ × List ℕ) (ends : Bool) (said : Op
     → part_said cut.0 ≡ said → IsLine place.rest cut.0 cut.1
     → cond ends (end_place place cut.1) (part_place place cut.0 cut.1 said) ≡ Ok found
     → IsFound place found
-found_at place cut true said found ended said-is line e = end_takes place cut.1 found
-    (line.parts ∙ rw ((bytes_eq-Decides cut.0 (codes "end")).0 ended) refl) e
-found_at place cut false None found ended said-is line e = absurd cc
-found_at place cut false (Some said) found ended said-is line e =
-    part_takes place cut.0 cut.1 said found said-is line e
+found_at place cut ends said found ended said-is line e =
+    let end = (bytes_eq-Decides cut.0 (codes "end")).0 in
+    grind (arith, end_takes place cut.1 found, part_takes place cut.0 cut.1, end)
 
 -- what is read at a place stands there
 pub place_takes : (place : Place) (found : Option (PartText × Place)) → place_of place ≡ Ok found
@@ -172,8 +143,4 @@ part_again place part next h =
     (length-part_line part.name size h.named h.small)) in
     let said = said_again part.name size h.named wide in
     let taken = length-part_spelling part in
-    let fits : is_too_large place line size ≡ false =
-    grind (arith, nat_tests, h.small, h.counted, h.room, taken) in
-    let counted : place.parts - 1 ≡ next.parts = omega (arith, h.counted) in
-    let left : place.room - part_room line size ≡ next.room = omega (arith, h.room, taken) in
-    rw (cut, said, fits, part_bytes_again part.bytes next.rest, counted, left) refl
+    grind (arith, nat_tests, cut, said, taken, part_bytes_again part.bytes next.rest)

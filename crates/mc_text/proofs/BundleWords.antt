@@ -1,29 +1,24 @@
 -- The words and the lines of a bundle: what is read is written so, and what is written so is read.
-use Rattle.std.proofs.Common.{arith, ◌≡◌, ℕ, zero, suc, ◌+◌, ◌^◌, ◌<◌, Bool, true, false, eqb, ltb}
-use Rattle.std.proofs.Common.{leb, List, [], ◌∷◌, ◌++◌, length, get_or, take, drop, Option, Some}
-use Rattle.std.proofs.Common.{None, refl, sym, ap, subst, ◌∙◌, ◌-◌, Ok, min}
-use Rattle.std.specs.Prelude.{position, ◌&&◌, codes}
+use Rattle.std.proofs.Common.{arith, ◌≡◌, ℕ, zero, suc, ◌+◌, ◌^◌, ◌<◌, Bool, true, false, eqb, List}
+use Rattle.std.proofs.Common.{[], ◌∷◌, ◌++◌, length, get_or, take, drop, Option, Some, None, refl}
+use Rattle.std.proofs.Common.{subst, ◌-◌, Ok, min}
+use Rattle.std.specs.Prelude.{position, codes}
 use Rattle.std.specs.Char.{is_ascii_digit}
 use Rattle.std.specs.Fmt.{decimal}
 use Rattle.std.specs.List.{list_all, position_or_len}
 use Rattle.std.specs.Str.Parse.{digits_value}
-use Rattle.std.proofs.lemmas.Bool.{and_parts, eqb-true, leb-true, ne_eqb, false_from_ne_true}
-use Rattle.std.proofs.lemmas.Bool.{and_from}
 use Rattle.std.proofs.lemmas.Bool.Decides.{nat_tests}
 use Rattle.std.proofs.lemmas.Fmt.{decimal_digit, digits_decimal, decimal-digits_value}
 use Rattle.std.proofs.lemmas.Fmt.{decimal_is_IsNumeral, first_decimal}
 use Rattle.std.proofs.lemmas.List.{length-append, take-append-drop, drop_more, take_at, length-take}
 use Rattle.std.proofs.lemmas.List.{get_or-take, take_min}
 use Rattle.std.proofs.lemmas.List.Sums.{AllPass-from_list_all, list_all-from_AllPass}
-use Rattle.mc_text.specs.Number.{is_decimal}
 use Rattle.mc_text.specs.Bundle.{is_name_byte, IsPartName, part_line, max_line}
 use Rattle.mc_text.specs.BundleReading.{is_part_name, is_length, cut_words, words_said, part_said}
 use Rattle.mc_text.specs.BundleReading.{cut_line, line_at}
 use Rattle.mc_text.proofs.NumberReading.{numerals}
-use Rattle.std.specs.Str.{bytes_eq}
 use Rattle.std.proofs.Math.Seq.{take-append-add, drop-append-add}
 use Rattle.std.proofs.lemmas.List.Quantifiers.{position-Some}
-use Rattle.std.proofs.lemmas.Option.{cond_some}
 use Rattle.std.proofs.lemmas.Slice.Eq.{bytes_eq-Decides}
 use Rattle.mc_text.proofs.StepLemmas.{ok_is}
 
@@ -42,56 +37,42 @@ pub Without-from_list_all : (p : ℕ → Bool) (c : ℕ) → p c ≡ false → (
     → list_all p xs ≡ true → Without c xs
 Without-from_list_all p c fails [] h = tt
 Without-from_list_all p c fails (x ∷ xs) h =
-    let (here, later) = and_parts (p x) (list_all p xs) h in
-    let other = λ (e : x ≡ c). let yes : p c ≡ true = subst (λ y. p y ≡ true) e here in absurd cc in
-    (ne_eqb x c other, Without-from_list_all p c fails xs later)
+    (grind (arith, nat_tests), Without-from_list_all p c fails xs (grind arith))
 
 -- the first place of a byte that stands behind a text without it
 position_after : (c : ℕ) (xs ys : List ℕ) → Without c xs
     → position_or_len (λ b. eqb b c) (xs ++ c ∷ ys) ≡ length xs
-position_after c [] ys h = let same : eqb c c ≡ true = grind (arith, nat_tests) in rw same refl
+position_after c [] ys h = grind (arith, nat_tests)
 position_after c (x ∷ xs) ys h = rw h.0 (omega (arith, position_after c xs ys h.1))
 
 -- the place of a byte that stands behind a text without it
 pub position-Some_after : (c : ℕ) (xs ys : List ℕ) → Without c xs
     → position (λ b. eqb b c) (xs ++ c ∷ ys) ≡ Some (length xs)
-position-Some_after c xs ys h =
-    let within : ltb (length xs) (length (xs ++ c ∷ ys)) ≡ true =
-    simp length-append (grind (arith, nat_tests)) in
-    rw (position_after c xs ys h, within) refl
+position-Some_after c xs ys h = grind (arith, nat_tests, position_after, length-append)
 
 -- a text is what stands before a byte, the byte, and what stands after it
 pub cut_at : (c : ℕ) (text : List ℕ) (n : ℕ) → n < length text → eqb (get_or text n 0) c ≡ true
     → text ≡ take n text ++ c ∷ drop (n + 1) text
 cut_at c text n within here =
-    let back : drop n text ≡ c ∷ drop (n + 1) text =
-    rw (drop_more text n 0 within, eqb-true _ _ here) refl in
-    sym (take-append-drop n text) ∙ ap (λ (l : List ℕ). take n text ++ l) back
+    grind (arith, nat_tests, drop_more text n 0 within, take-append-drop n text)
 
 -- ---- names
 
 -- what passes the test is a name
 pub IsPartName-from_test : (name : List ℕ) → is_part_name name ≡ true → IsPartName name
 IsPartName-from_test name h =
-    let (sizes, bytes) = and_parts (leb 1 (length name) && leb (length name) 64) _ h in
-    record {
-      some = grind (arith, nat_tests);
-      short = grind (arith, nat_tests);
-      bytes = AllPass-from_list_all is_name_byte name bytes;
-    }
+    grind (arith, nat_tests, AllPass-from_list_all is_name_byte name)
 
 -- a name passes the test
 pub test-from_IsPartName : (name : List ℕ) → IsPartName name → is_part_name name ≡ true
 test-from_IsPartName name h =
-    let bytes = list_all-from_AllPass is_name_byte name h.bytes in
-    grind (arith, nat_tests, h.some, h.short)
+    grind (arith, nat_tests, list_all-from_AllPass is_name_byte name h.bytes)
 
 -- what is refused as a name fails the test
 pub not_named : (name : List ℕ)
     → (IsPartName name → (let none : Option (List ℕ) = None in none ≡ Some name))
     → is_part_name name ≡ false
-not_named name refused = false_from_ne_true (is_part_name name)
-    (λ t. let e = refused (IsPartName-from_test name t) in cc)
+not_named name refused = grind (arith, IsPartName-from_test)
 
 -- a byte that no name has is in no name
 pub Without-name : (c : ℕ) → is_name_byte c ≡ false → (name : List ℕ) → IsPartName name
@@ -105,10 +86,7 @@ Without-name c fails name h = Without-from_list_all is_name_byte c fails name
 pub decimal-length_word : (word : List ℕ) → is_length word ≡ true → digits_value 10 word < 2 ^ 64
     → decimal (digits_value 10 word) ≡ word
 decimal-length_word word h small =
-    let (number, lone) = and_parts (is_decimal word) _ h in
-    let (some, digits) = and_parts (leb 1 (length word)) _ number in
-    decimal-digits_value numerals word digits (leb-true _ _ some)
-    (λ e. grind (arith, nat_tests, e)) small
+    grind (arith, nat_tests, decimal-digits_value numerals word)
 
 -- a number in decimal is a length
 pub is_length-decimal : (n : ℕ) → n < 2 ^ 64 → is_length (decimal n) ≡ true
@@ -135,27 +113,17 @@ AreWords words said = said.1 < 2 ^ 64
 -- what two words say stands in them
 cut_take : (words : List ℕ) (o : Option ℕ) (said : List ℕ × ℕ) → position (λ b. eqb b 32) words ≡ o
     → cut_words words o ≡ Some said → AreWords words said
-cut_take words None said at e = absurd cc
-cut_take words (Some n) said at e =
-    let after = drop (n + 1) words in
-    let chosen = cond_some (is_part_name (take n words) && is_length after) _ said e in
-    let (named, long) = and_parts (is_part_name (take n words)) (is_length after) chosen.0 in
-    let space = position-Some (λ b. eqb b 32) words n 0 at in
-    subst (AreWords words) chosen.1 (λ small. (
-      IsPartName-from_test (take n words) named,
-      cut_at 32 words n space.0 space.1 ∙ ap (λ (l : List ℕ). take n words ++ 32 ∷ l)
-          (sym (decimal-length_word after long small)),
-    ))
+cut_take words o said at e =
+    let space = position-Some (λ b. eqb b 32) words in
+    grind (arith, nat_tests, IsPartName-from_test, space, cut_at, decimal-length_word)
 
 -- what a line says stands in it
 pub said_take : (line : List ℕ) (said : List ℕ × ℕ) → part_said line ≡ Some said → said.1 < 2 ^ 64
     → IsPartName said.0 × (line ≡ part_line said.0 said.1)
 unfolding part_said words_said
 said_take line said e small =
-    let begins : bytes_eq (take 5 line) (codes "part ") ≡ true = grind arith in
-    let words = cut_take (drop 5 line) _ said refl (rw begins at e) small in
-    let front = (bytes_eq-Decides (take 5 line) (codes "part ")).0 begins in
-    (words.0, sym (take-append-drop 5 line) ∙ rw (front, words.1) refl)
+    let front = (bytes_eq-Decides (take 5 line) (codes "part ")).0 in
+    grind (arith, cut_take (drop 5 line) _ said refl, take-append-drop 5 line, front)
 
 -- a part's line says its name and length
 pub said_again : (name : List ℕ) (size : ℕ) → IsPartName name → size < 2 ^ 64
@@ -165,10 +133,9 @@ said_again name size h small =
     let at = position-Some_after 32 name (decimal size) (Without-name 32 refl name h) in
     let front = take_at name (32 ∷ decimal size) (length name) refl in
     let back = drop-append-add name (32 ∷ decimal size) 1 in
-    let tests : (is_part_name name && is_length (decimal size)) ≡ true =
-    and_from _ _ (test-from_IsPartName name h) (is_length-decimal size small) in
     let value = (decimal_is_IsNumeral size small).1 in
-    rw (at, front, back, tests, value) refl
+    let named = test-from_IsPartName name h in
+    grind (arith, at, front, back, value, named, is_length-decimal size small)
 
 -- ---- where a line ends
 
@@ -219,8 +186,7 @@ pub line_found : (rest : List ℕ) (cut : ℕ) (o : Option ℕ) → cut ≡ min 
     → o ≡ position (λ b. eqb b 10) (take cut rest) → line_at rest ≡ cut_line rest o
 unfolding line_at
 line_found rest cut o h at =
-    let same : cut ≡ min 96 (length rest) = omega (arith, h) in
-    rw (at, same, take_min 96 rest) refl
+    grind (arith, take_min 96 rest)
 
 -- a part's line has no line feed
 pub Without-part_line : (name : List ℕ) (size : ℕ) → IsPartName name → size < 2 ^ 64

@@ -2,6 +2,7 @@ pub mod LineLemmas
 pub mod ResultLemmas
 pub mod StepLemmas
 pub mod AddrLemmas
+pub mod AddressDigitLemmas
 pub mod AddressReading
 pub mod AddressTests
 pub mod NumberReading

@@ -1,10 +1,10 @@
 -- The lines of a text and the words of a line: what stands between line feeds, and between spaces.
 use Rattle.std.proofs.Common.{◌≡◌, ◌≢◌, ℕ, ◌+◌, ◌<◌, ◌≤◌, Bool, true, false, not, eqb, cond, List}
 use Rattle.std.proofs.Common.{[], ◌∷◌, length, take, drop, get_or, Option, Some, None, unwrap_or}
-use Rattle.std.proofs.Common.{refl, sym, ap, ◌∙◌, arith, append_assoc, length-take, one-add}
+use Rattle.std.proofs.Common.{refl, sym, ap, ◌∙◌, arith, append_assoc, length-take}
 use Rattle.std.specs.Prelude.{position}
 use Rattle.std.specs.List.{slice_split, onto_first, join_with_byte, position_or_len, AllByRecursion}
-use Rattle.std.proofs.lemmas.Bool.{ltb-true, eqb-false, not-true}
+use Rattle.std.proofs.lemmas.Bool.{not-true}
 use Rattle.std.proofs.lemmas.Bool.Decides.{nat_tests}
 use Rattle.std.proofs.lemmas.Option.{cond_some}
 use Rattle.std.proofs.lemmas.List.{append-nil, take_all, drop_all, drop_more}
@@ -27,8 +27,7 @@ cut_first : (c : ℕ) (text : List ℕ) (end : ℕ) → position (λ b. eqb b c)
     → slice_split (λ b. eqb b c) text ≡ take end text
     ∷ slice_split (λ b. eqb b c) (drop (end + 1) text)
 cut_first c text end found =
-    let at = cond_some _ _ _ found in
-    rw (← at.1) (slice_split_first (λ b. eqb b c) text 0 (ltb-true _ _ at.0))
+    grind (arith, nat_tests, slice_split_first (λ b. eqb b c) text 0)
 
 -- where it is not found, the text is one part
 one_part : (c : ℕ) (text : List ℕ) → position (λ b. eqb b c) text ≡ None
@@ -44,8 +43,7 @@ one_part c text none =
 numbered_more : (n : ℕ) (part : List ℕ) (parts : List (List ℕ)) → 0 < length parts
     → numbered n (part ∷ parts) ≡ record { number = n; bytes = part; ended = true }
     ∷ numbered (n + 1) parts
-numbered_more n part [] some = absurd (omega arith)
-numbered_more n part (next ∷ more) some = refl
+numbered_more n part parts some = grind arith
 
 -- where a line feed stands at `end`, and none before it, the first line ends there
 pub lines_from_ended : (n : ℕ) (text : List ℕ) (end : ℕ) → position (λ b. eqb b 10) text ≡ Some end
@@ -88,9 +86,7 @@ IsWhole part = AllByRecursion (λ b. b ≢ 10) part
 split_whole : (b : ℕ) (parts : List (List ℕ)) (t : Bool) → eqb b 10 ≡ t
     → AllByRecursion IsWhole parts
     → AllByRecursion IsWhole (cond t ([] ∷ parts) (onto_first b parts))
-split_whole b parts true e whole = (tt, whole)
-split_whole b [] false e whole = ((eqb-false b 10 e, tt), tt)
-split_whole b (part ∷ parts) false e whole = ((eqb-false b 10 e, whole.0), whole.1)
+split_whole b parts t e whole = grind (arith, nat_tests)
 
 -- the parts between line feeds have none
 parts_whole : (text : List ℕ) → AllByRecursion IsWhole (slice_split (λ b. eqb b 10) text)
@@ -133,9 +129,7 @@ is_in_word b = not (eqb b 32)
 skips_one : (b : ℕ) (line : List ℕ) (t : Bool) → eqb b 32 ≡ t
     → words_of (drop (position_or_len is_in_word line) line) ≡ words_of line
     → words_of (drop (position_or_len is_in_word (b ∷ line)) (b ∷ line)) ≡ words_of (b ∷ line)
-skips_one b line true e later = rw (e, one-add) later
-skips_one b line false e later =
-    let none : position_or_len is_in_word (b ∷ line) ≡ 0 = rw e refl in rw none refl
+skips_one b line t e later = grind (arith, nat_tests)
 
 -- spaces before a word don't matter
 words_of-drop_spaces : (line : List ℕ)

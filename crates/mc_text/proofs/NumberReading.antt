@@ -1,13 +1,12 @@
 -- Reading a number: the function finds what the relation says, and digit by digit finds it too.
 use Rattle.std.proofs.Common.{◌≡◌, ℕ, ◌≤◌, min, true, List, length, Some, unwrap_or, arith, rules}
 use Rattle.std.proofs.Common.{◌+◌, ◌*◌, ◌^◌, ◌<◌, [], ◌∷◌, drop, slice_index_or, sym, ◌∙◌}
-use Rattle.std.specs.Prelude.{nat_le, IsTrue}
+use Rattle.std.specs.Prelude.{IsTrue}
 use Rattle.std.specs.Char.{is_ascii_digit, digit_value}
 use Rattle.std.specs.List.{list_all}
 use Rattle.std.specs.Str.Parse.{digits_value, digits_value_after}
-use Rattle.std.proofs.lemmas.Bool.{and_parts, leb-true}
+use Rattle.std.proofs.lemmas.Bool.{and_parts}
 use Rattle.std.proofs.lemmas.Bool.Decides.{nat_tests}
-use Rattle.std.proofs.lemmas.Option.{cond_some}
 use Rattle.std.proofs.lemmas.Str.Parse.{IsNumeralModel, numerals_by_value}
 use Rattle.mc_text.specs.Number.{IsDecimal, is_decimal, number_up_to}
 use Rattle.std.proofs.lemmas.List.{at_drop_more, at_drop_all}
@@ -21,10 +20,7 @@ pub number_up_to-found : (max : ℕ) (word : List ℕ) (n : ℕ) → number_up_t
     → IsDecimal word n × (n ≤ max)
 unfolding number_up_to
 number_up_to-found max word n e =
-    let chosen = cond_some _ (digits_value 10 word) n e in
-    let (digits, high) = and_parts (is_decimal word) _ chosen.0 in
-    let (some, all) = and_parts (nat_le 1 (length word)) _ digits in
-    (((leb-true _ _ some, numerals.to word all), chosen.1), grind (arith, nat_tests))
+    grind (arith, nat_tests, numerals.to word)
 
 -- what is written so is read
 pub number_up_to-again : (max : ℕ) (word : List ℕ) (n : ℕ) → IsDecimal word n → n ≤ max

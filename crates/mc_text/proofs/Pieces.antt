@@ -1,6 +1,6 @@
 -- A text that is written piece by piece, and the bundle that is written part by part.
 use Rattle.std.proofs.Common.{arith, ◌≡◌, ℕ, zero, suc, ◌+◌, ◌<◌, ◌≤◌, List, [], ◌∷◌, ◌++◌, length}
-use Rattle.std.proofs.Common.{get_or, take, drop, refl, sym, ap, ◌∙◌, append_assoc, Result, Ok, Err}
+use Rattle.std.proofs.Common.{get_or, take, drop, refl, sym, ap, ◌∙◌, append_assoc, Result}
 use Rattle.std.specs.Prelude.{Option, OnErr, codes}
 use Rattle.std.specs.Io.KnownBytes.{Appends}
 use Rattle.std.specs.List.{AllByRecursion, flat_map}
@@ -45,8 +45,7 @@ part_of a b c front text rest whole first (k, short, taken) is =
 
 -- what holds anyway holds of an error
 pub OnErr-from : {X E : Type 0} (r : Result X E) (P : Type 0) → P → OnErr r P
-OnErr-from (Ok x) P p = tt
-OnErr-from (Err e) P p = p
+OnErr-from r P p = grind arith
 
 -- what a last call leaves, where its text ends the whole
 pub last_part : {X E : Type 0} (r : Result X E) (a b c : Option (List ℕ))

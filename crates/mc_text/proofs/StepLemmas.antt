@@ -1,6 +1,6 @@
 -- What steps that did not fail show, and what was read before the rest is.
-use Rattle.std.proofs.Common.{◌≡◌, Bool, true, false, cond, List, [], ◌++◌, Option, Some, None}
-use Rattle.std.proofs.Common.{Result, Ok, Err, refl, sym, ap, append_assoc}
+use Rattle.std.proofs.Common.{◌≡◌, Bool, true, cond, List, [], ◌++◌, Option, Some, None, Result, Ok}
+use Rattle.std.proofs.Common.{Err, refl, sym, append_assoc, arith}
 use Rattle.std.specs.Prelude.{IfSome}
 use Rattle.mc_text.specs.Steps.{◌>>=◌}
 
@@ -12,13 +12,11 @@ module _ {A E : Type 0} where
   -- the value of a first step, where the second gave one too
   pub bind_ok : {B : Type 0} (r : Result A E) (f : A → Result B E) (y : B) → (r >>= f) ≡ Ok y
       → (x : A) × (r ≡ Ok x) × (f x ≡ Ok y)
-  bind_ok (Ok x) f y e = (x, refl, e)
-  bind_ok (Err d) f y e = absurd cc
+  bind_ok r f y e = grind arith
 
   -- a value under a test that was met
   pub if_ok : (b : Bool) (d : E) (x y : A) → cond b (Ok x) (Err d) ≡ Ok y → (b ≡ true) × (x ≡ y)
-  if_ok true d x y e = (refl, cc)
-  if_ok false d x y e = absurd cc
+  if_ok b d x y e = grind arith
 
   -- what was read before, and what is still read
   abbrev pub with_front : List A → Result (List A) E → Result (List A) E
@@ -26,14 +24,12 @@ module _ {A E : Type 0} where
 
   -- nothing was read before
   pub with_front-none : (read : Result (List A) E) → with_front [] read ≡ read
-  with_front-none (Ok rest) = refl
-  with_front-none (Err fault) = refl
+  with_front-none read = grind arith
 
   -- what was read before, in two parts
   pub with_front-more : (front more : List A) (read : Result (List A) E)
       → with_front front (with_front more read) ≡ with_front (front ++ more) read
-  with_front-more front more (Ok rest) = ap Ok (sym (append_assoc front more rest))
-  with_front-more front more (Err fault) = refl
+  with_front-more front more read = grind (arith, append_assoc)
 
 module _ {A : Type 0} where
   -- an answer for which P and Q hold, and which comes wherever they do, is the function's value,

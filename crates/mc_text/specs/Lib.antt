@@ -1,4 +1,5 @@
 pub mod Addr
+pub mod AddressDigits
 pub mod AddressReading
 pub mod AddressWord
 pub mod Bundle

@@ -1,14 +1,13 @@
 //! IPv4 addresses, as people write them and as a kernel's tables show them.
 
-ghost use Rattle.std.specs.Prelude.{◌≡◌, ℕ, ◌<◌, ◌^◌, ◌==◌, ◌↔◌, List, length, IsTrue, IfSome};
-ghost use Rattle.std.specs.Prelude.{Some, Ok};
+ghost use Rattle.std.specs.Prelude.{◌≡◌, ℕ, ◌<◌, ◌^◌, ◌==◌, ◌↔◌, IsTrue, IfSome, Some};
 ghost use Rattle.std.specs.Int.{w32, from_be_bytes};
-ghost use Rattle.hex.specs.Hex.{decode_of};
 ghost use Rattle.mc_text.specs.Addr.{IsAddr, IsForwardedGroup, IsSource, is_forwarded_group};
 ghost use Rattle.mc_text.specs.Addr.{is_source, octets_of, dotted};
 ghost use Rattle.mc_text.specs.AddressReading.{address_of_text, address_of_word};
 ghost use Rattle.mc_text.specs.AddressWord.{IsAddressWord};
 
+use crate::address_digits::four_bytes;
 use std::fmt;
 use std::marker::Model;
 use std::net::Ipv4Addr;
@@ -34,17 +33,6 @@ pub enum Order {
     Little,
     /// The most significant byte first.
     Big,
-}
-
-/// The four bytes of a word of eight hexadecimal digits.
-fn four_bytes(word: &[u8]) -> Option<[u8; 4]>
-    ensures found { IfSome result (λ bytes. decode_of word.now ≡ Ok bytes) }
-    ensures only { (bytes : List ℕ) → length bytes ≡ 4
-        → decode_of word.now ≡ Ok bytes → result ≡ Some bytes }
-{
-    let mut bytes = [0u8; 4];
-    hex::decode_to_slice(word, &mut bytes).ok()?;
-    Some(bytes)
 }
 
 /// The address that a dotted text writes.

@@ -5,6 +5,7 @@
 #![tactic(auto)]
 
 mod addr;
+mod address_digits;
 mod bundle;
 mod bundle_fault;
 mod bundle_laws;

@@ -10,16 +10,19 @@ use Rattle.std.proofs.lemmas.Option.{slice_get_within, get_or_from_slice_get}
 use Rattle.mc_topology.specs.Topology.{AreDistinctBy}
 
 module _ {X : Type 0} where
+  -- an item of the front list has its place in the whole
   get_front : (xs ys : List X) (i : ℕ) (x : X) → slice_get xs i ≡ Some x
       → slice_get (xs ++ ys) i ≡ Some x
   get_front [] ys i x e = absurd cc
   get_front (y ∷ xs) ys zero x e = e
   get_front (y ∷ xs) ys (suc i) x e = get_front xs ys i x e
 
+  -- the item behind the front list has the place after it
   get_next : (xs ys : List X) (x : X) → slice_get (xs ++ x ∷ ys) (length xs) ≡ Some x
   get_next [] ys x = refl
   get_next (y ∷ xs) ys x = get_next xs ys x
 
+  -- what stands at a place is of the old list, or is the item that was added
   got_pushed : (xs : List X) (y : X) (i : ℕ) (x : X) → slice_get (xs ++ y ∷ []) i ≡ Some x
       → (slice_get xs i ≡ Some x) ⊎ ((i ≡ length xs) × (x ≡ y))
   got_pushed [] y zero x e = inr (refl, cc)
@@ -37,6 +40,7 @@ module _ {X K : Type 0} (key : X → K) (test : X → X → Bool)
   abbrev pub is_taken : X → List X → Bool
   is_taken x xs = list_any (λ y. test y x) xs
 
+  -- an item of this key among one more: the first, or one of the rest
   taken_first : (y : X) (xs : List X) (x : X) (b : Bool) → test y x ≡ b
       → (is_taken x xs ≡ true → (i : ℕ) × (z : X) × (slice_get xs i ≡ Some z) × (key z ≡ key x))
       → (b || is_taken x xs) ≡ true → (i : ℕ) × (z : X) × (slice_get (y ∷ xs) i ≡ Some z)
@@ -44,17 +48,20 @@ module _ {X K : Type 0} (key : X → K) (test : X → X → Bool)
   taken_first y xs x true is later e = (0, y, refl, (same y x).0 is)
   taken_first y xs x false is later e = let t = later e in (suc t.0, t.1, t.2, t.3)
 
+  -- where the key is taken, an item has it
   taken_at : (xs : List X) (x : X) → is_taken x xs ≡ true → (i : ℕ) × (z : X)
       × (slice_get xs i ≡ Some z) × (key z ≡ key x)
   taken_at [] x e = absurd cc
   taken_at (y ∷ xs) x e = taken_first y xs x (test y x) refl (λ h. taken_at xs x h) e
 
+  -- where an item has the key, the key is taken
   at_taken : (xs : List X) (i : ℕ) (y x : X) → slice_get xs i ≡ Some y → key y ≡ key x
       → is_taken x xs ≡ true
   at_taken xs i y x e k =
       list_any_at (λ z. test z x) xs i y (slice_get_within xs i y e)
       (ap (λ (z : X). test z x) (get_or_from_slice_get xs i y y e) ∙ (same y x).1 k)
 
+  -- no items
   pub distinct_none : AreDistinctBy key []
   distinct_none i j x y at_i at_j k = absurd cc
 

@@ -8,26 +8,24 @@ use Rattle.mc_topology.specs.declared.fault.TopologyFault.{TopologyFault}
 use Rattle.mc_topology.specs.Answer.{place, each}
 
 module _ {A D X : Type 0} (section : Section) (one : List X → D → Result X TopologyFaultKind)
-    (see : A → D) where
+    (see : A → D) (earlier : List X) (rows : List A) (i : ℕ) where
   -- a part that is read
-  pub each_next : (earlier : List X) (rows : List A) (i : ℕ) (row : A) (x : X) → i < length rows
-      → row ≡ get_or rows i row → place section (length earlier + 1) (one earlier (see row)) ≡ Ok x
+  pub each_next : (row : A) (x : X) → i < length rows → row ≡ get_or rows i row
+      → one earlier (see row) ≡ Ok x
       → each section one earlier (map see (drop i rows))
       ≡ each section one (earlier ++ x ∷ []) (map see (drop (i + 1) rows))
   unfolding each
-  each_next earlier rows i row x lt is ok = rw (drop_more rows i row lt, ← is, ok) refl
+  each_next row x lt is ok = rw (drop_more rows i row lt, ← is, ok) refl
 
   -- a part that is refused
-  pub each_refused : (earlier : List X) (rows : List A) (i : ℕ) (row : A) (fault : TopologyFault)
-      → i < length rows → row ≡ get_or rows i row
-      → place section (length earlier + 1) (one earlier (see row)) ≡ Err fault
+  pub each_refused : (row : A) (fault : TopologyFault) → i < length rows → row ≡ get_or rows i row
+      → length earlier ≡ i → place section (i + 1) (one earlier (see row)) ≡ Err fault
       → each section one earlier (map see (drop i rows)) ≡ Err fault
   unfolding each
-  each_refused earlier rows i row fault lt is refused =
-      rw (drop_more rows i row lt, ← is, refused) refl
+  each_refused row fault lt is count refused =
+      rw (drop_more rows i row lt, ← is, count, refused) refl
 
   -- no part is left
-  pub each_done : (earlier : List X) (rows : List A) (i : ℕ) → length rows ≤ i
-      → each section one earlier (map see (drop i rows)) ≡ Ok earlier
+  pub each_done : length rows ≤ i → each section one earlier (map see (drop i rows)) ≡ Ok earlier
   unfolding each
-  each_done earlier rows i past = rw (drop_all i rows past) refl
+  each_done past = rw (drop_all i rows past) refl

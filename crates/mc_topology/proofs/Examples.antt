@@ -1,6 +1,6 @@
 -- A small topology, read as the definitions say: they compute. The text is that of the tests, with
 -- the quotes of TOML's literal texts.
-use Rattle.std.proofs.Common.{◌≡◌, ℕ, List, [], ◌∷◌, codes, Ok, refl}
+use Rattle.std.proofs.Common.{◌≡◌, ℕ, List, [], ◌∷◌, ◌++◌, codes, Ok, refl}
 use Rattle.std.specs.Fmt.{digits}
 use Rattle.std.specs.Str.{is_utf8, chars}
 use Rattle.toml.proofs.OnLiterals.{toml_on_literals}
@@ -21,8 +21,14 @@ use Rattle.mc_topology.specs.Sources.{source_of, sources_in}
 
 -- two LANs, a router of big endian between them, and a flow from 10.0.0.5 to 239.1.2.3
 abbrev text : List ℕ
-text = codes "version = 1\nlans = ['l0', 'l1']\nrouter = [{name = 'r1', order = 'big'}]\ninterface = [{router = 'r1', device = 'eth0', lan = 'l0'}, {router = 'r1', device = 'eth1', lan = 'l1'}]\nsource = [{address = '10.0.0.5', lan = 'l0'}]\nflow = [{source = '10.0.0.5', group = '239.1.2.3', ttl = 3}]\n"
+text =
+    codes "version = 1\nlans = ['l0', 'l1']\nrouter = [{name = 'r1', order = 'big'}]\n"
+    ++ codes "interface = [{router = 'r1', device = 'eth0', lan = 'l0'}, "
+    ++ codes "{router = 'r1', device = 'eth1', lan = 'l1'}]\n"
+    ++ codes "source = [{address = '10.0.0.5', lan = 'l0'}]\n"
+    ++ codes "flow = [{source = '10.0.0.5', group = '239.1.2.3', ttl = 3}]\n"
 
+-- it is read as that
 pub text_is_read : reading_of text ≡ Ok (record {
   lans = codes "l0" ∷ codes "l1" ∷ [];
   routers = (record { name = codes "r1"; order = Big }) ∷ [];

@@ -16,6 +16,7 @@ use Rattle.mc_topology.proofs.Keyed.{same_number, any_of_rows, any_of_entries, n
 abbrev pub same_pair : ℕ × ℕ → ℕ × ℕ → Bool
 same_pair x y = (x.0 == y.0) && (x.1 == y.1)
 
+-- a test of a flow's source and group is a test of its key
 flow_agrees : (source group : ℕ) (f : Flow)
     → ((f.source == source) && (f.group == group)) ≡ same_pair (source, group) (flow_key f)
 flow_agrees source group f = rw (same_number f.source source, same_number f.group group) refl
@@ -41,6 +42,7 @@ flow_added m f kept new =
     (none_from (lookup (same_pair (flow_key f)) m.entries)
     (any_flow m.entries f.source f.group kept ∙ new))
 
+-- so the flows are the old ones and it
 pub flow_pushed : {S : Type 0} (m : IndexMap (ℕ × ℕ) Flow S) (f : Flow)
     → keys_of m.entries ≡ map flow_key (values_of m.entries)
     → has_flow f.source f.group (values_of m.entries) ≡ false

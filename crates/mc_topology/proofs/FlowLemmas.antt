@@ -11,6 +11,7 @@ use lib.IntN.{nat_abs}
 use Rattle.mc_topology.specs.declared.fault.TopologyFaultKind.TheVariants.{BadTtl}
 use Rattle.mc_topology.specs.Flows.{ttl_of}
 
+-- a number of 1 to 255 is a time to live, and no other is
 pub ttl_of-within : (z : ℤ) → pos 1 ≤ℤ z → z ≤ℤ pos 255 → ttl_of z ≡ Ok (nat_abs z)
 unfolding ttl_of
 ttl_of-within (pos n) low high =
@@ -33,11 +34,13 @@ ttl_of-high (negsuc n) high = refl
 
 -- ---- what a test of the order tells
 
+-- an order that is less or equal says that no number is greater
 le_tells : (x y : ℤ) (r : Ordering) → r ≡ int_cmp x y → is_le r ≡ true → x ≤ℤ y
 le_tells x y Less e is = let below : x <ℤ y = int_ranked x y Less e in omega (arith, ints)
 le_tells x y Equal e is = let same : x ≡ y = int_ranked x y Equal e in omega (arith, ints)
 le_tells x y Greater e is = absurd cc
 
+-- and one that is neither says that the second is less
 above_tells : (x y : ℤ) (r : Ordering) → r ≡ int_cmp x y → is_le r ≡ false → y <ℤ x
 above_tells x y Less e is = absurd cc
 above_tells x y Equal e is = absurd cc
@@ -57,6 +60,7 @@ outside_by z true true at_low at_high e = absurd cc
 outside_by z true false at_low at_high e = ttl_of-high z (above_tells z (pos 255) _ refl at_high)
 outside_by z false high at_low at_high e = ttl_of-low z (above_tells (pos 1) z _ refl at_low)
 
+-- so a number that fails one of the two tests is no time to live
 pub ttl_outside : (z : ℤ) → (is_le (int_cmp (pos 1) z) && is_le (int_cmp z (pos 255))) ≡ false
     → ttl_of z ≡ Err BadTtl
 ttl_outside z e = outside_by z (is_le (int_cmp (pos 1) z)) (is_le (int_cmp z (pos 255))) refl refl e

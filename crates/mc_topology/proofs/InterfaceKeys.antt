@@ -5,7 +5,7 @@ use Rattle.std.specs.Prelude.{◌==◌}
 use Rattle.std.specs.Str.{bytes_eq}
 use Rattle.std.proofs.lemmas.Option.{slice_get_within, get_or_from_slice_get}
 use Rattle.indexmap.specs.IndexMap.{IndexMap, insert_entry}
-use Rattle.mc_topology.specs.contracts.interfaces.InterfaceKeyPartialEq.TheImpl.{ghosts as key_tests}
+use Rattle.mc_topology.specs.contracts.interfaces.InterfaceKeyPartialEq.TheImpl as key_tests
 use Rattle.mc_topology.specs.declared.interfaces.InterfaceKey.{InterfaceKey}
 use Rattle.mc_topology.specs.Interfaces.{is_at, has_interface, lan_of_interface}
 use Rattle.mc_topology.specs.Kept.{interface_row, HaveShortDevices}
@@ -20,15 +20,16 @@ pub interface_agrees : (k : InterfaceKey) (e : InterfaceKey × ℕ)
 interface_agrees k e =
     rw (same_number k.router e.0.router, same_text k.device.items e.0.device.items) refl
 
+-- an interface with a new router and device goes last
 pub interface_pushed : {S : Type 0} (m : IndexMap InterfaceKey ℕ S) (k : InterfaceKey) (lan : ℕ)
     (old : List InterfaceRow) → map interface_row m.entries ≡ old
     → has_interface k.router k.device.items old ≡ false
-    → map interface_row (insert_entry key_tests.eq m.entries k lan) ≡ old ++ interface_row (k, lan)
-    ∷ []
+    → map interface_row (insert_entry key_tests.ghosts.eq m.entries k lan)
+    ≡ old ++ interface_row (k, lan) ∷ []
 interface_pushed m k lan old kept new =
     let unknown = rw (← kept) at new in
     let pushed =
-    push_entry interface_row key_tests.eq (is_at k.router k.device.items) m k lan
+    push_entry interface_row key_tests.ghosts.eq (is_at k.router k.device.items) m k lan
     (interface_agrees k) unknown in
     rw (← kept) pushed
 

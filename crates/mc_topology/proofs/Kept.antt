@@ -22,6 +22,7 @@ use Rattle.mc_topology.proofs.Whole.{each_length, sections_take}
 
 -- ---- sources and flows
 
+-- the LAN of the first source with the address, where each source has a LAN below the most
 source_first : (s : SourceRow) (ss : List SourceRow) (address lan most : ℕ) (b : Bool)
     → s.lan < most → (lan_of_source address ss ≡ Some lan → lan < most)
     → option_map (λ (x : SourceRow). x.lan) (cond b (Some s) (find (λ x. x.address == address) ss))
@@ -61,6 +62,7 @@ each_kept Stands Keeps keeps ds xs n x s e =
     let row = row_at Stands ds xs n x s e in
     keeps row.0 x row.1
 
+-- an interface that a row stands for is one among those of the topology
 interface_kept : (lans : List (List ℕ)) (routers : List RouterRow) (t : TopologyValue)
     → t.lans ≡ lans → t.routers ≡ routers
     → (d : Data) (i : InterfaceRow) → IsInterface lans routers d i → IsInterfaceAmong t i
@@ -71,6 +73,7 @@ interface_kept lans routers t same_lans same_routers d i is =
       lan = rw same_lans (lan_within lans i.lan is.lan_name is.lan);
     }
 
+-- a flow that a row stands for is one on the LANs, as its source is
 flow_kept : (lans : List (List ℕ)) (sources : List SourceRow) (f : Flow) (d : Data)
     → IsFlow sources d f → ((address lan : ℕ) → lan_of_source address sources ≡ Some lan
     → lan < length lans) → IsFlowAmong lans f
@@ -86,6 +89,7 @@ flow_kept lans sources f d is within =
 
 -- ---- the whole
 
+-- what a document stands for is a topology
 document_kept : (ms : Members) (s : Sections) → DocumentStands ms s → IsTopology (topology_of s)
 document_kept ms s is =
     record {

@@ -14,20 +14,24 @@ use Rattle.mc_topology.proofs.Keyed.{same_text, same_number, push_key, push_entr
 
 -- ---- a test of a key is a test of its row
 
+-- of a LAN, by its name,
 pub lan_agrees : {A : Type 0} (name : List ℕ) (k : String A)
     → bytes_eq name (string_bytes k) ≡ bytes_eq (string_bytes k) name
 lan_agrees name k = same_text name (string_bytes k)
 
+-- of a router, by its name,
 pub router_agrees : {A : Type 0} (name : List ℕ) (e : String A × Order)
     → bytes_eq name (string_bytes e.0) ≡ bytes_eq (router_row e).name name
 router_agrees name e = same_text name (string_bytes e.0)
 
+-- and of a source, by its address
 pub source_agrees : (address : ℕ) (e : ℕ × ℕ)
     → (address == e.0) ≡ ((source_row e).address == address)
 source_agrees address e = same_number address e.0
 
 -- ---- rows that are added
 
+-- a LAN with a new name goes last,
 pub lan_pushed : {A : Type 0} (ks : List (String A)) (k : String A) (old : List (List ℕ))
     (name : List ℕ)
     → map string_bytes ks ≡ old → string_bytes k ≡ name → has_lan name old ≡ false
@@ -39,6 +43,7 @@ lan_pushed ks k old name kept is new =
     (lan_agrees (string_bytes k)) unknown in
     rw (← kept, ← is) pushed
 
+-- a router with a new name,
 pub router_pushed : {A S : Type 0} (m : IndexMap (String A) Order S) (k : String A) (order : Order)
     (old : List RouterRow) (name : List ℕ) → map router_row m.entries ≡ old → string_bytes k ≡ name
     → has_router name old ≡ false
@@ -51,6 +56,7 @@ router_pushed m k order old name kept is new =
     (router_agrees (string_bytes k)) unknown in
     rw (← kept, ← is) pushed
 
+-- and a source with a new address
 pub source_pushed : {S : Type 0} (m : IndexMap ℕ ℕ S) (address lan : ℕ) (old : List SourceRow)
     → map source_row m.entries ≡ old → has_source address old ≡ false
     → map source_row (insert_entry nat_eq m.entries address lan)

@@ -23,6 +23,7 @@ same_tests : {P Q : Type 0} (r s : Bool) → Decides r P → Decides s Q → (P 
 same_tests r s decides_p decides_q to from =
     same_from_decides r s decides_p (λ e. from (decides_q.0 e), λ p. decides_q.1 (to p))
 
+-- a test of two texts or of two numbers is the same either way
 pub same_text : (a b : List ℕ) → bytes_eq a b ≡ bytes_eq b a
 same_text a b =
     same_tests (bytes_eq a b) (bytes_eq b a) (bytes_eq-Decides a b) (bytes_eq-Decides b a)
@@ -70,6 +71,7 @@ module _ {K V R : Type 0} (row : K × V → R) (test : K → Bool) (same : R →
   value_first value e es true is of later = rw (agree e, is, of) refl
   value_first value e es false is of later = rw (agree e, is) later
 
+  -- the value of the first key that passes is that of the first row that does
   pub value_of_row : (value : R → V) → ((e : K × V) → value (row e) ≡ e.1) → (es : List (K × V))
       → lookup test es ≡ option_map value (find same (map row es))
   value_of_row value of [] = refl
@@ -83,6 +85,7 @@ module _ {K V R : Type 0} (row : K × V → R) (test : K → Bool) (same : R →
   any_first e es true is later = rw (agree e, is) refl
   any_first e es false is later = rw (agree e, is) later
 
+  -- and so for all entries
   pub any_of_entries : (es : List (K × V)) → is_some (lookup test es) ≡ list_any same (map row es)
   any_of_entries [] = refl
   any_of_entries (e ∷ es) = any_first e es (same (row e)) refl (any_of_entries es)
@@ -97,6 +100,7 @@ module _ {K V R : Type 0} (row : K × V → R) (test : K → Bool) (same : R →
   pub place_of_entry : (es : List (K × V)) → position test (keys_of es) ≡ position same (map row es)
   place_of_entry es = rw (before_entry es, length-keys_of es, length-map es row) refl
 
+-- an option that has nothing is none
 pub none_from : {V : Type 0} (o : Option V) → is_some o ≡ false → o ≡ None
 none_from None e = refl
 none_from (Some v) e = absurd cc

@@ -11,12 +11,15 @@ use Rattle.mc_topology.specs.Rows.{RouterRow, InterfaceRow, SourceRow}
 use Rattle.mc_topology.specs.Interfaces.{is_at}
 use Rattle.mc_topology.specs.Topology.{lan_key, router_key, interface_key, source_key, flow_key}
 
+-- two LANs have one name
 abbrev pub same_lan : List ℕ → List ℕ → Bool
 same_lan y x = bytes_eq y x
 
+-- exactly if they have one key, and so for the rows of the other sections
 pub same_lan-Decides : (y x : List ℕ) → Decides (same_lan y x) (lan_key y ≡ lan_key x)
 same_lan-Decides y x = bytes_eq-Decides y x
 
+-- two routers have one name
 abbrev pub same_router : RouterRow → RouterRow → Bool
 same_router y x = bytes_eq y.name x.name
 
@@ -24,6 +27,7 @@ pub same_router-Decides : (y x : RouterRow)
     → Decides (same_router y x) (router_key y ≡ router_key x)
 same_router-Decides y x = bytes_eq-Decides y.name x.name
 
+-- two interfaces have one router and one device
 abbrev pub same_interface : InterfaceRow → InterfaceRow → Bool
 same_interface y x = is_at x.router x.device y
 
@@ -46,6 +50,7 @@ pub same_interface-Decides : (y x : InterfaceRow)
     → Decides (same_interface y x) (interface_key y ≡ interface_key x)
 same_interface-Decides y x = is_at-Decides x.router x.device y
 
+-- two sources have one address
 abbrev pub same_source : SourceRow → SourceRow → Bool
 same_source y x = y.address == x.address
 
@@ -53,6 +58,7 @@ pub same_source-Decides : (y x : SourceRow)
     → Decides (same_source y x) (source_key y ≡ source_key x)
 same_source-Decides y x = unsigned_Decides y.address x.address
 
+-- two flows have one source and one group
 abbrev pub same_flow : Flow → Flow → Bool
 same_flow y x = (y.source == x.source) && (y.group == x.group)
 

@@ -43,10 +43,12 @@ module _ {X : Type 0} where
 
 -- ---- LANs
 
+-- the number of a LAN's name is the LAN's, where no two LANs have one name
 pub number_of_lan : (lans : List (List ℕ)) (lan : ℕ) (name : List ℕ) → AreDistinctBy lan_key lans
     → slice_get lans lan ≡ Some name → index_of name lans ≡ Some lan
 number_of_lan lans lan name distinct e = place_of_name lan_key lans lan name distinct e
 
+-- the LAN of a name's number has the name
 pub name_of_lan : (lans : List (List ℕ)) (lan : ℕ) (name : List ℕ) → index_of name lans ≡ Some lan
     → slice_get lans lan ≡ Some name
 name_of_lan lans lan name e =
@@ -68,12 +70,14 @@ router_within [] router name e = absurd cc
 router_within (r ∷ routers) router name e =
     (position-Some (λ y. bytes_eq y.name name) (r ∷ routers) router r e).0
 
+-- a router whose name is told
 named : (o : Option RouterRow) (name : List ℕ)
     → option_map (λ (r : RouterRow). r.name) o ≡ Some name → (r : RouterRow) × (o ≡ Some r)
     × (r.name ≡ name)
 named None name e = absurd cc
 named (Some r) name e = (r, refl, cc)
 
+-- the number of a router's name is the router's, where no two have one name
 pub number_of_router : (routers : List RouterRow) (router : ℕ) (name : List ℕ)
     → AreDistinctBy router_key routers
     → option_map (λ (r : RouterRow). r.name) (slice_get routers router) ≡ Some name
@@ -83,6 +87,7 @@ number_of_router routers router name distinct e =
     subst (λ (n : List ℕ). router_no_of n routers ≡ Some router) called
     (place_of_name router_key routers router r distinct found)
 
+-- the router of a name's number has the name
 pub name_of_router : (routers : List RouterRow) (router : ℕ) (name : List ℕ)
     → router_no_of name routers ≡ Some router
     → option_map (λ (r : RouterRow). r.name) (slice_get routers router) ≡ Some name

@@ -43,6 +43,7 @@ use Rattle.mc_topology.proofs.Steps.{bind_ok, refusal_ok, test_ok, ok_or_ok, ok_
 
 -- ---- addresses and times to live
 
+-- an address that passes is there, and passes the test
 passing_ok : (p : ℕ → Bool) (o : Option ℕ) (a : ℕ) → passing p o ≡ Ok a → (o ≡ Some a)
     × (p a ≡ true)
 passing_ok p None a e = absurd cc
@@ -51,6 +52,7 @@ passing_ok p (Some b) a e =
     let same : b ≡ a = ok_is b a t.1 in
     (ap Some same, ap p (sym same) ∙ t.0)
 
+-- a text that is read as a source's address is that address, dotted
 source_takes : (text : List ℕ) (a : ℕ) → source_address_of text ≡ Ok a → (text ≡ dotted a)
     × IsAddr a × IsSource a
 unfolding source_address_of
@@ -59,11 +61,13 @@ source_takes text a e =
     let at = address_of_text-found text a p.0 in
     (at.1, at.0, is_source-tells a p.1)
 
+-- and the dotted address of a source is read
 source_again : (a : ℕ) → IsAddr a → IsSource a → source_address_of (dotted a) ≡ Ok a
 unfolding source_address_of
 source_again a is may =
     rw (address_of_text-again (dotted a) a is refl) (rw (is_source-from a may) refl)
 
+-- a text that is read as a group's address is that address, dotted
 group_takes : (text : List ℕ) (a : ℕ) → group_address_of text ≡ Ok a → (text ≡ dotted a)
     × IsForwardedGroup a
 unfolding group_address_of
@@ -71,11 +75,13 @@ group_takes text a e =
     let p = passing_ok is_forwarded_group (address_of_text text) a e in
     ((address_of_text-found text a p.0).1, is_forwarded_group-tells a p.1)
 
+-- and the dotted address of a group is read
 group_again : (a : ℕ) → IsForwardedGroup a → group_address_of (dotted a) ≡ Ok a
 unfolding group_address_of
 group_again a is = rw (address_of_text-again (dotted a) a (omega (arith, is.1)) refl)
     (rw (is_forwarded_group-from a is) refl)
 
+-- a number that is read as a time to live is 1 to 255
 ttl_takes : (z : ℤ) (n : ℕ) → ttl_of z ≡ Ok n → (z ≡ pos n) × (1 ≤ n) × (n ≤ 255)
 unfolding ttl_of
 ttl_takes (pos m) n e =
@@ -88,12 +94,14 @@ ttl_takes (pos m) n e =
     )
 ttl_takes (negsuc m) n e = absurd cc
 
+-- and a number of 1 to 255 is read
 ttl_again : (n : ℕ) → 1 ≤ n → n ≤ 255 → ttl_of (pos n) ≡ Ok n
 unfolding ttl_of
 ttl_again n low high = rw (le-leb 1 n low, le-leb n 255 high) refl
 
 -- ---- the parts of the sections
 
+-- a value that is read as a LAN is one, and no earlier LAN has its name
 pub lan_takes : (earlier : List (List ℕ)) (d : Data) (name : List ℕ) → lan_of earlier d ≡ Ok name
     → IsLan d name × (has_lan name earlier ≡ false)
 unfolding lan_of
@@ -110,11 +118,13 @@ lan_takes earlier d name e =
       new.0,
     )
 
+-- and a LAN with a new name is read
 pub lan_again : (earlier : List (List ℕ)) (d : Data) (name : List ℕ) → IsLan d name
     → has_lan name earlier ≡ false → lan_of earlier d ≡ Ok name
 unfolding lan_of
 lan_again earlier d name is new = rw (is.text, is.fits, new) refl
 
+-- a value that is read as a router is one, and no earlier router has its name
 pub router_takes : (earlier : List RouterRow) (d : Data) (r : RouterRow)
     → router_of earlier d ≡ Ok r → IsRouter d r × (has_router r.name earlier ≡ false)
 unfolding router_of
@@ -138,6 +148,7 @@ router_takes earlier d r e =
       new.0,
     )
 
+-- and a router with a new name is read
 pub router_again : (earlier : List RouterRow) (d : Data) (r : RouterRow) → IsRouter d r
     → has_router r.name earlier ≡ false → router_of earlier d ≡ Ok r
 unfolding router_of
@@ -153,6 +164,7 @@ router_again earlier d r is new =
       new,
     ) refl
 
+-- a value that is read as an interface is one, and no earlier one has its router and device
 pub interface_takes : (lans : List (List ℕ)) (routers : List RouterRow)
     (earlier : List InterfaceRow) (d : Data) (i : InterfaceRow)
     → interface_of lans routers earlier d ≡ Ok i → IsInterface lans routers d i
@@ -185,6 +197,7 @@ interface_takes lans routers earlier d i e =
       new.0,
     )
 
+-- and an interface with a new router and device is read
 pub interface_again : (lans : List (List ℕ)) (routers : List RouterRow)
     (earlier : List InterfaceRow) (d : Data) (i : InterfaceRow) → IsInterface lans routers d i
     → has_interface i.router i.device earlier ≡ false → interface_of lans routers earlier d ≡ Ok i
@@ -205,6 +218,7 @@ interface_again lans routers earlier d i is new =
     )
     refl
 
+-- a value that is read as a source is one, and no earlier source has its address
 pub source_row_takes : (lans : List (List ℕ)) (earlier : List SourceRow) (d : Data) (s : SourceRow)
     → source_of lans earlier d ≡ Ok s → IsSourceRow lans d s
     × (has_source s.address earlier ≡ false)
@@ -233,6 +247,7 @@ source_row_takes lans earlier d s e =
       new.0,
     )
 
+-- and a source with a new address is read
 pub source_row_again : (lans : List (List ℕ)) (earlier : List SourceRow) (d : Data) (s : SourceRow)
     → IsSourceRow lans d s → has_source s.address earlier ≡ false → source_of lans earlier d ≡ Ok s
 unfolding source_of
@@ -249,6 +264,7 @@ source_row_again lans earlier d s is new =
     )
     refl
 
+-- a value that is read as a flow is one, and no earlier flow has its source and group
 pub flow_takes : (sources : List SourceRow) (earlier : List Flow) (d : Data) (f : Flow)
     → flow_of sources earlier d ≡ Ok f → IsFlow sources d f
     × (has_flow f.source f.group earlier ≡ false)
@@ -286,6 +302,7 @@ flow_takes sources earlier d f e =
       new.0,
     )
 
+-- and a flow with a new source and group is read
 pub flow_again : (sources : List SourceRow) (earlier : List Flow) (d : Data) (f : Flow)
     → IsFlow sources d f → has_flow f.source f.group earlier ≡ false
     → flow_of sources earlier d ≡ Ok f

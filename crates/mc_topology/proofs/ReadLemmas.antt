@@ -28,11 +28,13 @@ found_at : (text : List ℕ) (r : Result TopologyValue TopologyFault) → r ≡ 
 found_at text (Ok t) gives = reading_takes text t (sym gives)
 found_at text (Err fault) gives = tt
 
+-- the same of an answer that want of memory may stand in place of
 pub read_found : (text : List ℕ) (r : Result TopologyValue TopologyFault)
     → (r ≢ Err out_of_memory → r ≡ reading_of text) → IfOk r (TopologyStands text)
 read_found text (Ok t) gives = found_at text (Ok t) (gives (λ e. absurd cc))
 read_found text (Err fault) gives = tt
 
+-- a text that stands for a topology is read as that, unless memory runs out
 pub read_only : (text : List ℕ) (r : Result TopologyValue TopologyFault)
     → (r ≢ Err out_of_memory → r ≡ reading_of text) → (t : TopologyValue) → TopologyStands text t
     → r ≢ Err out_of_memory → r ≡ Ok t
@@ -46,6 +48,7 @@ one_topology text t u is_t is_u =
 
 -- ---- refusals
 
+-- by what the test for UTF-8 answers
 refused_by : (text : List ℕ) (b : Bool) → is_utf8 text ≡ b → length text ≤ 16777216
     → (IsUtf8 text → parse_document text ≡ None) → document_of text ≡ Err NotToml
 unfolding document_of utf8_text

@@ -1,11 +1,10 @@
 -- Steps that may be refused.
 use Rattle.std.proofs.Common.{◌≡◌, ℕ, Bool, true, false, cond, Option, Some, None, Result, Ok, Err}
-use Rattle.std.proofs.Common.{refl, sym, ap, ◌∙◌}
+use Rattle.std.proofs.Common.{refl}
 use Rattle.std.specs.Option.{ok_or}
 use Rattle.mc_topology.specs.declared.fault.Section.{Section}
 use Rattle.mc_topology.specs.declared.fault.TopologyFaultKind.{TopologyFaultKind}
-use Rattle.mc_topology.specs.declared.fault.TopologyFault.{TopologyFault}
-use Rattle.mc_topology.specs.Answer.{◌>>=◌, Answers, place}
+use Rattle.mc_topology.specs.Answer.{◌>>=◌, place}
 
 module _ {A E : Type 0} where
   -- a step that was not refused, and what comes after it
@@ -26,47 +25,21 @@ module _ {A E : Type 0} where
   test_ok true k r y e = (refl, e)
   test_ok false k r y e = absurd cc
 
+  -- an option that was not refused has the value
   pub ok_or_ok : (o : Option A) (k : E) (y : A) → ok_or o k ≡ Ok y → o ≡ Some y
   ok_or_ok None k y e = absurd cc
   ok_or_ok (Some x) k y e = cc
 
+  -- a step that answers
   abbrev done : A → Result A E
   done x = Ok x
 
+  -- two steps that answer the same have one value
   pub ok_is : (x y : A) → done x ≡ done y → x ≡ y
   ok_is x y e = cc
 
+-- a step that was placed and not refused
 pub place_ok : {A : Type 0} (section : Section) (number : ℕ) (r : Result A TopologyFaultKind)
     (x : A) → place section number r ≡ Ok x → r ≡ Ok x
 place_ok section number (Ok y) x e = cc
 place_ok section number (Err k) x e = absurd cc
-
--- ---- what a call answers, and what it reads
-
-abbrev fault_at : Section → ℕ → TopologyFaultKind → TopologyFault
-fault_at section number kind = record { section = section; number = number; kind = kind }
-
--- a call that answers a value as it stands
-pub answers_same : {X E : Type 0} (r step : Result X E) → r ≡ step → Answers (λ (x : X). x) r step
-answers_same (Ok x) step e = sym e
-answers_same (Err k) step e = sym e
-
-module _ {X Y : Type 0} (view : X → Y) (section : Section) (number : ℕ) where
-  -- a part that was read
-  pub read_ok : (r : Result X TopologyFaultKind) (step : Result Y TopologyFaultKind)
-      (placed : Result X TopologyFault) (x : X)
-      → Answers view r step → placed ≡ place section number r → placed ≡ Ok x → step ≡ Ok (view x)
-  read_ok (Ok y) step placed x answers is was =
-      let same : y ≡ x = let both = sym is ∙ was in cc in
-      answers ∙ ap (λ (z : X). Ok (view z)) same
-  read_ok (Err k) step placed x answers is was = absurd (let both = sym is ∙ was in cc)
-
-  -- a part that was refused
-  pub read_err : (r : Result X TopologyFaultKind) (step : Result Y TopologyFaultKind)
-      (placed : Result X TopologyFault) (fault : TopologyFault)
-      → Answers view r step → placed ≡ place section number r → placed ≡ Err fault
-      → place section number step ≡ Err fault
-  read_err (Ok y) step placed fault answers is was = absurd (let both = sym is ∙ was in cc)
-  read_err (Err k) step placed fault answers is was =
-      let same : fault_at section number k ≡ fault = let both = sym is ∙ was in cc in
-      ap (place section number) answers ∙ ap (λ (f : TopologyFault). Err f) same

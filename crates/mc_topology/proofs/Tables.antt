@@ -19,6 +19,7 @@ pub list_any-now : (p : List ℕ → Bool) (texts : List (Bor (List ℕ)))
 list_any-now p [] = refl
 list_any-now p (t ∷ texts) = ap (λ (b : Bool). p t.now || b) (list_any-now p texts)
 
+-- the key is one of the known ones
 abbrev known_in : List (List ℕ) → List ℕ → Bool
 known_in known key = list_any (λ k. bytes_eq k key) known
 

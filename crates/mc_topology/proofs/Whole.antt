@@ -53,6 +53,7 @@ use Rattle.mc_topology.proofs.Steps.{bind_ok, refusal_ok, test_ok, ok_or_ok, ok_
 module _ {X K : Type 0} (name : Section) (word : List ℕ) (most : ℕ)
     (one : List X → Data → Result X TopologyFaultKind) (Stands : Data → X → Type 0) (key : X → K)
     (test : X → X → Bool) (same : (y x : X) → Decides (test y x) (key y ≡ key x)) where
+  -- where a section is read, its rows stand for what is read
   section_takes : ((earlier : List X) (d : Data) (x : X) → one earlier d ≡ Ok x → Stands d x
       × (list_any (λ y. test y x) earlier ≡ false)) → (ms : Members) (xs : List X)
       → (place name 0 (rows_at word most ms) >>= each name one []) ≡ Ok xs
@@ -70,6 +71,7 @@ module _ {X K : Type 0} (name : Section) (word : List ℕ) (most : ℕ)
         distinct = distinct;
       }
 
+  -- and what the rows of a section stand for is read
   section_again : ((earlier : List X) (d : Data) (x : X) → Stands d x
       → list_any (λ y. test y x) earlier ≡ false → one earlier d ≡ Ok x)
       → (ms : Members) (xs : List X) → SectionStands word most Stands key ms xs
@@ -78,6 +80,7 @@ module _ {X K : Type 0} (name : Section) (word : List ℕ) (most : ℕ)
       rw (rows_at-again word most ms s.rows s.list s.few)
       (each_again name one Stands key test same again [] s.rows xs s.each s.distinct)
 
+-- the routers, in the one direction and the other,
 routers_take : (ms : Members) (rs : List RouterRow) → routers_in ms ≡ Ok rs
     → SectionStands (codes "router") 256 IsRouter router_key ms rs
 unfolding routers_in
@@ -94,6 +97,7 @@ routers_again ms rs s =
     (codes "router") 256 router_of IsRouter router_key same_router same_router-Decides router_again
     ms rs s
 
+-- the interfaces, beside LANs and routers,
 interfaces_take : (lans : List (List ℕ)) (routers : List RouterRow) (ms : Members)
     (is : List InterfaceRow) → interfaces_in lans routers ms ≡ Ok is
     → SectionStands (codes "interface") 8192 (IsInterface lans routers) interface_key ms is
@@ -113,6 +117,7 @@ interfaces_again lans routers ms is s =
     (IsInterface lans routers) interface_key same_interface same_interface-Decides
     (interface_again lans routers) ms is s
 
+-- and the sources, beside LANs
 sources_take : (lans : List (List ℕ)) (ms : Members) (ss : List SourceRow)
     → sources_in lans ms ≡ Ok ss
     → SectionStands (codes "source") 4096 (IsSourceRow lans) source_key ms ss
@@ -131,6 +136,7 @@ sources_again lans ms ss s =
 
 -- ---- LANs
 
+-- where the LANs are read, their list stands for what is read
 lans_take : (ms : Members) (lans : List (List ℕ)) → lans_in ms ≡ Ok lans → LansStand ms lans
 unfolding lans_in lan_rows
 lans_take ms lans e =
@@ -154,6 +160,7 @@ lans_take ms lans e =
       distinct = distinct;
     }
 
+-- and what their list stands for is read
 lans_again : (ms : Members) (lans : List (List ℕ)) → LansStand ms lans → lans_in ms ≡ Ok lans
 unfolding lans_in lan_rows
 lans_again ms lans s =
@@ -166,6 +173,7 @@ lans_again ms lans s =
 
 -- ---- flows
 
+-- as many values as rows
 pub each_length : {X : Type 0} (Stands : Data → X → Type 0) (ds : List Data) (xs : List X)
     → EachStands Stands ds xs → length ds ≡ length xs
 each_length Stands [] [] s = refl
@@ -173,6 +181,7 @@ each_length Stands [] (x ∷ xs) s = absurd s
 each_length Stands (d ∷ ds) [] s = absurd s
 each_length Stands (d ∷ ds) (x ∷ xs) s = omega (arith, each_length Stands ds xs s.1)
 
+-- where the flows are read, their list stands for what is read, one flow at least
 flows_take : (sources : List SourceRow) (ms : Members) (fs : List Flow)
     → flows_in sources ms ≡ Ok fs
     → SectionStands (codes "flow") 4096 (IsFlow sources) flow_key ms fs × (0 < length fs)
@@ -204,6 +213,7 @@ flows_take sources ms fs e =
       omega (arith, long, ap length same, each_length (IsFlow sources) a.0 fs stand'),
     )
 
+-- and what their list stands for is read, if it is one flow at least
 flows_again : (sources : List SourceRow) (ms : Members) (fs : List Flow)
     → SectionStands (codes "flow") 4096 (IsFlow sources) flow_key ms fs → 0 < length fs
     → flows_in sources ms ≡ Ok fs
@@ -220,6 +230,7 @@ flows_again sources ms fs s some =
 
 -- ---- the document
 
+-- where the keys and the version pass, the keys are known and the version is 1
 version_takes : (ms : Members) → version_in ms ≡ Ok tt → (has_only top_keys ms ≡ true)
     × HasNumber (codes "version") ms 1
 unfolding version_in
@@ -231,11 +242,13 @@ version_takes ms e =
     let same : a.0 ≡ pos 1 = (signed_Decides a.0 (pos 1)).0 one.0 in
     (t.0, number_at-takes (codes "version") ms (pos 1) (a.1 ∙ ap Ok same))
 
+-- and known keys and the version 1 pass
 version_again : (ms : Members) → has_only top_keys ms ≡ true → HasNumber (codes "version") ms 1
     → version_in ms ≡ Ok tt
 unfolding version_in
 version_again ms keys one = rw (keys, number_at-again (codes "version") ms (pos 1) one) refl
 
+-- where the sections are read, the document stands for what is read
 pub sections_take : (ms : Members) (s : Sections) → sections_in ms ≡ Ok s → DocumentStands ms s
 unfolding sections_in
 sections_take ms s e =
@@ -266,6 +279,7 @@ sections_take ms s e =
       some_flow = flow.1;
     })
 
+-- and what the document stands for is read
 sections_again : (ms : Members) (s : Sections) → DocumentStands ms s → sections_in ms ≡ Ok s
 unfolding sections_in
 sections_again ms s is =

@@ -1,10 +1,13 @@
 -- What stands under the keys of a table.
-use Rattle.std.specs.Prelude.{ℕ, ℤ, nat_le, length, Bool, List, [], ◌∷◌, Option, Some, None, Result, Ok, Err, ok_or, if◌then◌else◌}
+use Rattle.std.specs.Prelude.{ℕ, ℤ, nat_le, length, Bool, List, [], ◌∷◌, Option, Some, None, Result}
+use Rattle.std.specs.Prelude.{Ok, Err, ok_or, if◌then◌else◌}
 use Rattle.std.specs.List.{list_all, list_any}
 use Rattle.std.specs.Str.{bytes_eq}
-use Rattle.toml.specs.Data.{Data, Items, no_items, item, Members, no_members, member, get_member, as_str, as_integer, as_table, as_array}
+use Rattle.toml.specs.Data.{Data, Items, no_items, item, Members, no_members, member, get_member}
+use Rattle.toml.specs.Data.{as_str, as_integer, as_table, as_array}
 use Rattle.mc_topology.specs.declared.fault.TopologyFaultKind.{TopologyFaultKind}
-use Rattle.mc_topology.specs.declared.fault.TopologyFaultKind.TheVariants.{MissingKey, BadKind, UnknownKey, TooMany}
+use Rattle.mc_topology.specs.declared.fault.TopologyFaultKind.TheVariants.{MissingKey, BadKind}
+use Rattle.mc_topology.specs.declared.fault.TopologyFaultKind.TheVariants.{UnknownKey, TooMany}
 use Rattle.mc_topology.specs.Answer.{◌>>=◌}
 
 -- the keys of a table
@@ -33,7 +36,9 @@ list_of d = ok_or (as_array d) BadKind >>= λ items. Ok (rows_in items)
 
 -- a table that has no other key than these
 unfoldable pub known_table : List (List ℕ) → Data → Result Members TopologyFaultKind
-known_table known d = ok_or (as_table d) BadKind >>= λ ms. if has_only known ms then Ok ms else Err UnknownKey
+known_table known d =
+    ok_or (as_table d) BadKind >>= λ ms.
+    if has_only known ms then Ok ms else Err UnknownKey
 
 -- the value under a key that has to be there
 abbrev pub at_key : List ℕ → Members → Result Data TopologyFaultKind

@@ -1,12 +1,15 @@
 -- The flows.
-use Rattle.std.specs.Prelude.{ℕ, ℤ, pos, negsuc, ◌==◌, ◌&&◌, nat_le, List, [], ◌∷◌, length, codes, Bool, Result, Ok, Err, ok_or, if◌then◌else◌}
+use Rattle.std.specs.Prelude.{ℕ, ℤ, pos, negsuc, ◌==◌, ◌&&◌, nat_le, List, [], ◌∷◌, length, codes}
+use Rattle.std.specs.Prelude.{Bool, Result, Ok, Err, ok_or, if◌then◌else◌}
 use Rattle.std.specs.List.{list_any}
 use Rattle.toml.specs.Data.{Data, Members}
 use Rattle.mc_topology.specs.Rows.{SourceRow}
 use Rattle.mc_topology.specs.declared.flow.Flow.{Flow}
 use Rattle.mc_topology.specs.declared.fault.Section.TheVariants as section
 use Rattle.mc_topology.specs.declared.fault.TopologyFaultKind.{TopologyFaultKind}
-use Rattle.mc_topology.specs.declared.fault.TopologyFaultKind.TheVariants.{BadTtl, UnknownName, RepeatedFlow, NoFlow, TooMany}
+use Rattle.mc_topology.specs.declared.fault.TopologyFaultKind.TheVariants.{BadTtl, UnknownName}
+use Rattle.mc_topology.specs.declared.fault.TopologyFaultKind.TheVariants.{RepeatedFlow, NoFlow}
+use Rattle.mc_topology.specs.declared.fault.TopologyFaultKind.TheVariants.{TooMany}
 use Rattle.mc_topology.specs.declared.fault.TopologyFault.{TopologyFault}
 use Rattle.mc_topology.specs.Addresses.{source_address_of, group_address_of}
 use Rattle.mc_topology.specs.Answer.{◌>>=◌, place, each}
@@ -26,11 +29,12 @@ ttl_of (negsuc n) = Err BadTtl
 abbrev pub has_flow : ℕ → ℕ → List Flow → Bool
 has_flow source group flows = list_any (λ f. (f.source == source) && (f.group == group)) flows
 
--- A flow. It has to be a table (else BadKind) of no other keys (UnknownKey). Then the keys: `source`, `group`
--- and `ttl`, in this order, each have to be there (MissingKey) and to be a text, and `ttl` a whole number
--- (BadKind). Then the values: the first is the address of a host that may send (BadAddress), a source has it
--- (UnknownName), the second is the address of a group that routers forward (BadAddress), the third is a time
--- to live (BadTtl), and no earlier flow has the source and the group (RepeatedFlow).
+-- A flow. It has to be a table (else BadKind) of no other keys (UnknownKey). Then the keys:
+-- `source`, `group` and `ttl`, in this order, each have to be there (MissingKey) and to be a text,
+-- and `ttl` a whole number (BadKind). Then the values: the first is the address of a host that may
+-- send (BadAddress), a source has it (UnknownName), the second is the address of a group that
+-- routers forward (BadAddress), the third is a time to live (BadTtl), and no earlier flow has the
+-- source and the group (RepeatedFlow).
 unfoldable pub flow_of : List SourceRow → List Flow → Data → Result Flow TopologyFaultKind
 flow_of sources earlier d = do
   table ← known_table flow_keys d
@@ -44,14 +48,16 @@ flow_of sources earlier d = do
   if has_flow source group earlier then Err RepeatedFlow
       else Ok (record { source = source; lan = lan; group = group; ttl = ttl })
 
--- The list has to be a list (else BadKind), then of one flow at least (NoFlow), and then of at most 4,096
--- (TooMany).
+-- The list has to be a list (else BadKind), then of one flow at least (NoFlow), and then of at most
+-- 4,096 (TooMany).
 unfoldable pub flow_rows : Members → Result (List Data) TopologyFaultKind
 flow_rows ms = do
   rows ← optional_list_at (codes "flow") ms
-  if length rows == 0 then Err NoFlow else if nat_le (length rows) 4096 then Ok rows else Err TooMany
+  if length rows == 0 then Err NoFlow
+      else if nat_le (length rows) 4096 then Ok rows else Err TooMany
 
--- The flows: first their list, at the number 0, then each flow from the front, at its number, counted from 1.
+-- The flows: first their list, at the number 0, then each flow from the front, at its number,
+-- counted from 1.
 unfoldable pub flows_in : List SourceRow → Members → Result (List Flow) TopologyFault
 flows_in sources ms = do
   rows ← place section.Flow 0 (flow_rows ms)

@@ -1,12 +1,14 @@
 -- The interfaces.
-use Rattle.std.specs.Prelude.{ℕ, ◌==◌, ◌&&◌, not, List, [], ◌∷◌, codes, find, Bool, Option, option_map, Result, Ok, Err, ok_or, if◌then◌else◌}
+use Rattle.std.specs.Prelude.{ℕ, ◌==◌, ◌&&◌, not, List, [], ◌∷◌, codes, find, Bool, Option}
+use Rattle.std.specs.Prelude.{option_map, Result, Ok, Err, ok_or, if◌then◌else◌}
 use Rattle.std.specs.List.{list_any}
 use Rattle.std.specs.Str.{bytes_eq}
 use Rattle.toml.specs.Data.{Data, Members}
 use Rattle.mc_topology.specs.Rows.{RouterRow, InterfaceRow}
 use Rattle.mc_topology.specs.declared.fault.Section.TheVariants as section
 use Rattle.mc_topology.specs.declared.fault.TopologyFaultKind.{TopologyFaultKind}
-use Rattle.mc_topology.specs.declared.fault.TopologyFaultKind.TheVariants.{BadName, UnknownName, RepeatedInterface}
+use Rattle.mc_topology.specs.declared.fault.TopologyFaultKind.TheVariants.{BadName, UnknownName}
+use Rattle.mc_topology.specs.declared.fault.TopologyFaultKind.TheVariants.{RepeatedInterface}
 use Rattle.mc_topology.specs.declared.fault.TopologyFault.{TopologyFault}
 use Rattle.mc_topology.specs.Answer.{◌>>=◌, place, each}
 use Rattle.mc_topology.specs.Document.{known_table, text_at, rows_at}
@@ -30,10 +32,11 @@ abbrev pub lan_of_interface : ℕ → List ℕ → List InterfaceRow → Option 
 lan_of_interface router device interfaces =
     option_map (λ i. i.lan) (find (is_at router device) interfaces)
 
--- An interface. It has to be a table (else BadKind) of no other keys (UnknownKey). Then the keys: `router`,
--- `device` and `lan`, in this order, each have to be there (MissingKey) and to be a text (BadKind). Then the
--- values: a router has the first name (UnknownName), a device can have the second (BadName), a LAN has the
--- third (UnknownName), and no earlier interface has the router and the device (RepeatedInterface).
+-- An interface. It has to be a table (else BadKind) of no other keys (UnknownKey). Then the keys:
+-- `router`, `device` and `lan`, in this order, each have to be there (MissingKey) and to be a text
+-- (BadKind). Then the values: a router has the first name (UnknownName), a device can have the
+-- second (BadName), a LAN has the third (UnknownName), and no earlier interface has the router and
+-- the device (RepeatedInterface).
 unfoldable pub interface_of : List (List ℕ) → List RouterRow → List InterfaceRow → Data
     → Result InterfaceRow TopologyFaultKind
 interface_of lans routers earlier d = do
@@ -47,8 +50,8 @@ interface_of lans routers earlier d = do
     if has_interface router device earlier then Err RepeatedInterface
         else Ok (record { router = router; device = device; lan = lan })
 
--- The interfaces: first their list, which has to be a list (else BadKind) of at most 8,192 (TooMany), at the
--- number 0, then each interface from the front, at its number, counted from 1.
+-- The interfaces: first their list, which has to be a list (else BadKind) of at most 8,192
+-- (TooMany), at the number 0, then each interface from the front, at its number, counted from 1.
 unfoldable pub interfaces_in : List (List ℕ) → List RouterRow → Members
     → Result (List InterfaceRow) TopologyFault
 interfaces_in lans routers ms = do

@@ -1,11 +1,13 @@
 -- The list of LANs.
-use Rattle.std.specs.Prelude.{ℕ, not, nat_le, List, [], length, codes, Bool, Result, Ok, Err, if◌then◌else◌}
+use Rattle.std.specs.Prelude.{ℕ, not, nat_le, List, [], length, codes, Bool, Result, Ok, Err}
+use Rattle.std.specs.Prelude.{if◌then◌else◌}
 use Rattle.std.specs.List.{list_any}
 use Rattle.std.specs.Str.{bytes_eq}
 use Rattle.toml.specs.Data.{Data, Members}
 use Rattle.mc_topology.specs.declared.fault.Section.TheVariants.{Lans}
 use Rattle.mc_topology.specs.declared.fault.TopologyFaultKind.{TopologyFaultKind}
-use Rattle.mc_topology.specs.declared.fault.TopologyFaultKind.TheVariants.{BadName, RepeatedName, TooMany}
+use Rattle.mc_topology.specs.declared.fault.TopologyFaultKind.TheVariants.{BadName, RepeatedName}
+use Rattle.mc_topology.specs.declared.fault.TopologyFaultKind.TheVariants.{TooMany}
 use Rattle.mc_topology.specs.declared.fault.TopologyFault.{TopologyFault}
 use Rattle.mc_topology.specs.Answer.{◌>>=◌, place, each}
 use Rattle.mc_topology.specs.Document.{text_of, list_at}
@@ -15,22 +17,23 @@ use Rattle.mc_topology.specs.Names.{is_name}
 abbrev pub has_lan : List ℕ → List (List ℕ) → Bool
 has_lan name lans = list_any (λ lan. bytes_eq lan name) lans
 
--- A LAN's name. It has to be a text (else BadKind), then one that can be a name (BadName), and then one
--- that no earlier LAN has (RepeatedName).
+-- A LAN's name. It has to be a text (else BadKind), then one that can be a name (BadName), and then
+-- one that no earlier LAN has (RepeatedName).
 unfoldable pub lan_of : List (List ℕ) → Data → Result (List ℕ) TopologyFaultKind
 lan_of earlier d = do
   name ← text_of d
-  if not (is_name name) then Err BadName else if has_lan name earlier then Err RepeatedName else Ok name
+  if not (is_name name) then Err BadName
+      else if has_lan name earlier then Err RepeatedName else Ok name
 
--- The list has to be there (else MissingKey), then to be a list (BadKind), and then to have at most 1,024
--- values (TooMany).
+-- The list has to be there (else MissingKey), then to be a list (BadKind), and then to have at most
+-- 1,024 values (TooMany).
 unfoldable pub lan_rows : Members → Result (List Data) TopologyFaultKind
 lan_rows ms = do
   rows ← list_at (codes "lans") ms
   if nat_le (length rows) 1024 then Ok rows else Err TooMany
 
--- The LANs: first their list, whose faults have the number 0, then each value from the front, whose faults
--- have its number, counted from 1.
+-- The LANs: first their list, whose faults have the number 0, then each value from the front, whose
+-- faults have its number, counted from 1.
 unfoldable pub lans_in : Members → Result (List (List ℕ)) TopologyFault
 lans_in ms = do
   rows ← place Lans 0 (lan_rows ms)

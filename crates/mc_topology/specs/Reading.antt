@@ -1,12 +1,14 @@
 -- The topology that a text stands for, or its first fault, in the order in which a text is judged.
-use Rattle.std.specs.Prelude.{ℕ, pos, nat_le, List, [], ◌∷◌, length, codes, Result, Ok, Err, ok_or, if◌then◌else◌}
+use Rattle.std.specs.Prelude.{ℕ, pos, nat_le, List, [], ◌∷◌, length, codes, Result, Ok, Err, ok_or}
+use Rattle.std.specs.Prelude.{if◌then◌else◌}
 use Rattle.std.specs.Ordering.{int_eq}
 use Rattle.std.specs.Str.{is_utf8}
 use Rattle.toml.specs.Data.{Members}
 use Rattle.toml.specs.Parse.{parse_document}
 use Rattle.mc_topology.specs.declared.fault.Section.TheVariants.{Top}
 use Rattle.mc_topology.specs.declared.fault.TopologyFaultKind.{TopologyFaultKind}
-use Rattle.mc_topology.specs.declared.fault.TopologyFaultKind.TheVariants.{NotToml, BadVersion, UnknownKey, TooMany}
+use Rattle.mc_topology.specs.declared.fault.TopologyFaultKind.TheVariants.{NotToml, BadVersion}
+use Rattle.mc_topology.specs.declared.fault.TopologyFaultKind.TheVariants.{UnknownKey, TooMany}
 use Rattle.mc_topology.specs.declared.fault.TopologyFault.{TopologyFault}
 use Rattle.mc_topology.specs.Answer.{◌>>=◌, place}
 use Rattle.mc_topology.specs.Document.{has_only, number_at}
@@ -21,8 +23,8 @@ use Rattle.mc_topology.specs.Topology.{Sections, TopologyValue, topology_of}
 unfoldable pub utf8_text : List ℕ → Result (List ℕ) TopologyFaultKind
 utf8_text text = if is_utf8 text then Ok text else Err NotToml
 
--- The table of a text, which has to have at most 16,777,216 bytes (else TooMany), and then to be TOML
--- (NotToml).
+-- The table of a text, which has to have at most 16,777,216 bytes (else TooMany), and then to be
+-- TOML (NotToml).
 unfoldable pub document_of : List ℕ → Result Members TopologyFaultKind
 document_of text =
     if nat_le (length text) 16777216 then (utf8_text text >>= λ t. ok_or (parse_document t) NotToml)
@@ -34,8 +36,8 @@ top_keys =
     codes "version" ∷ codes "lans" ∷ codes "router" ∷ codes "interface" ∷ codes "source"
     ∷ codes "flow" ∷ []
 
--- The top has to have no other keys (else UnknownKey), and then `version` has to be there (MissingKey), to be
--- a whole number (BadKind), and to be 1 (BadVersion).
+-- The top has to have no other keys (else UnknownKey), and then `version` has to be there
+-- (MissingKey), to be a whole number (BadKind), and to be 1 (BadVersion).
 unfoldable pub version_in : Members → Result (Unit {0}) TopologyFaultKind
 version_in ms =
     if has_only top_keys ms
@@ -52,7 +54,13 @@ sections_in ms = do
   interfaces ← interfaces_in lans routers ms
   sources ← sources_in lans ms
   flows ← flows_in sources ms
-  Ok (record { lans = lans; routers = routers; interfaces = interfaces; sources = sources; flows = flows })
+  Ok (record {
+    lans = lans;
+    routers = routers;
+    interfaces = interfaces;
+    sources = sources;
+    flows = flows;
+  })
 
 -- the topology of a table
 unfoldable pub topology_in : Members → Result TopologyValue TopologyFault

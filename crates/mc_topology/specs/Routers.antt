@@ -1,5 +1,6 @@
 -- The routers.
-use Rattle.std.specs.Prelude.{ℕ, not, List, [], ◌∷◌, codes, position, Option, Some, None, Bool, Result, Ok, Err, if◌then◌else◌}
+use Rattle.std.specs.Prelude.{ℕ, not, List, [], ◌∷◌, codes, position, Option, Some, None, Bool}
+use Rattle.std.specs.Prelude.{Result, Ok, Err, if◌then◌else◌}
 use Rattle.std.specs.List.{list_any}
 use Rattle.std.specs.Str.{bytes_eq}
 use Rattle.toml.specs.Data.{Data, Members}
@@ -8,7 +9,8 @@ use Rattle.mc_text.specs.declared.addr.Order.TheVariants.{Little, Big}
 use Rattle.mc_topology.specs.Rows.{RouterRow}
 use Rattle.mc_topology.specs.declared.fault.Section.TheVariants as section
 use Rattle.mc_topology.specs.declared.fault.TopologyFaultKind.{TopologyFaultKind}
-use Rattle.mc_topology.specs.declared.fault.TopologyFaultKind.TheVariants.{BadKind, BadName, RepeatedName}
+use Rattle.mc_topology.specs.declared.fault.TopologyFaultKind.TheVariants.{BadKind, BadName}
+use Rattle.mc_topology.specs.declared.fault.TopologyFaultKind.TheVariants.{RepeatedName}
 use Rattle.mc_topology.specs.declared.fault.TopologyFault.{TopologyFault}
 use Rattle.mc_topology.specs.Answer.{◌>>=◌, place, each}
 use Rattle.mc_topology.specs.Document.{known_table, text_at, optional_text_at, rows_at}
@@ -34,10 +36,10 @@ has_router name routers = list_any (λ r. bytes_eq r.name name) routers
 abbrev pub router_no_of : List ℕ → List RouterRow → Option ℕ
 router_no_of name routers = position (λ r. bytes_eq r.name name) routers
 
--- A router. It has to be a table (else BadKind) of no other keys (UnknownKey). Then the keys: `name` has to
--- be there (MissingKey) and to be a text (BadKind), and so does `order` if it is there (BadKind). Then the
--- values: the name can be one (BadName), the order is one of the two (BadKind), and no earlier router has
--- the name (RepeatedName).
+-- A router. It has to be a table (else BadKind) of no other keys (UnknownKey). Then the keys:
+-- `name` has to be there (MissingKey) and to be a text (BadKind), and so does `order` if it is
+-- there (BadKind). Then the values: the name can be one (BadName), the order is one of the two
+-- (BadKind), and no earlier router has the name (RepeatedName).
 unfoldable pub router_of : List RouterRow → Data → Result RouterRow TopologyFaultKind
 router_of earlier d = do
   table ← known_table router_keys d
@@ -47,8 +49,8 @@ router_of earlier d = do
     order ← order_of order_text
     if has_router name earlier then Err RepeatedName else Ok (record { name = name; order = order })
 
--- The routers: first their list, which has to be a list (else BadKind) of at most 256 (TooMany), at the
--- number 0, then each router from the front, at its number, counted from 1.
+-- The routers: first their list, which has to be a list (else BadKind) of at most 256 (TooMany), at
+-- the number 0, then each router from the front, at its number, counted from 1.
 unfoldable pub routers_in : Members → Result (List RouterRow) TopologyFault
 routers_in ms = do
   rows ← place section.Router 0 (rows_at (codes "router") 256 ms)

@@ -1,11 +1,13 @@
 -- The sources.
-use Rattle.std.specs.Prelude.{ℕ, ◌==◌, List, [], ◌∷◌, codes, find, Bool, Option, option_map, Result, Ok, Err, ok_or, if◌then◌else◌}
+use Rattle.std.specs.Prelude.{ℕ, ◌==◌, List, [], ◌∷◌, codes, find, Bool, Option, option_map, Result}
+use Rattle.std.specs.Prelude.{Ok, Err, ok_or, if◌then◌else◌}
 use Rattle.std.specs.List.{list_any}
 use Rattle.toml.specs.Data.{Data, Members}
 use Rattle.mc_topology.specs.Rows.{SourceRow}
 use Rattle.mc_topology.specs.declared.fault.Section.TheVariants as section
 use Rattle.mc_topology.specs.declared.fault.TopologyFaultKind.{TopologyFaultKind}
-use Rattle.mc_topology.specs.declared.fault.TopologyFaultKind.TheVariants.{UnknownName, RepeatedName}
+use Rattle.mc_topology.specs.declared.fault.TopologyFaultKind.TheVariants.{UnknownName}
+use Rattle.mc_topology.specs.declared.fault.TopologyFaultKind.TheVariants.{RepeatedName}
 use Rattle.mc_topology.specs.declared.fault.TopologyFault.{TopologyFault}
 use Rattle.mc_topology.specs.Addresses.{source_address_of}
 use Rattle.mc_topology.specs.Answer.{◌>>=◌, place, each}
@@ -24,21 +26,23 @@ has_source address sources = list_any (λ s. s.address == address) sources
 abbrev pub lan_of_source : ℕ → List SourceRow → Option ℕ
 lan_of_source address sources = option_map (λ s. s.lan) (find (λ s. s.address == address) sources)
 
--- A source. It has to be a table (else BadKind) of no other keys (UnknownKey). Then the keys: `address` and
--- `lan`, in this order, each have to be there (MissingKey) and to be a text (BadKind). Then the values: the
--- first is the address of a host that may send (BadAddress), a LAN has the name (UnknownName), and no
--- earlier source has the address (RepeatedName).
-unfoldable pub source_of : List (List ℕ) → List SourceRow → Data → Result SourceRow TopologyFaultKind
+-- A source. It has to be a table (else BadKind) of no other keys (UnknownKey). Then the keys:
+-- `address` and `lan`, in this order, each have to be there (MissingKey) and to be a text
+-- (BadKind). Then the values: the first is the address of a host that may send (BadAddress), a LAN
+-- has the name (UnknownName), and no earlier source has the address (RepeatedName).
+unfoldable pub source_of : List (List ℕ) → List SourceRow → Data
+    → Result SourceRow TopologyFaultKind
 source_of lans earlier d = do
   table ← known_table source_keys d
   text ← text_at (codes "address") table
   lan_name ← text_at (codes "lan") table
   address ← source_address_of text
   lan ← ok_or (index_of lan_name lans) UnknownName
-  if has_source address earlier then Err RepeatedName else Ok (record { address = address; lan = lan })
+  if has_source address earlier then Err RepeatedName
+      else Ok (record { address = address; lan = lan })
 
--- The sources: first their list, which has to be a list (else BadKind) of at most 4,096 (TooMany), at the
--- number 0, then each source from the front, at its number, counted from 1.
+-- The sources: first their list, which has to be a list (else BadKind) of at most 4,096 (TooMany),
+-- at the number 0, then each source from the front, at its number, counted from 1.
 unfoldable pub sources_in : List (List ℕ) → Members → Result (List SourceRow) TopologyFault
 sources_in lans ms = do
   rows ← place section.Source 0 (rows_at (codes "source") 4096 ms)

@@ -1,5 +1,6 @@
 -- What a text stands for: the rules of a topology, over the table that TOML's reader gives.
-use Rattle.std.specs.Prelude.{◌≡◌, ℕ, pos, ◌<◌, ◌≤◌, List, [], ◌∷◌, length, codes, IsTrue, IsUtf8, Option, Some, None}
+use Rattle.std.specs.Prelude.{◌≡◌, ℕ, pos, ◌<◌, ◌≤◌, List, [], ◌∷◌, length, codes, IsTrue, IsUtf8}
+use Rattle.std.specs.Prelude.{Option, Some, None}
 use Rattle.toml.specs.Data.{Data, string, integer, array, table, Items, Members, get_member}
 use Rattle.toml.specs.Parse.{parse_document}
 use Rattle.mc_text.specs.Addr.{IsAddr, IsSource, IsForwardedGroup, dotted}
@@ -14,7 +15,8 @@ use Rattle.mc_topology.specs.Interfaces.{interface_keys}
 use Rattle.mc_topology.specs.Sources.{source_keys, lan_of_source}
 use Rattle.mc_topology.specs.Flows.{flow_keys}
 use Rattle.mc_topology.specs.Reading.{top_keys}
-use Rattle.mc_topology.specs.Topology.{Sections, TopologyValue, AreDistinctBy, lan_key, router_key, interface_key, source_key, flow_key, topology_of}
+use Rattle.mc_topology.specs.Topology.{Sections, TopologyValue, AreDistinctBy, lan_key, router_key}
+use Rattle.mc_topology.specs.Topology.{interface_key, source_key, flow_key, topology_of}
 
 -- ---- tables
 
@@ -92,8 +94,8 @@ pub record IsSourceRow (lans : List (List ℕ)) (d : Data) (s : SourceRow) : Typ
   pub may_send : IsSource s.address
   pub lan : index_of lan_name lans ≡ Some s.lan
 
--- a table of the address of one of the sources, the address of a group that routers forward and a time to
--- live of 1 to 255
+-- a table of the address of one of the sources, the address of a group that routers forward and a
+-- time to live of 1 to 255
 pub record IsFlow (sources : List SourceRow) (d : Data) (f : Flow) : Type 0 where
   pub members : Members
   pub is_table : IsTable flow_keys d members

@@ -65,8 +65,8 @@ pub record IsInterfaceAmong (t : TopologyValue) (i : InterfaceRow) : Type 0 wher
   pub device : IsTrue (is_device i.device)
   pub lan : i.lan < length t.lans
 
--- a flow from a host that may send, on one of the LANs, to a group that routers forward, with a time to live
--- of 1 to 255
+-- a flow from a host that may send, on one of the LANs, to a group that routers forward, with a
+-- time to live of 1 to 255
 pub record IsFlowAmong (lans : List (List ℕ)) (f : Flow) : Type 0 where
   pub lan : f.lan < length lans
   pub is_address : IsAddr f.source
@@ -75,9 +75,9 @@ pub record IsFlowAmong (lans : List (List ℕ)) (f : Flow) : Type 0 where
   pub ttl_from : 1 ≤ f.ttl
   pub ttl_to : f.ttl ≤ 255
 
--- What every topology keeps: at most 1,024 LANs and 256 routers, each with a name that is one, no two of
--- one name; at most 8,192 interfaces, each as above, no two of one router and one device; and 1 to 4,096
--- flows, each as above, no two of one source and one group.
+-- What every topology keeps: at most 1,024 LANs and 256 routers, each with a name that is one, no
+-- two of one name; at most 8,192 interfaces, each as above, no two of one router and one device;
+-- and 1 to 4,096 flows, each as above, no two of one source and one group.
 pub record IsTopology (t : TopologyValue) : Type 0 where
   pub few_lans : length t.lans ≤ 1024
   pub few_routers : length t.routers ≤ 256
@@ -89,8 +89,10 @@ pub record IsTopology (t : TopologyValue) : Type 0 where
   pub interfaces_differ : AreDistinctBy interface_key t.interfaces
   pub flows_differ : AreDistinctBy flow_key t.flows
   pub lans_named : (n : ℕ) (name : List ℕ) → slice_get t.lans n ≡ Some name → IsTrue (is_name name)
-  pub routers_named : (n : ℕ) (r : RouterRow) → slice_get t.routers n ≡ Some r → IsTrue (is_name r.name)
-  pub interfaces_among : (n : ℕ) (i : InterfaceRow) → slice_get t.interfaces n ≡ Some i → IsInterfaceAmong t i
+  pub routers_named : (n : ℕ) (r : RouterRow) → slice_get t.routers n ≡ Some r
+      → IsTrue (is_name r.name)
+  pub interfaces_among : (n : ℕ) (i : InterfaceRow) → slice_get t.interfaces n ≡ Some i
+      → IsInterfaceAmong t i
   pub flows_among : (n : ℕ) (f : Flow) → slice_get t.flows n ≡ Some f → IsFlowAmong t.lans f
 
 -- a topology is stored as the tuple of its fields, and so is a flow

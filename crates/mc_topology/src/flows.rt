@@ -1,6 +1,7 @@
 //! The flows of a topology, each told apart by its source and its group.
 
-ghost use Rattle.std.specs.Prelude.{◌≡◌, ◌++◌, ◌<◌, [], ◌∷◌, false, length, slice_get, Some, IfErr, OnOk};
+ghost use Rattle.std.specs.Prelude.{◌≡◌, ◌++◌, ◌<◌, [], ◌∷◌, false, length, slice_get, Some, IfErr};
+ghost use Rattle.std.specs.Prelude.{OnOk};
 ghost use Rattle.mc_topology.specs.Answer.{out_of_memory};
 ghost use Rattle.mc_topology.specs.Flows.{has_flow};
 

@@ -1,6 +1,7 @@
 //! The interfaces of a topology, by router and device.
 
-ghost use Rattle.std.specs.Prelude.{◌≡◌, ◌++◌, ◌<◌, ◌≤◌, [], ◌∷◌, false, length, slice_get, Some, IfErr, OnOk, MatchOption};
+ghost use Rattle.std.specs.Prelude.{◌≡◌, ◌++◌, ◌<◌, ◌≤◌, [], ◌∷◌, false, length, slice_get, Some};
+ghost use Rattle.std.specs.Prelude.{IfErr, OnOk, MatchOption};
 ghost use Rattle.mc_topology.specs.Answer.{out_of_memory};
 ghost use Rattle.mc_topology.specs.Interfaces.{has_interface, lan_of_interface};
 ghost use Rattle.mc_topology.specs.Kept.{interface_row};
@@ -30,7 +31,8 @@ impl InterfaceKey {
     /// The key of a router and a device. There is none for a name of more than 15 bytes.
     pub(crate) fn new(router: RouterNo, device: &[u8]) -> Option<InterfaceKey>
         ensures { MatchOption result (15 < length device.now)
-            (λ key. (key.router ≡ router) × (key.device.items ≡ device.now) × (length device.now ≤ 15)) }
+            (λ key. (key.router ≡ router) × (key.device.items ≡ device.now)
+            × (length device.now ≤ 15)) }
     {
         let device = ArrayVec::try_from(device).ok()?;
         Some(InterfaceKey { router, device })

@@ -1,6 +1,7 @@
 //! The LANs of a topology, by name and by number.
 
-ghost use Rattle.std.specs.Prelude.{◌≡◌, ◌++◌, ◌<◌, ◌≤◌, [], ◌∷◌, false, length, slice_get, Some, IfErr, IfSome, OnOk};
+ghost use Rattle.std.specs.Prelude.{◌≡◌, ◌++◌, ◌<◌, ◌≤◌, [], ◌∷◌, false, length, slice_get, Some};
+ghost use Rattle.std.specs.Prelude.{IfErr, IfSome, OnOk};
 ghost use Rattle.mc_topology.specs.Answer.{out_of_memory};
 ghost use Rattle.mc_topology.specs.Lans.{has_lan};
 ghost use Rattle.mc_topology.specs.Names.{index_of};

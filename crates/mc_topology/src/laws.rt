@@ -1,6 +1,7 @@
 //! What follows from the definitions alone, for whoever builds on them.
 
-ghost use Rattle.std.specs.Prelude.{◌≡◌, ◌↔◌, ℕ, ◌++◌, codes, List, IsTrue, Some, Ok, option_map, slice_get};
+ghost use Rattle.std.specs.Prelude.{◌≡◌, ◌↔◌, ℕ, ◌++◌, codes, List, IsTrue, Some, Ok, option_map};
+ghost use Rattle.std.specs.Prelude.{slice_get};
 ghost use Rattle.std.specs.Ordering.{nat_cmp};
 ghost use Rattle.mc_text.specs.Bundle.{IsPartName};
 ghost use Rattle.mc_topology.specs.Names.{is_name, index_of};
@@ -11,8 +12,8 @@ ghost use Rattle.mc_topology.specs.Topology.{TopologyValue, IsIn, IsTopology, la
 
 use crate::number::{LanNo, RouterNo};
 
-/// Reading gives a topology exactly where the text stands for it, so a text stands for one topology at
-/// most.
+/// Reading gives a topology exactly where the text stands for it, so a text stands for one topology
+/// at most.
 pub fn topologies_are_read_as_they_stand()
     ensures read { (text : List ℕ) (t : TopologyValue) →
         ((reading_of text ≡ Ok t) ↔ TopologyStands text t) }
@@ -20,14 +21,14 @@ pub fn topologies_are_read_as_they_stand()
         TopologyStands text u → t ≡ u }
 {}
 
-/// What a text stands for keeps the rules of a topology. Of each topology in memory the clauses `rules` of
-/// `lans`, `routers`, `interfaces` and `flows` say so.
+/// What a text stands for keeps the rules of a topology. Of each topology in memory the clauses
+/// `rules` of `lans`, `routers`, `interfaces` and `flows` say so.
 pub fn texts_stand_for_topologies()
     ensures { (text : List ℕ) (t : TopologyValue) → TopologyStands text t → IsTopology t }
 {}
 
-/// The number of a LAN's name is the LAN's number, and the name of that number is the name: `lan_no` and
-/// `lan_name` undo each other.
+/// The number of a LAN's name is the LAN's number, and the name of that number is the name:
+/// `lan_no` and `lan_name` undo each other.
 pub fn lan_numbers_and_names_undo_each_other()
     ensures number_of_name { (t : TopologyValue) (lan : ℕ) (name : List ℕ) → IsTopology t →
         slice_get t.lans lan ≡ Some name → index_of name t.lans ≡ Some lan }
@@ -46,8 +47,9 @@ pub fn router_numbers_and_names_undo_each_other()
         option_map (λ r. r.name) (slice_get t.routers router) ≡ Some name }
 {}
 
-/// The look-up by router and device finds exactly the rows of the interfaces: `lan_of_device` answers a
-/// LAN where there is a row of the router, the device and this LAN, and nothing where there is none.
+/// The look-up by router and device finds exactly the rows of the interfaces: `lan_of_device`
+/// answers a LAN where there is a row of the router, the device and this LAN, and nothing where
+/// there is none.
 pub fn interfaces_are_found_by_router_and_device()
     ensures { (t : TopologyValue) (router lan : ℕ) (device : List ℕ) → IsTopology t →
         ((lan_of_interface router device t.interfaces ≡ Some lan) ↔

@@ -20,7 +20,8 @@ fn has_name_bytes(text: &str) -> bool
     text.as_bytes().iter().all(|byte| is_name_byte(*byte))
 }
 
-/// Whether the text can be the name of a LAN or of a router: 1 to 32 letters, digits, `-`, `_` or `.`.
+/// Whether the text can be the name of a LAN or of a router: 1 to 32 letters, digits, `-`, `_` or
+/// `.`.
 #[tactic(auto, using(std::proofs::lemmas::Bool::Decides::nat_tests), unfolding(crate::specs::Names::is_name))]
 pub(crate) fn is_name(text: &str) -> bool
     ensures { result ≡ is_name text.now }

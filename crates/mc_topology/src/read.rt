@@ -6,6 +6,7 @@ mod flows;
 mod interfaces;
 mod lans;
 mod routers;
+mod rows;
 mod sources;
 
 ghost use Rattle.std.specs.Prelude.{◌≡◌, ◌≢◌, Ok, Err, IfErr, IfOk};

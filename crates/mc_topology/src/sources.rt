@@ -1,6 +1,6 @@
 //! The sources of a topology, by address.
 
-ghost use Rattle.std.specs.Prelude.{◌≡◌, ◌++◌, [], ◌∷◌, false, length, IfErr, OnOk};
+ghost use Rattle.std.specs.Prelude.{◌≡◌, ◌++◌, [], ◌∷◌, false, IfErr, OnOk};
 ghost use Rattle.mc_topology.specs.Answer.{out_of_memory};
 ghost use Rattle.mc_topology.specs.Sources.{has_source, lan_of_source};
 
@@ -37,13 +37,6 @@ impl Sources {
         Sources {
             lans: IndexMap::new(alloc),
         }
-    }
-
-    /// How many there are.
-    pub(crate) fn len(&self) -> usize
-        ensures { result ≡ length self.now }
-    {
-        self.lans.len()
     }
 
     /// Whether a source has the address.

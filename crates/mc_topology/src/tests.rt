@@ -1,4 +1,5 @@
-//! What no clause says: which of two broken rules is answered, other spellings, limits and look-ups.
+//! What no clause says: which of two broken rules is answered, other spellings, limits and
+//! look-ups.
 
 mod faults;
 mod limits;

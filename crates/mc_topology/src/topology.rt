@@ -1,6 +1,7 @@
 //! A topology and what it answers.
 
-ghost use Rattle.std.specs.Prelude.{◌≡◌, ◌<◌, ◌≤◌, length, Some, None, IfSome, IsTrue, option_map, slice_get};
+ghost use Rattle.std.specs.Prelude.{◌≡◌, ◌<◌, ◌≤◌, length, Some, None, IfSome, IsTrue, option_map};
+ghost use Rattle.std.specs.Prelude.{slice_get};
 ghost use Rattle.mc_topology.specs.Interfaces.{lan_of_interface};
 ghost use Rattle.mc_topology.specs.Names.{is_name, index_of};
 ghost use Rattle.mc_topology.specs.Routers.{router_no_of};
@@ -85,11 +86,11 @@ impl Topology {
         }
     }
 
-    /// Reads a topology: at most 16,777,216 bytes of TOML, 1,024 LANs, 256 routers, 8,192 interfaces,
-    /// 4,096 sources and 1 to 4,096 flows. The sections are judged in the order of `Section`, the parts
-    /// of a section from the front, and the first rule that is broken is answered with its place. Of a
-    /// table the keys are judged first, and then the values. `Memory`, at `top` 0, where a growth was
-    /// refused.
+    /// Reads a topology: at most 16,777,216 bytes of TOML, 1,024 LANs, 256 routers, 8,192
+    /// interfaces, 4,096 sources and 1 to 4,096 flows. The sections are judged in the order of
+    /// `Section`, the parts of a section from the front, and the first rule that is broken is
+    /// answered with its place. Of a table the keys are judged first, and then the values.
+    /// `Memory`, at `top` 0, where a growth was refused.
     pub fn read(alloc: Global, text: &[u8]) -> Result<Topology, TopologyFault>
         // What is read is what the text stands for.
         ensures found { IfOk result (TopologyStands text.now) }
@@ -142,8 +143,8 @@ impl Topology {
         self.routers.order(router)
     }
 
-    /// The LAN on which the interface of a router and a device lies. None where the topology names no
-    /// interface of the router and the device.
+    /// The LAN on which the interface of a router and a device lies. None where the topology names
+    /// no interface of the router and the device.
     pub fn lan_of_device(&self, router: RouterNo, device: &[u8]) -> Option<LanNo>
         ensures lan { result ≡ lan_of_interface router device.now self.now.interfaces }
         ensures listed { IfSome result (λ lan. lan < length self.now.lans) }

@@ -3,7 +3,8 @@ use Rattle.std.proofs.Common.{◌≡◌, ◌≢◌, ℕ, zero, suc, ◌<◌, Boo
 use Rattle.std.proofs.Common.{length, take, drop, All, inl, inr, Option, Some, None, Result, Ok}
 use Rattle.std.proofs.Common.{Err}
 use Rattle.std.proofs.Common.{refl, sym, ap, subst, ◌∙◌, arith, append_assoc}
-use Rattle.std.specs.Prelude.{IfSome, IsTrue, is_some, unwrap_or, slice_get, codes}
+use Rattle.std.specs.Prelude.{IfOk, IfSome, IsTrue, is_some, unwrap_or, slice_get, codes}
+use Rattle.std.specs.String.{string_bytes}
 use Rattle.std.specs.Io.KnownBytes.{Appends}
 use Rattle.std.specs.List.{list_all}
 use Rattle.std.proofs.lemmas.Bool.{and_parts}
@@ -26,11 +27,13 @@ use Rattle.mc_check.specs.Verdicts.{YesKeepsHeadline}
 use Rattle.mc_check.specs.declared.verdict.Verdict.{Verdict}
 use Rattle.mc_check.specs.declared.verdict.Verdict.TheVariants.{Yes, No}
 use Rattle.mc_input.specs.InputView.{certificate_seen}
+use Rattle.mcaudit.specs.declared.check.Verdicts.{Verdicts}
 use Rattle.mcaudit.specs.declared.fault.RunFault.{RunFault}
 use Rattle.mcaudit.specs.declared.fault.RunFault.TheVariants.{Write}
 use Rattle.mcaudit.specs.BundleMeaning.{MeansDomain, MeansCertified, HasBadCertificate}
 use Rattle.mcaudit.specs.BundleMeaning.{IsRefusedFor}
-use Rattle.mcaudit.specs.CheckRun.{IsVerdictText, Answers, WritesVerdicts, WritesPartOfVerdicts}
+use Rattle.mcaudit.specs.CheckRun.{IsTextOfVerdicts, IsVerdictText, Answers, WritesVerdicts}
+use Rattle.mcaudit.specs.CheckRun.{WritesPartOfVerdicts}
 use Rattle.mcaudit.specs.CheckRun.{WroteYes, SaysYes, KeepsHeadline, HeadlineOf}
 use Rattle.mcaudit.specs.Failures.{IsNoDeviceFault}
 use Rattle.mcaudit.specs.RunFault.{of_certificate, of_certificate_kind}
@@ -161,23 +164,47 @@ keeps_headline d lists vs count belongs copies keeps all = λ flow listed.
     (copies flow e.0 v.0 e.1 v.1) (keeps flow e.0 v.0 e.1 v.1))
 
 -- the text of the verdicts on a domain
-pub verdicts_told : (text : List ℕ) (d : DomainValue) (lists : List Tree)
+pub verdicts_told : (d : DomainValue) (lists : List Tree)
     (vs seen again : List Verdict) (t : TopologyValue) (all : Bool) (written : List ℕ)
-    → MeansCertified text d lists → AreVerdicts d lists vs → seen ≡ vs → again ≡ vs
+    → AreVerdicts d lists vs → seen ≡ vs → again ≡ vs
     → t ≡ d.topology → all ≡ are_yes again → written ≡ check_text t seen
-    → IsVerdictText text all written
-verdicts_told text d lists vs seen again t all written means are same other topology answer spelled
-    =
-    record {
-      domain = d;
-      lists = lists;
-      verdicts = vs;
-      means = means;
-      are_verdicts = are;
-      answer = answer ∙ ap are_yes other;
-      spelled = spelled ∙ ap (λ t. check_text t seen) topology
-          ∙ ap (check_text d.topology) same;
-    }
+    → IsTextOfVerdicts d lists all written
+verdicts_told d lists vs seen again t all written are same other topology answer spelled = record {
+  verdicts = vs;
+  are_verdicts = are;
+  answer = answer ∙ ap are_yes other;
+  spelled = spelled ∙ ap (λ t. check_text t seen) topology
+      ∙ ap (check_text d.topology) same;
+}
+
+-- the same, where a bundle tells the domain and the certificate,
+pub bundle_told : (text : List ℕ) (d : DomainValue) (lists : List Tree)
+    (r : Result Verdicts RunFault) → MeansCertified text d lists
+    → IfOk r (λ told. IsTextOfVerdicts d lists told.yes (string_bytes told.text))
+    → IfOk r (λ told. IsVerdictText text told.yes (string_bytes told.text))
+bundle_told text d lists (Ok told) means is = record {
+  domain = d;
+  lists = lists;
+  verdicts = is.verdicts;
+  means = means;
+  are_verdicts = is.are_verdicts;
+  answer = is.answer;
+  spelled = is.spelled;
+}
+bundle_told text d lists (Err f) means is = tt
+
+-- and the headline
+pub bundle_keeps : (text : List ℕ) (d : DomainValue) (lists : List Tree)
+    (r : Result Verdicts RunFault) → MeansCertified text d lists
+    → IfOk r (λ told. IsTrue told.yes → KeepsHeadline d lists)
+    → IfOk r (λ told. IsTrue told.yes → HeadlineOf text)
+bundle_keeps text d lists (Ok told) means keeps = λ yes. record {
+  domain = d;
+  lists = lists;
+  means = means;
+  keeps = keeps yes;
+}
+bundle_keeps text d lists (Err f) means keeps = tt
 
 -- ---- the whole input
 

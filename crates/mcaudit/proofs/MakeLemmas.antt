@@ -4,7 +4,8 @@ use Rattle.std.proofs.Common.{false, List, [], ◌∷◌, ◌++◌}
 use Rattle.std.proofs.Common.{Global, Vec, length, take, Option, Some, None, Result, Ok, Err, refl}
 use Rattle.std.proofs.Common.{sym, ap, subst, ◌∙◌, arith}
 use Rattle.std.proofs.Common.{append_assoc, append-nil, length-append}
-use Rattle.std.specs.Prelude.{◌↔◌, ◌==◌, IfSome, IsTrue, codes, slice_get}
+use Rattle.std.specs.Prelude.{◌↔◌, ◌==◌, IfOk, IfSome, IsTrue, codes, slice_get}
+use Rattle.std.specs.String.{string_bytes}
 use Rattle.std.specs.Io.KnownBytes.{Appends}
 use Rattle.std.proofs.lemmas.Bool.{and_parts, eq-eqb, eqb-true, false≢true}
 use Rattle.mc_text.specs.Device.{AppendsPart}
@@ -19,11 +20,12 @@ use Rattle.mc_replay.specs.declared.travel.Travel.{Travel}
 use Rattle.mc_maker.specs.Examined.{IfCertified, is_certified}
 use Rattle.mc_maker.specs.declared.examination.Examined.{Examined}
 use Rattle.mc_maker.specs.declared.examination.Examined.TheVariants.{Certified, Found}
+use Rattle.mcaudit.specs.declared.make.Told.{Told}
 use Rattle.mcaudit.specs.declared.fault.RunFault.{RunFault}
 use Rattle.mcaudit.specs.declared.fault.RunFault.TheVariants.{Write}
 use Rattle.mcaudit.specs.BundleMeaning.{MeansDomain, IsRefusedFor}
 use Rattle.mcaudit.specs.MakeRun.{Answers, AreExamined, AreMade, IsExamined, IsMadeText}
-use Rattle.mcaudit.specs.MakeRun.{SaysIfRight, WritesMade, WritesPartOfMade}
+use Rattle.mcaudit.specs.MakeRun.{IsTextOfMade, SaysIfRight, WritesMade, WritesPartOfMade}
 use Rattle.mcaudit.specs.MakeRun.{are_certified, found_lines, lines_of, lines_of_flow, lists_of}
 use Rattle.mcaudit.proofs.RunLemmas.{IsRead, read_whole, refused_whole}
 
@@ -270,58 +272,56 @@ made_belong d t lists lines made same none =
     subst (λ (x : TopologyValue). BelongsTo x lists) (sym same)
     (subst (λ (ls : List Tree). BelongsTo d.topology ls) (sym made.lists_are) belong)
 
-says_right : (text : List ℕ) (o : Option (List ℕ)) (d : DomainValue) (xs : List Examined)
-    (certified : Bool) → MeansDomain text o d → o ≡ None → AreExamined d xs
-    → certified ≡ are_certified xs → SaysIfRight text certified
-says_right text o d xs certified means without are answer = record {
-  domain = d;
-  means = subst (λ (c : Option (List ℕ)). MeansDomain text c d) without means;
-  right = subst (λ (b : Bool). IsTrue b
-      ↔ ((flow : ℕ) → flow < length d.topology.flows → IsRight (net_of d flow)))
-      (sym answer) (certified_right d xs are);
-}
-
 -- the lines of a domain
-pub lines_told : (text : List ℕ) (o : Option (List ℕ)) (d : DomainValue) (lists : List Tree)
-    (lines : List ℕ) → MeansDomain text o d → o ≡ None → AreMade d lists lines → length lines ≢ 0
-    → IsMadeText text false lines
-lines_told text o d lists lines means without made some = record {
-  domain = d;
+pub lines_told : (d : DomainValue) (lists : List Tree) (lines : List ℕ) → AreMade d lists lines
+    → length lines ≢ 0 → IsTextOfMade d false lines
+lines_told d lists lines made some = record {
   examined = made.examined;
-  means = subst (λ (c : Option (List ℕ)). MeansDomain text c d) without means;
   are_examined = made.are_examined;
   answer = sym (not_all_made d lists lines made some);
   spelled = made.lines_are;
 }
 
-pub lines_right : (text : List ℕ) (o : Option (List ℕ)) (d : DomainValue) (lists : List Tree)
-    (lines : List ℕ) → MeansDomain text o d → o ≡ None → AreMade d lists lines → length lines ≢ 0
-    → SaysIfRight text false
-lines_right text o d lists lines means without made some =
-    says_right text o d made.examined false means without made.are_examined
-    (sym (not_all_made d lists lines made some))
-
 -- the certificate of a domain
-pub certificate_told : (text : List ℕ) (o : Option (List ℕ)) (d : DomainValue) (t : TopologyValue)
-    (lists : List Tree) (lines written : List ℕ) → MeansDomain text o d → o ≡ None
-    → AreMade d lists lines → t ≡ d.topology → length lines ≡ 0
-    → written ≡ certificate_text t lists ++ codes "\n" → IsMadeText text true written
-certificate_told text o d t lists lines written means without made same none spelled = record {
-  domain = d;
+pub certificate_told : (d : DomainValue) (t : TopologyValue) (lists : List Tree)
+    (lines written : List ℕ) → AreMade d lists lines → t ≡ d.topology → length lines ≡ 0
+    → written ≡ certificate_text t lists ++ codes "\n" → IsTextOfMade d true written
+certificate_told d t lists lines written made same none spelled = record {
   examined = made.examined;
-  means = subst (λ (c : Option (List ℕ)). MeansDomain text c d) without means;
   are_examined = made.are_examined;
   answer = sym (all_made d lists lines made none);
   spelled = spelled ∙ ap (λ x. certificate_text x lists ++ codes "\n") same
       ∙ ap (λ ls. certificate_text d.topology ls ++ codes "\n") made.lists_are;
 }
 
-pub certificate_right : (text : List ℕ) (o : Option (List ℕ)) (d : DomainValue) (lists : List Tree)
-    (lines : List ℕ) → MeansDomain text o d → o ≡ None → AreMade d lists lines → length lines ≡ 0
-    → SaysIfRight text true
-certificate_right text o d lists lines means without made none =
-    says_right text o d made.examined true means without made.are_examined
-    (sym (all_made d lists lines made none))
+-- the same, where a bundle tells the domain,
+pub made_told : (text : List ℕ) (o : Option (List ℕ)) (d : DomainValue)
+    (r : Result Told RunFault) → MeansDomain text o d → o ≡ None
+    → IfOk r (λ told. IsTextOfMade d told.certified (string_bytes told.text))
+    → IfOk r (λ told. IsMadeText text told.certified (string_bytes told.text))
+made_told text o d (Ok told) means without is = record {
+  domain = d;
+  examined = is.examined;
+  means = subst (λ (c : Option (List ℕ)). MeansDomain text c d) without means;
+  are_examined = is.are_examined;
+  answer = is.answer;
+  spelled = is.spelled;
+}
+made_told text o d (Err f) means without is = tt
+
+-- and what that says of its flows
+pub made_right : (text : List ℕ) (o : Option (List ℕ)) (d : DomainValue)
+    (r : Result Told RunFault) → MeansDomain text o d → o ≡ None
+    → IfOk r (λ told. IsTextOfMade d told.certified (string_bytes told.text))
+    → IfOk r (λ told. SaysIfRight text told.certified)
+made_right text o d (Ok told) means without is = record {
+  domain = d;
+  means = subst (λ (c : Option (List ℕ)). MeansDomain text c d) without means;
+  right = subst (λ (b : Bool). IsTrue b
+      ↔ ((flow : ℕ) → flow < length d.topology.flows → IsRight (net_of d flow)))
+      (sym is.answer) (certified_right d is.examined is.are_examined);
+}
+made_right text o d (Err f) means without is = tt
 
 -- ---- the whole input
 

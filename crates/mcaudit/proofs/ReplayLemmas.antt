@@ -1,7 +1,8 @@
 -- What a run of `mcaudit replay` shows of the text that it read.
-use Rattle.std.proofs.Common.{◌≡◌, ℕ, ◌+◌, ◌<◌, ◌⊎◌, Bool, false, List, take}
+use Rattle.std.proofs.Common.{◌≡◌, ℕ, ◌+◌, ◌<◌, ◌⊎◌, inl, inr, Bool, false, List, take}
 use Rattle.std.proofs.Common.{Option, Some, None, Result, Ok, Err, length, refl, ap, subst, ◌∙◌}
-use Rattle.std.specs.Prelude.{IfSome, is_some, slice_get}
+use Rattle.std.specs.Prelude.{IfErr, IfOk, IfSome, is_some, slice_get}
+use Rattle.std.specs.String.{string_bytes}
 use Rattle.std.specs.Io.KnownBytes.{Appends}
 use denote.Ref.{Bor}
 use Rattle.mc_text.specs.Device.{AppendsPart}
@@ -12,12 +13,15 @@ use Rattle.mc_forward.specs.Domains.{DomainValue}
 use Rattle.mc_input.specs.InputView.{certificate_seen}
 use Rattle.mc_replay.specs.Travels.{IsRunOfChoices, replay_of}
 use Rattle.mc_replay.specs.declared.travel.Travel.{Travel}
+use Rattle.mcaudit.specs.declared.replay.Told.{Told}
 use Rattle.mcaudit.specs.declared.fault.RunFault.{RunFault}
 use Rattle.mcaudit.specs.declared.fault.RunFault.TheVariants.{Bundle, Parts, Topology, Vif, Cache}
 use Rattle.mcaudit.specs.declared.fault.RunFault.TheVariants.{PartReports, Reports, Certificate}
 use Rattle.mcaudit.specs.declared.fault.RunFault.TheVariants.{NoSuchFlow, Read, Write, Memory}
 use Rattle.mcaudit.specs.BundleMeaning.{MeansDomain, IsRefusedFor}
-use Rattle.mcaudit.specs.ReplayRun.{Answers, HasNoFlow, IsReplayRefused, IsTravelText}
+use Rattle.mcaudit.specs.Failures.{IsNoDeviceFault}
+use Rattle.mcaudit.specs.ReplayRun.{Answers, HasNoFlow, HasNoTravel, IsReplayRefused}
+use Rattle.mcaudit.specs.ReplayRun.{IsTextOfTravel, IsTravelText}
 use Rattle.mcaudit.specs.ReplayRun.{WritesPartOfTravel, WritesTravel, is_clean, replay_text}
 use Rattle.mcaudit.proofs.RunLemmas.{IsRead, read_whole, refused_whole}
 
@@ -74,26 +78,57 @@ replay_whole text flow Memory is = tt
 -- ---- the travel
 
 -- the text of a travel through a domain
-pub travel_told : (text : List ℕ) (flow ttl : ℕ) (choices : Choices) (o : Option (List ℕ))
-    (d : DomainValue) (place : ℕ) (t : TopologyValue) (f : Flow) (travel : Travel) (clean : Bool)
-    (written : List ℕ) → MeansDomain text o d → o ≡ None → flow ≡ place + 1 → t ≡ d.topology
-    → slice_get t.flows place ≡ Some f → IsRunOfChoices (replay_of d place ttl choices) travel
-    → clean ≡ is_clean travel.finding → written ≡ replay_text t f ttl travel
-    → IsTravelText text flow ttl choices clean written
-travel_told text flow ttl choices o d place t f travel clean written means without counted same
-    stands runs answer spelled =
+pub travel_made : (d : DomainValue) (flow ttl : ℕ) (choices : Choices) (place : ℕ)
+    (t : TopologyValue) (f : Flow) (travel : Travel) (clean : Bool) (written : List ℕ)
+    → flow ≡ place + 1 → t ≡ d.topology → slice_get t.flows place ≡ Some f
+    → IsRunOfChoices (replay_of d place ttl choices) travel → clean ≡ is_clean travel.finding
+    → written ≡ replay_text t f ttl travel → IsTextOfTravel d flow ttl choices clean written
+travel_made d flow ttl choices place t f travel clean written counted same stands runs answer
+    spelled =
     record {
-      domain = d;
       place = place;
       listed = f;
       travel = travel;
-      means = subst (λ (c : Option (List ℕ)). MeansDomain text c d) without means;
       counted = counted;
       stands = subst (λ (x : TopologyValue). slice_get x.flows place ≡ Some f) same stands;
       runs = runs;
       answer = answer;
       spelled = spelled ∙ ap (λ x. replay_text x f ttl travel) same;
     }
+
+-- the same, where a bundle tells the domain,
+pub travel_told : (text : List ℕ) (flow ttl : ℕ) (choices : Choices) (o : Option (List ℕ))
+    (d : DomainValue) (r : Result Told RunFault) → MeansDomain text o d → o ≡ None
+    → IfOk r (λ told. IsTextOfTravel d flow ttl choices told.clean (string_bytes told.text))
+    → IfOk r (λ told. IsTravelText text flow ttl choices told.clean (string_bytes told.text))
+travel_told text flow ttl choices o d (Ok told) means without is = record {
+  domain = d;
+  place = is.place;
+  listed = is.listed;
+  travel = is.travel;
+  means = subst (λ (c : Option (List ℕ)). MeansDomain text c d) without means;
+  counted = is.counted;
+  stands = is.stands;
+  runs = is.runs;
+  answer = is.answer;
+  spelled = is.spelled;
+}
+travel_told text flow ttl choices o d (Err f) means without is = tt
+
+-- and where it lists no such flow, or memory ran out
+pub travel_refused : (text : List ℕ) (flow : ℕ) (o : Option (List ℕ)) (d : DomainValue)
+    (r : Result Told RunFault) → MeansDomain text o d → o ≡ None → IfErr r (HasNoTravel d flow)
+    → IfErr r (IsReplayRefused text flow)
+travel_refused text flow o d (Ok told) means without is = tt
+travel_refused text flow o d (Err f) means without (inl is) =
+    flow_refused text flow o d f means without is.0 is.1
+travel_refused text flow o d (Err f) means without (inr is) = rw is tt
+
+pub travel_no_device : (d : DomainValue) (flow : ℕ) (r : Result Told RunFault)
+    → IfErr r (HasNoTravel d flow) → IfErr r IsNoDeviceFault
+travel_no_device d flow (Ok told) is = tt
+travel_no_device d flow (Err f) (inl is) = rw (is.0) tt
+travel_no_device d flow (Err f) (inr is) = rw is tt
 
 travel_whole : (text : List ℕ) (flow ttl : ℕ) (choices : Choices) (clean : Bool) (written : List ℕ)
     → IsTravelText (take 268435552 text) flow ttl choices clean written

@@ -1,5 +1,5 @@
 -- What a run on a bundle shows of the text that it read, and of its devices.
-use Rattle.std.proofs.Common.{◌≡◌, ◌≢◌, ℕ, Bool, List, length, take, Option, Some, Result, Err}
+use Rattle.std.proofs.Common.{◌≡◌, ◌≢◌, ℕ, Bool, List, length, take, Option, Some, Result, Ok, Err}
 use Rattle.std.proofs.Common.{refl, sym, ap, subst, ◌∙◌, arith, length-take}
 use Rattle.std.specs.Prelude.{IfErr, IfSome}
 use Rattle.std.proofs.lemmas.List.{take_all}
@@ -48,7 +48,19 @@ refused_whole with text Read is = tt
 refused_whole with text Write is = tt
 refused_whole with text Memory is = tt
 
+-- want of memory says nothing of a text,
+pub memory_refused : {X : Type 0} (with : Bool) (text : List ℕ) (r : Result X RunFault)
+    → IfErr r (λ fault. fault ≡ Memory) → IfErr r (IsRefusedFor with text)
+memory_refused with text (Ok x) is = tt
+memory_refused with text (Err f) is = rw is tt
+
 -- ---- devices
+
+-- and is no device's fault
+pub memory_no_device : {X : Type 0} (r : Result X RunFault) → IfErr r (λ fault. fault ≡ Memory)
+    → IfErr r IsNoDeviceFault
+memory_no_device (Ok x) is = tt
+memory_no_device (Err f) is = rw is tt
 
 no_device_reads : (f : RunFault) (before : ℕ) → IsNoDeviceFault f
     → failed_reads (Err f) before ≡ before

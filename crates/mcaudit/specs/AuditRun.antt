@@ -1,5 +1,6 @@
 -- What `mcaudit audit` answers and writes, and what its yes is worth.
-use Rattle.std.specs.Prelude.{◌≡◌, ◌↔◌, ℕ, ◌<◌, Bool, true, false, IsTrue, List, [], ◌∷◌, ◌++◌, flat_map, length, slice_get}
+use Rattle.std.specs.Prelude.{◌≡◌, ◌↔◌, ℕ, ◌<◌, Bool, true, false, IsTrue, List, [], ◌∷◌, ◌++◌}
+use Rattle.std.specs.Prelude.{flat_map, length, slice_get}
 use Rattle.std.specs.Prelude.{Option, Some, Result, Ok, Err}
 use Rattle.std.specs.Io.KnownBytes.{Appends}
 use Rattle.mc_text.specs.Device.{AppendsPart}
@@ -18,7 +19,8 @@ use Rattle.mc_maker.specs.declared.examination.Examined.TheVariants.{Certified, 
 use Rattle.mcaudit.specs.declared.fault.RunFault.{RunFault}
 use Rattle.mcaudit.specs.CheckRun.{KeepsHeadline}
 use Rattle.mcaudit.specs.FilesMeaning.{MeansFiles, AreRefusedFor}
-use Rattle.mcaudit.specs.MakeRun.{AreExamined, IsExamined, are_certified, found_lines, lists_of, no_certificate_line}
+use Rattle.mcaudit.specs.MakeRun.{AreExamined, IsExamined, are_certified, found_lines, lists_of}
+use Rattle.mcaudit.specs.MakeRun.{no_certificate_line}
 use Rattle.mcaudit.specs.ReplayRun.{event_lines}
 use Rattle.mcaudit.specs.VerdictText.{flow_line, last_line}
 
@@ -29,7 +31,8 @@ abbrev pub events_told : (travels : Bool) → TopologyValue → Travel → List 
 events_told true t travel = event_lines t travel.events.items
 events_told false t travel = []
 
--- The lines of a flow: the checker's yes to its list, or else that it has none, what is found, and the events.
+-- The lines of a flow: the checker's yes to its list, or else that it has none, what is found, and
+-- the events.
 abbrev pub flow_told : (travels : Bool) → TopologyValue → Flow → Examined → List ℕ
 flow_told travels t f (Certified entries) = flow_line t f (Yes (length entries.items))
 flow_told travels t f (Found ttl travel) =
@@ -45,8 +48,8 @@ audit_text travels t xs = flows_told travels t t.flows xs ++ last_line (are_cert
 
 -- ---- what is said of a domain
 
--- What is said of a flow: it is examined, and where it is certified, the checker accepts its list, so that the
--- headline holds of it, with no more copies than the list has entries.
+-- What is said of a flow: it is examined, and where it is certified, the checker accepts its list,
+-- so that the headline holds of it, with no more copies than the list has entries.
 pub record IsChecked (d : DomainValue) (flow : ℕ) (x : Examined) : Type 0 where
   pub examined : IsExamined d flow x
   pub headline : IfCertified (λ es. HeadlineHolds (net_of d flow) (length es)) x
@@ -56,7 +59,8 @@ pub record AreChecked (d : DomainValue) (xs : List Examined) : Type 0 where
   pub count : length xs ≡ length d.topology.flows
   pub each : (flow : ℕ) (x : Examined) → slice_get xs flow ≡ Some x → IsChecked d flow x
 
--- What is written of a flow of the domain, after what was written before, and whether the flow is certified.
+-- What is written of a flow of the domain, after what was written before, and whether the flow is
+-- certified.
 pub record IsFlowAudited (d : DomainValue) (flow : ℕ) (travels certified : Bool) (old new : List ℕ)
     : Type 0 where
   pub listed : Flow
@@ -102,14 +106,14 @@ WritesPartOfAudit files travels old new =
 
 -- ---- what that says of the flows
 
--- The lines say of a flow that it has a certificate, with so many copies, where it is right, and else that it has
--- none.
+-- The lines say of a flow that it has a certificate, with so many copies, where it is right, and
+-- else that it has none.
 pub record SaysIfRight (t : TopologyValue) (f : Flow) (n : Net) (lines : List ℕ) : Type 0 where
   pub right : IsRight n → (copies : ℕ) × (lines ≡ flow_line t f (Yes copies))
   pub wrong : ¬ IsRight n → (more : List ℕ) × (lines ≡ no_certificate_line f ++ more)
 
--- The files mean a domain, and this was written: for each flow lines that say whether it is right, and last
--- whether all are.
+-- The files mean a domain, and this was written: for each flow lines that say whether it is right,
+-- and last whether all are.
 pub record SaysWhichAreRight (files : List FileText) (all : Bool) (written : List ℕ) : Type 0 where
   pub domain : DomainValue
   pub lines : List (List ℕ)

@@ -13,8 +13,17 @@ use Rattle.mcaudit.specs.VerdictText.{AreVerdicts, are_yes, check_text}
 
 -- ---- answers and texts
 
--- The text means a domain with a certificate, and this is the text of the verdicts on the domain's flows, and
--- whether all are yes.
+-- The text of the verdicts on a domain's flows by the lists of a certificate, and whether all are
+-- yes.
+pub record IsTextOfVerdicts (d : DomainValue) (lists : List Tree) (all : Bool) (written : List ℕ)
+    : Type 0 where
+  pub verdicts : List Verdict
+  pub are_verdicts : AreVerdicts d lists verdicts
+  pub answer : all ≡ are_yes verdicts
+  pub spelled : written ≡ check_text d.topology verdicts
+
+-- The text means a domain with a certificate, and this is the text of the verdicts on the domain's
+-- flows, and whether all are yes.
 pub record IsVerdictText (text : List ℕ) (all : Bool) (written : List ℕ) : Type 0 where
   pub domain : DomainValue
   pub lists : List Tree
@@ -57,9 +66,10 @@ WroteYes _ _ = ⊥
 abbrev pub SaysYes : Result Bool RunFault → Option (List ℕ) → Option (List ℕ) → Type 0
 SaysYes result old new = (result ≡ Ok true) ⊎ WroteYes old new
 
--- For every flow that the domain's topology lists, every packet sent with at least its TTL, and every order in
--- which routers handle copies, no LAN carries two copies, none leaves the known domain, no more copies are made
--- than the certificate names, and, if none was lost, once none waits each wanting LAN has carried exactly one.
+-- For every flow that the domain's topology lists, every packet sent with at least its TTL, and
+-- every order in which routers handle copies, no LAN carries two copies, none leaves the known
+-- domain, no more copies are made than the certificate names, and, if none was lost, once none
+-- waits each wanting LAN has carried exactly one.
 abbrev pub KeepsHeadline : DomainValue → List Tree → Type 0
 KeepsHeadline d lists =
     (flow : ℕ) → flow < length d.topology.flows

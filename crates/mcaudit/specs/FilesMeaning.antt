@@ -18,8 +18,8 @@ pub record MeansFiles (files : List FileText) (d : DomainValue) : Type 0 where
   pub assembled : IsAssembled input.topology input.tables input.reports d
   pub rules : IsDomain d
 
--- A run on the files answers this of them: their first fault, in the order in which they are read. What devices do
--- and want of memory say nothing of the files.
+-- A run on the files answers this of them: their first fault, in the order in which they are read.
+-- What devices do and want of memory say nothing of the files.
 abbrev pub AreRefusedFor : List FileText → RunFault → Type 0
 AreRefusedFor files Read = ⊤
 AreRefusedFor files Write = ⊤

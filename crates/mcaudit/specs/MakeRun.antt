@@ -1,5 +1,6 @@
 -- What `mcaudit make` answers and writes.
-use Rattle.std.specs.Prelude.{◌≡◌, ◌↔◌, ℕ, ◌<◌, Bool, true, false, All, IsTrue, List, [], ◌∷◌, ◌++◌, codes, decimal}
+use Rattle.std.specs.Prelude.{◌≡◌, ◌↔◌, ℕ, ◌<◌, Bool, true, false, All, IsTrue, List, [], ◌∷◌, ◌++◌}
+use Rattle.std.specs.Prelude.{codes, decimal}
 use Rattle.std.specs.Prelude.{length, map, slice_get, Option, Some, None, Result, Ok, Err}
 use Rattle.std.specs.List.{list_all}
 use Rattle.std.specs.List.Sorted.{IsStrictlyIncreasing}
@@ -15,7 +16,8 @@ use Rattle.mc_cert.specs.Certificate.{Tree, IsEntryOf, IsList}
 use Rattle.mc_cert.specs.CertificateText.{certificate_text}
 use Rattle.mc_replay.specs.TravelText.{finding_text}
 use Rattle.mc_replay.specs.declared.finding.Finding.{Finding}
-use Rattle.mc_maker.specs.Examined.{FindsFault, IfCertified, IfFound, IsOfTravel, IsTravelOfFirst, IsTtlOfFault, is_certified}
+use Rattle.mc_maker.specs.Examined.{FindsFault, IfCertified, IfFound, IsOfTravel, IsTravelOfFirst}
+use Rattle.mc_maker.specs.Examined.{IsTtlOfFault, is_certified}
 use Rattle.mc_maker.specs.declared.examination.Examined.{Examined}
 use Rattle.mc_maker.specs.declared.examination.Examined.TheVariants.{Certified, Found}
 use Rattle.mcaudit.specs.declared.fault.RunFault.{RunFault}
@@ -24,17 +26,17 @@ use Rattle.mcaudit.specs.VerdictText.{flow_words}
 
 -- ---- examinations
 
--- What an examination says of a flow. Where it certifies the flow: its entries are accepted, by ascending numbers
--- of their LANs, of the topology, such as a certificate can hold, and those of the copies that the travel at TTL
--- 255 carried.
+-- What an examination says of a flow. Where it certifies the flow: its entries are accepted, by
+-- ascending numbers of their LANs, of the topology, such as a certificate can hold, and those of
+-- the copies that the travel at TTL 255 carried.
 pub record IsExamined (d : DomainValue) (flow : ℕ) (x : Examined) : Type 0 where
   pub accepted : IfCertified (IsAccepted (net_of d flow)) x
   pub ascending : IfCertified (λ es. IsStrictlyIncreasing (map (λ e. e.lan) es)) x
   pub listed : IfCertified (All (IsEntryOf d.topology)) x
   pub list : IfCertified IsList x
   pub made : IfCertified (IsOfTravel d flow) x
-  -- Else: the travel at its TTL in which the first waiting copy is handled each time, which finds a fault; the TTL
-  -- is 255 if a fault is found there, and else the flow's.
+  -- Else: the travel at its TTL in which the first waiting copy is handled each time, which finds a
+  -- fault; the TTL is 255 if a fault is found there, and else the flow's.
   pub travel : IfFound (IsTravelOfFirst d flow) x
   pub fault : IfFound (λ ttl travel. FindsFault travel) x
   pub ttl : IfFound (λ ttl travel. IsTtlOfFault d flow ttl) x
@@ -93,8 +95,15 @@ pub record AreMade (d : DomainValue) (lists : List Tree) (lines : List ℕ) : Ty
 
 -- ---- answers
 
--- The text means a domain, and this is what is written of its flows' examinations, and whether that is a
--- certificate.
+-- What is written of the examinations of a domain's flows, and whether that is a certificate.
+pub record IsTextOfMade (d : DomainValue) (certified : Bool) (written : List ℕ) : Type 0 where
+  pub examined : List Examined
+  pub are_examined : AreExamined d examined
+  pub answer : certified ≡ are_certified examined
+  pub spelled : written ≡ made_text certified d.topology examined
+
+-- The text means a domain, and this is what is written of its flows' examinations, and whether that
+-- is a certificate.
 pub record IsMadeText (text : List ℕ) (certified : Bool) (written : List ℕ) : Type 0 where
   pub domain : DomainValue
   pub examined : List Examined

@@ -13,7 +13,9 @@ use Rattle.mc_input.specs.declared.files_fault.FilesFault.{FilesFault}
 use Rattle.mc_input.specs.declared.files_fault.FilesFault.TheVariants as files
 use Rattle.mc_text.specs.declared.bundle_fault.BundleFault.TheVariants as bundle
 use Rattle.mcaudit.specs.declared.fault.RunFault.{RunFault}
-use Rattle.mcaudit.specs.declared.fault.RunFault.TheVariants.{Bundle, Parts, Topology, Vif, Cache, PartReports, Reports, Certificate, Read, Memory}
+use Rattle.mcaudit.specs.declared.fault.RunFault.TheVariants.{Bundle, Parts, Topology, Vif, Cache}
+use Rattle.mcaudit.specs.declared.fault.RunFault.TheVariants.{PartReports, Reports, Certificate}
+use Rattle.mcaudit.specs.declared.fault.RunFault.TheVariants.{Read, Memory}
 
 abbrev pub of_reading : ReadFault → RunFault
 of_reading reading.Read = Read

@@ -1,5 +1,6 @@
 -- What `mcaudit wants` answers and writes.
-use Rattle.std.specs.Prelude.{◌≡◌, ℕ, ◌↔◌, Bool, true, false, IsTrue, List, [], ◌∷◌, ◌++◌, codes, Option, IfSome, Result, Ok, Err, ⊤}
+use Rattle.std.specs.Prelude.{◌≡◌, ℕ, ◌↔◌, Bool, true, false, IsTrue, List, [], ◌∷◌, ◌++◌, codes}
+use Rattle.std.specs.Prelude.{Option, IfSome, Result, Ok, Err, ⊤}
 use Rattle.mc_igmp.specs.declared.record.Record.{Record}
 use Rattle.mc_igmp.specs.ReportList.{IsReportList}
 use Rattle.mc_igmp.specs.ReadingList.{read_list}
@@ -16,10 +17,11 @@ answer_line false = codes "not wanted" ++ 10 ∷ []
 -- the text is a report list, and this says whether its LAN wants what the source sends to the group
 abbrev pub IsAnswer : List ℕ → ℕ → ℕ → Bool → Type 0
 IsAnswer text group source wanted =
-    (records : List Record) × IsReportList text records × (IsTrue wanted ↔ Wants records group source)
+    (records : List Record) × IsReportList text records
+    × (IsTrue wanted ↔ Wants records group source)
 
--- The answer is right. A list is refused only for the first fault that stands in it. The other faults are
--- those of the devices, and want of memory.
+-- The answer is right. A list is refused only for the first fault that stands in it. The other
+-- faults are those of the devices, and want of memory.
 abbrev pub Answers : List ℕ → ℕ → ℕ → Result Bool RunFault → Type 0
 Answers text group source (Ok wanted) = IsAnswer text group source wanted
 Answers text group source (Err (Reports fault)) = read_list text ≡ Err fault

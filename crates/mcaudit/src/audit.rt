@@ -1,7 +1,8 @@
 //! `mcaudit audit`: which flows of the domain of a folder's files are forwarded as they should be,
 //! and what a packet of each other one meets.
 
-ghost use Rattle.std.specs.Prelude.{◌≡◌, ◌≢◌, ◌++◌, ◌<◌, ◌↔◌, All, IfErr, IfOk, IfSome, IsTrue, OnOk, Err, Some, length, slice_get};
+ghost use Rattle.std.specs.Prelude.{◌≡◌, ◌≢◌, ◌++◌, ◌<◌, ◌↔◌, All, IfErr, IfOk, IfSome, IsTrue};
+ghost use Rattle.std.specs.Prelude.{OnOk, Err, Some, length, slice_get};
 ghost use Rattle.std.specs.Result.{IsOkAnd};
 ghost use Rattle.std.specs.String.{string_bytes};
 ghost use Rattle.mc_theory.specs.Certificates.{IsAccepted};
@@ -11,13 +12,16 @@ ghost use Rattle.mc_forward.specs.Assembling.{IsAssembled};
 ghost use Rattle.mc_forward.specs.Domains.{IsDomain, net_of};
 ghost use Rattle.mc_check.specs.Verdicts.{is_yes};
 ghost use Rattle.mc_check.specs.declared.verdict.Verdict.TheVariants.{Yes};
-ghost use Rattle.mcaudit.specs.AuditRun.{Answers, HeadlineOf, IsAudited, IsAuditText, IsFlowAudited, WritesAudit, WritesPartOfAudit, WritesWhichAreRight, events_told};
+ghost use Rattle.mcaudit.specs.AuditRun.{Answers, HeadlineOf, IsAudited, IsAuditText};
+ghost use Rattle.mcaudit.specs.AuditRun.{IsFlowAudited, WritesAudit, WritesPartOfAudit};
+ghost use Rattle.mcaudit.specs.AuditRun.{WritesWhichAreRight, events_told};
 ghost use Rattle.mcaudit.specs.CheckRun.{SaysYes};
 ghost use Rattle.mcaudit.specs.Failures.{failed_by, failed_reads, failed_writes};
 ghost use Rattle.mcaudit.specs.FilesMeaning.{AreRefusedFor, MeansFiles};
 ghost use Rattle.mcaudit.specs.MakeRun.{found_lines};
 ghost use Rattle.mcaudit.specs.VerdictText.{flow_line};
 
+use crate::domain_input::assembled;
 use crate::fault::RunFault;
 use crate::found_text::push_found;
 use crate::travel_text::push_events;
@@ -45,8 +49,7 @@ fn domain_with(alloc: Global, input: FilesInput) -> Result<Domain, RunFault>
         tables,
         reports,
     } = input;
-    // There are tables for each router and a list for each LAN: memory alone can be wanting.
-    match Domain::assemble(alloc, topology, tables, reports) {
+    match assembled(alloc, topology, tables, reports) {
         Ok(domain) => Ok(domain),
         Err(_) => Err(RunFault::Memory),
     }
@@ -184,7 +187,9 @@ fn audit_of<F: FileSource>(alloc: Global, files: &mut F, travels: bool) -> Resul
     ensures failures { F.failed files.new ≡ failed_by result (F.failed files.old) }
 {
     let domain = domain_of(alloc, files)?;
-    match audit_all(alloc, &domain, travels) {
+    let told = audit_all(alloc, &domain, travels);
+    drop(domain);
+    match told {
         Ok(told) => Ok(told),
         Err(_) => Err(RunFault::Memory),
     }
@@ -193,9 +198,9 @@ fn audit_of<F: FileSource>(alloc: Global, files: &mut F, travels: bool) -> Resul
 /// Reads the files of a domain, each at most 16,777,216 bytes, and judges each before it asks for
 /// the next one. Then it examines each flow of the topology, and checks each list that is made. It
 /// writes for each flow, in order, the checker's yes with the number of copies, or that it has no
-/// certificate and what a packet of it meets, with the events of that packet's travel where `travels`
-/// says that they are to be shown; and last `verdict yes` or `verdict no`. It answers whether all
-/// flows are certified. Files that are refused write nothing.
+/// certificate and what a packet of it meets, with the events of that packet's travel where
+/// `travels` says that they are to be shown; and last `verdict yes` or `verdict no`. It answers
+/// whether all flows are certified. Files that are refused write nothing.
 pub fn run_audit<F: FileSource, W: Output>(
     alloc: Global,
     files: &mut F,

@@ -1,4 +1,5 @@
-//! `mcaudit check`: whether a certificate proves that a domain forwards every listed flow as it should.
+//! `mcaudit check`: whether a certificate proves that a domain forwards every listed flow as it
+//! should.
 
 ghost use Rattle.std.specs.Prelude.{◌≡◌, ◌≢◌, ◌<◌, IfErr, IfOk, IfSome, IsTrue, Err, true};
 ghost use Rattle.std.specs.String.{string_bytes};
@@ -6,7 +7,9 @@ ghost use Rattle.mc_text.specs.ReadFault.{ConsumesUpTo};
 ghost use Rattle.mc_cert.specs.Certificate.{BelongsTo};
 ghost use Rattle.mc_forward.specs.Domains.{IsDomain};
 ghost use Rattle.mcaudit.specs.BundleMeaning.{IsRefusedFor, MeansCertified, max_input};
-ghost use Rattle.mcaudit.specs.CheckRun.{Answers, HeadlineOf, IsVerdictText, SaysYes, WritesPartOfVerdicts, WritesVerdicts};
+ghost use Rattle.mcaudit.specs.CheckRun.{Answers, HeadlineOf, IsTextOfVerdicts, IsVerdictText};
+ghost use Rattle.mcaudit.specs.CheckRun.{KeepsHeadline, SaysYes, WritesPartOfVerdicts};
+ghost use Rattle.mcaudit.specs.CheckRun.{WritesVerdicts};
 ghost use Rattle.mcaudit.specs.Failures.{IsNoDeviceFault, failed_reads, failed_writes};
 
 use crate::domain_input::{MAX_INPUT, domain_in};
@@ -50,6 +53,21 @@ struct Verdicts {
 }
 
 /// The verdicts on the flows of a domain, by its certificate.
+fn verdicts_of(alloc: Global, read: &Certified) -> Result<Verdicts, RunFault>
+    requires { BelongsTo read.now.domain.topology read.now.certificate }
+    ensures text { IfOk result (λ told. IsTextOfVerdicts read.now.domain read.now.certificate
+        told.yes (string_bytes told.text)) }
+    ensures headline { IfOk result (λ told.
+        IsTrue told.yes → KeepsHeadline read.now.domain read.now.certificate) }
+    ensures memory { IfErr result (λ fault. fault ≡ RunFault.Memory) }
+{
+    let verdicts = check_all(alloc, &read.domain, &read.certificate)?;
+    let text = check_text(alloc, read.domain.topology(), &verdicts)?;
+    let yes = are_yes(&verdicts);
+    Ok(Verdicts { text, yes })
+}
+
+/// The verdicts on the flows of the domain that a bundle tells, by its certificate.
 fn verdicts_on(alloc: Global, text: &[u8]) -> Result<Verdicts, RunFault>
     ensures text { IfOk result (λ told. IsVerdictText text.now told.yes (string_bytes told.text)) }
     ensures headline { IfOk result (λ told. IsTrue told.yes → HeadlineOf text.now) }
@@ -57,15 +75,12 @@ fn verdicts_on(alloc: Global, text: &[u8]) -> Result<Verdicts, RunFault>
     ensures no_device { IfErr result IsNoDeviceFault }
 {
     let read = certified_in(alloc, text)?;
-    let verdicts = check_all(alloc, &read.domain, &read.certificate)?;
-    let text = check_text(alloc, read.domain.topology(), &verdicts)?;
-    let yes = are_yes(&verdicts);
-    Ok(Verdicts { text, yes })
+    verdicts_of(alloc, &read)
 }
 
-/// Reads a bundle with a certificate from the input, at most 268,435,552 bytes, and writes for each flow of its
-/// topology, in order, the verdict on it, and last `verdict yes` or `verdict no`. It answers whether all are yes.
-/// A refused bundle writes nothing.
+/// Reads a bundle with a certificate from the input, at most 268,435,552 bytes, and writes for each
+/// flow of its topology, in order, the verdict on it, and last `verdict yes` or `verdict no`. It
+/// answers whether all are yes. A refused bundle writes nothing.
 pub fn run_check<R: Input, W: Output>(
     alloc: Global,
     input: &mut R,

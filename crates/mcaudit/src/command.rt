@@ -25,7 +25,8 @@ pub enum Task<'a> {
         /// An address whose first octet is 1 to 223 and not 127.
         source: Addr,
     },
-    /// Whether a bundle's certificate proves that its domain forwards every listed flow as it should.
+    /// Whether a bundle's certificate proves that its domain forwards every listed flow as it
+    /// should.
     Check,
     /// The certificate of a bundle's domain, or what a packet meets of each flow that has none.
     Make,
@@ -45,7 +46,8 @@ pub enum Task<'a> {
         /// Whether the certificate is to be in the bundle.
         certificate: bool,
     },
-    /// Which flows of the domain of a folder's files have a certificate, and what a packet meets of each other one.
+    /// Which flows of the domain of a folder's files have a certificate, and what a packet meets of
+    /// each other one.
     Audit {
         /// The folder's path, which is empty for the present directory.
         folder: &'a str,
@@ -100,6 +102,23 @@ const ORDER_RULE: &str = "--order is first or last";
 const SOURCE_RULE: &str =
     "<source> is an address whose first number is 1 to 223 and not 127, as 10.0.0.5";
 
+/// A command with one argument more.
+fn with_argument<'a>(
+    command: Result<Command<'a>, AllocError>,
+    argument: Arg<'a>,
+) -> Result<Command<'a>, AllocError> {
+    command?.arg(argument)
+}
+
+/// A command with one command more below it.
+fn with_command<'a>(
+    command: Result<Command<'a>, AllocError>,
+    below: Result<Command<'a>, AllocError>,
+) -> Result<Command<'a>, AllocError> {
+    let command = command?;
+    command.subcommand(below?)
+}
+
 /// The command `wants` and its arguments.
 fn wants_command<'a>(alloc: Global) -> Result<Command<'a>, AllocError> {
     let group = Arg::new(alloc, "group")
@@ -108,11 +127,11 @@ fn wants_command<'a>(alloc: Global) -> Result<Command<'a>, AllocError> {
     let source = Arg::new(alloc, "source")
         .required(true)
         .help("The source's address");
-    Command::new(alloc, "wants")
+    let command = Command::new(alloc, "wants")
         .about("Tells from a LAN's IGMP reports whether it wants what a source sends to a group")
         .override_usage("mcaudit wants <group> <source>")
-        .arg(group)?
-        .arg(source)
+        .arg(group);
+    with_argument(command, source)
 }
 
 /// The command `audit` and its arguments.
@@ -124,13 +143,13 @@ fn audit_command<'a>(alloc: Global) -> Result<Command<'a>, AllocError> {
         .long("travel")
         .action(ArgAction::SetTrue)
         .help("Shows of each flow without a certificate what its packet does, event by event");
-    Command::new(alloc, "audit")
+    let command = Command::new(alloc, "audit")
         .about(
             "Judges each flow of a folder's files, and shows what is wrong with each that has no certificate",
         )
         .override_usage("mcaudit audit <folder> [--travel]")
-        .arg(folder)?
-        .arg(travel)
+        .arg(folder);
+    with_argument(command, travel)
 }
 
 /// The command `check`, which has no arguments.
@@ -158,11 +177,11 @@ fn pack_command<'a>(alloc: Global) -> Result<Command<'a>, AllocError> {
         .long("certificate")
         .action(ArgAction::SetTrue)
         .help("Packs the file certificate too");
-    Command::new(alloc, "pack")
+    let command = Command::new(alloc, "pack")
         .about("Packs the files of a folder into a bundle")
         .override_usage("mcaudit pack <folder> [--certificate]")
-        .arg(folder)?
-        .arg(certificate)
+        .arg(folder);
+    with_argument(command, certificate)
 }
 
 /// The command `replay` and its arguments.
@@ -177,29 +196,28 @@ fn replay_command<'a>(alloc: Global) -> Result<Command<'a>, AllocError> {
         .long("order")
         .default_value("first")
         .help("Which of the waiting copies is handled next: first or last");
-    Command::new(alloc, "replay")
+    let command = Command::new(alloc, "replay")
         .about("Shows one packet's travel, event by event, and what is found")
         .override_usage("mcaudit replay <flow> <ttl> [--order first|last]")
-        .arg(flow)?
-        .arg(ttl)?
-        .arg(order)
+        .arg(flow);
+    with_argument(with_argument(command, ttl), order)
 }
 
 /// The commands and the help.
 fn program<'a>(alloc: Global) -> Result<Command<'a>, AllocError> {
-    Command::new(alloc, "mcaudit")
+    let program = Command::new(alloc, "mcaudit")
         .about("Audits the multicast forwarding state of a domain of Linux routers")
         .override_usage("mcaudit <command>")
         .after_help(EXAMPLES)
         .subcommand_required(true)
         .arg_required_else_help(true)
-        .disable_help_subcommand(true)
-        .subcommand(audit_command(alloc)?)?
-        .subcommand(check_command(alloc))?
-        .subcommand(make_command(alloc))?
-        .subcommand(pack_command(alloc)?)?
-        .subcommand(replay_command(alloc)?)?
-        .subcommand(wants_command(alloc)?)
+        .disable_help_subcommand(true);
+    let program = with_command(Ok(program), audit_command(alloc));
+    let program = with_command(program, Ok(check_command(alloc)));
+    let program = with_command(program, Ok(make_command(alloc)));
+    let program = with_command(program, pack_command(alloc));
+    let program = with_command(program, replay_command(alloc));
+    with_command(program, wants_command(alloc))
 }
 
 /// A refusal of the words, with the text that explains it.
@@ -233,7 +251,8 @@ fn wrong_words(alloc: Global, command: Result<Command<'_>, AllocError>, rule: &s
 /// The group that the word writes, if routers forward it.
 fn group_of(word: &str) -> Option<Addr>
     ensures found { IfSome result (λ group. IsForwardedGroup group × (word.now ≡ dotted group)) }
-    ensures only { (group : ℕ) → IsForwardedGroup group → word.now ≡ dotted group → result ≡ Some group }
+    ensures only { (group : ℕ) → IsForwardedGroup group → word.now ≡ dotted group
+        → result ≡ Some group }
 {
     let group = Addr::parse_dotted(word.as_bytes())?;
     group.is_forwarded_group().then_some(group)
@@ -242,7 +261,8 @@ fn group_of(word: &str) -> Option<Addr>
 /// The source that the word writes, if a host may send from it.
 fn source_of(word: &str) -> Option<Addr>
     ensures found { IfSome result (λ source. IsSource source × (word.now ≡ dotted source)) }
-    ensures only { (source : ℕ) → IsSource source → word.now ≡ dotted source → result ≡ Some source }
+    ensures only { (source : ℕ) → IsSource source → word.now ≡ dotted source
+        → result ≡ Some source }
 {
     let source = Addr::parse_dotted(word.as_bytes())?;
     source.is_source().then_some(source)
@@ -293,7 +313,8 @@ fn replay_task(
 fn wants_task(alloc: Global, group: &str, source: &str) -> Result<Task<'static>, WordsFault>
     ensures allowed { IfOk result IsAllowed }
     ensures found { IfOk result (AreWords group.now source.now) }
-    ensures only { (g s : ℕ) → IsForwardedGroup g → IsSource s → group.now ≡ dotted g → source.now ≡ dotted s
+    ensures only { (g s : ℕ) → IsForwardedGroup g → IsSource s → group.now ≡ dotted g
+        → source.now ≡ dotted s
         → result ≡ Ok (Task.Wants g s) }
 {
     let Some(group) = group_of(group) else {
@@ -331,8 +352,8 @@ fn word_of<'a>(matches: &ArgMatches<'a>, argument: &str) -> &'a str {
 
 /// The task that the program's words ask for. The first word is the program's own name.
 pub fn command_of<'a>(alloc: Global, words: &'a [&'a str]) -> Result<Task<'a>, WordsFault>
-    // A task is given only with a group that routers forward and an address that a host may send from, and with a
-    // flow's number from 1 to 4,096 and a time to live from 1.
+    // A task is given only with a group that routers forward and an address that a host may send
+    // from, and with a flow's number from 1 to 4,096 and a time to live from 1.
     ensures allowed { IfOk result IsAllowed }
 {
     let matches = match program(alloc)?.try_get_matches_from(words) {

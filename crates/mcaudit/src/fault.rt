@@ -20,8 +20,8 @@ pub enum RunFault {
     /// (1) The framing of the bundle is wrong.
     #[error("refused: bundle: {0}")]
     Bundle(BundleFault),
-    /// (2) The part at this place, counted from 1, has another name than it should, is missing, or is one too
-    /// many.
+    /// (2) The part at this place, counted from 1, has another name than it should, is missing, or
+    /// is one too many.
     #[error("refused: parts: {0}")]
     Parts(u32),
     /// (3) The topology is refused.

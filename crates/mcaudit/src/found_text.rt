@@ -32,7 +32,8 @@ fn push_finding(
     writeln!(text, "found ttl {ttl} {finding}").map_err(|_| NoMemory)
 }
 
-/// Writes the two lines of a flow without a certificate, of which a packet with this time to live meets this.
+/// Writes the two lines of a flow without a certificate, of which a packet with this time to live
+/// meets this.
 pub(crate) fn push_found(
     text: &mut String,
     topology: &Topology,

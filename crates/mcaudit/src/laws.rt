@@ -11,7 +11,8 @@ ghost use Rattle.mcaudit.specs.MakeRun.{IsMadeText, lists_of, with_certificate};
 
 /// What `make` writes where it answers true, `check` says yes to.
 pub fn made_certificates_are_accepted()
-    // If it has at most 16,777,216 bytes, it is read as the lists that were made, line feed and all,
+    // If it has at most 16,777,216 bytes, it is read as the lists that were made, line feed and
+    // all,
     ensures read { (text written : List ℕ) (made : IsMadeText text true written) →
         length written ≤ 16777216 →
         reading_of made.domain.topology written ≡ Ok (lists_of made.examined) }
@@ -20,11 +21,14 @@ pub fn made_certificates_are_accepted()
         (flow : ℕ) (es : Tree) → slice_get (lists_of made.examined) flow ≡ Some es →
         IsAccepted (net_of made.domain flow) es }
     // So the bundle that has the certificate as one part more has a verdict text that says yes,
-    ensures yes { (text written bundle : List ℕ) (parts : List PartText) → IsMadeText text true written →
+    ensures yes { (text written bundle : List ℕ) (parts : List PartText)
+        → IsMadeText text true written →
         IsBundle text parts → IsBundle bundle (with_certificate parts written) →
         (told : List ℕ) × IsVerdictText bundle true told }
     // and none that says no.
-    ensures only { (text written bundle : List ℕ) (parts : List PartText) (all : Bool) (told : List ℕ) →
+    ensures only { (text written bundle : List ℕ) (parts : List PartText) (all : Bool)
+        (told : List ℕ) →
         IsMadeText text true written → IsBundle text parts →
-        IsBundle bundle (with_certificate parts written) → IsVerdictText bundle all told → all ≡ true }
+        IsBundle bundle (with_certificate parts written) → IsVerdictText bundle all told
+        → all ≡ true }
 {}

@@ -1,4 +1,5 @@
-//! `mcaudit make`: the certificate of a domain, or for each flow that has none what a packet of it meets.
+//! `mcaudit make`: the certificate of a domain, or for each flow that has none what a packet of it
+//! meets.
 
 ghost use Rattle.std.specs.Prelude.{◌≡◌, ◌≢◌, ◌++◌, ◌<◌, IfErr, IfOk, IfSome, Err, codes, false};
 ghost use Rattle.std.specs.String.{string_bytes};
@@ -7,7 +8,8 @@ ghost use Rattle.mc_cert.specs.Certificate.{BelongsTo};
 ghost use Rattle.mc_cert.specs.CertificateText.{certificate_text as text_of_certificate};
 ghost use Rattle.mcaudit.specs.BundleMeaning.{IsRefusedFor, max_input};
 ghost use Rattle.mcaudit.specs.Failures.{IsNoDeviceFault, failed_reads, failed_writes};
-ghost use Rattle.mcaudit.specs.MakeRun.{Answers, AreMade, IsMadeText, SaysIfRight, WritesMade, WritesPartOfMade};
+ghost use Rattle.mcaudit.specs.MakeRun.{Answers, AreMade, IsMadeText, IsTextOfMade, SaysIfRight};
+ghost use Rattle.mcaudit.specs.MakeRun.{WritesMade, WritesPartOfMade};
 
 use crate::domain_input::{MAX_INPUT, domain_in};
 use crate::fault::RunFault;
@@ -68,32 +70,43 @@ struct Told {
     certified: bool,
 }
 
-/// What is written of the domain that a bundle tells.
-fn made_of(alloc: Global, text: &[u8]) -> Result<Told, RunFault>
-    ensures text { IfOk result (λ told. IsMadeText text.now told.certified (string_bytes told.text)) }
-    ensures right { IfOk result (λ told. SaysIfRight text.now told.certified) }
-    ensures refused { IfErr result (IsRefusedFor false text.now) }
-    ensures no_device { IfErr result IsNoDeviceFault }
+/// What is written of a domain.
+fn told_of(alloc: Global, domain: &Domain) -> Result<Told, RunFault>
+    ensures text { IfOk result (λ told.
+        IsTextOfMade domain.now told.certified (string_bytes told.text)) }
+    ensures memory { IfErr result (λ fault. fault ≡ RunFault.Memory) }
 {
-    let input = domain_in(alloc, text, false)?;
-    let made = make_all(alloc, &input.domain)?;
+    let made = make_all(alloc, domain)?;
     if !made.lines.is_empty() {
         return Ok(Told {
             text: made.lines,
             certified: false,
         });
     }
-    let text = certificate_text(alloc, input.domain.topology(), made.lists)?;
+    let text = certificate_text(alloc, domain.topology(), made.lists)?;
     Ok(Told {
         text,
         certified: true,
     })
 }
 
-/// Reads a bundle without a certificate from the input, at most 268,435,552 bytes, and examines each flow of its
-/// topology. Where all are right, it writes their certificate, as JSON of version 2 with a line feed. Else it
-/// writes for each flow that isn't, in order, that it has no certificate, and what a packet of it meets. It
-/// answers whether a certificate is written. A refused bundle writes nothing.
+/// What is written of the domain that a bundle tells.
+fn made_of(alloc: Global, text: &[u8]) -> Result<Told, RunFault>
+    ensures text { IfOk result (λ told.
+        IsMadeText text.now told.certified (string_bytes told.text)) }
+    ensures right { IfOk result (λ told. SaysIfRight text.now told.certified) }
+    ensures refused { IfErr result (IsRefusedFor false text.now) }
+    ensures no_device { IfErr result IsNoDeviceFault }
+{
+    let input = domain_in(alloc, text, false)?;
+    told_of(alloc, &input.domain)
+}
+
+/// Reads a bundle without a certificate from the input, at most 268,435,552 bytes, and examines
+/// each flow of its topology. Where all are right, it writes their certificate, as JSON of version
+/// 2 with a line feed. Else it writes for each flow that isn't, in order, that it has no
+/// certificate, and what a packet of it meets. It answers whether a certificate is written. A
+/// refused bundle writes nothing.
 pub fn run_make<R: Input, W: Output>(
     alloc: Global,
     input: &mut R,
@@ -110,7 +123,8 @@ pub fn run_make<R: Input, W: Output>(
         IfSome (R.told input.old) (λ text. SaysIfRight text certified)) }
     // No more is read than the greatest bundle and a line, whatever the answer.
     ensures consumed { ConsumesUpTo max_input (R.told input.old) (R.told input.new) }
-    // The certificate or the lines are written whole, or a part where the output failed, or else nothing.
+    // The certificate or the lines are written whole, or a part where the output failed, or else
+    // nothing.
     ensures written { IfOk result (λ certified. IfSome (R.told input.old) (λ text.
         WritesMade text certified (W.took output.old) (W.took output.new))) }
     ensures part { result ≡ Err RunFault.Write → IfSome (R.told input.old) (λ text.

@@ -5,16 +5,17 @@ ghost use Rattle.mc_text.specs.Bundle.{PartText};
 ghost use Rattle.mc_files.specs.Files.{FileText};
 ghost use Rattle.mc_files.specs.Packing.{IsPacked};
 ghost use Rattle.mc_files.specs.PackRun.{WritesPacked, WritesPartOfPacked};
-ghost use Rattle.mcaudit.specs.PackingRun.{AnswersPack, IsOfDevices, failed_file_reads, failed_pack_writes};
+ghost use Rattle.mcaudit.specs.PackingRun.{AnswersPack, IsOfDevices, failed_file_reads};
+ghost use Rattle.mcaudit.specs.PackingRun.{failed_pack_writes};
 
 use crate::fault::RunFault;
 use mc_files::FileSource;
 use mc_text::Output;
 use std::alloc::Global;
 
-/// Reads the files of a domain, the certificate among them where one is asked for, each at most 16,777,216
-/// bytes, and writes the bundle that is packed of them. It judges the topology, before it asks for the next
-/// file, and no other file. Files that make no bundle write nothing.
+/// Reads the files of a domain, the certificate among them where one is asked for, each at most
+/// 16,777,216 bytes, and writes the bundle that is packed of them. It judges the topology, before
+/// it asks for the next file, and no other file. Files that make no bundle write nothing.
 pub fn run_pack<F: FileSource, W: Output>(
     alloc: Global,
     files: &mut F,

@@ -5,7 +5,8 @@ ghost use Rattle.std.specs.String.{string_bytes};
 ghost use Rattle.mc_text.specs.ReadFault.{ConsumesUpTo};
 ghost use Rattle.mcaudit.specs.BundleMeaning.{max_input};
 ghost use Rattle.mcaudit.specs.Failures.{IsNoDeviceFault, failed_reads, failed_writes};
-ghost use Rattle.mcaudit.specs.ReplayRun.{Answers, IsReplayRefused, IsTravelText, WritesPartOfTravel, WritesTravel};
+ghost use Rattle.mcaudit.specs.ReplayRun.{Answers, HasNoTravel, IsReplayRefused, IsTextOfTravel};
+ghost use Rattle.mcaudit.specs.ReplayRun.{IsTravelText, WritesPartOfTravel, WritesTravel};
 
 use crate::domain_input::{MAX_INPUT, domain_in};
 use crate::fault::RunFault;
@@ -35,6 +36,27 @@ struct Told {
     clean: bool,
 }
 
+/// The travel of a packet through a domain.
+fn travel_of<P: Picker>(
+    alloc: Global,
+    domain: &Domain,
+    flow: u32,
+    ttl: u8,
+    picker: &mut P,
+) -> Result<Told, RunFault>
+    requires { 0 < ttl }
+    ensures text { IfOk result (λ told. IsTextOfTravel domain.now flow ttl (P.choices picker.old)
+        told.clean (string_bytes told.text)) }
+    ensures none { IfErr result (HasNoTravel domain.now flow) }
+{
+    let place = place_of(domain, flow)?;
+    let travel = replay(alloc, domain, place, ttl, picker)?;
+    let topology = domain.topology();
+    let text = travel_text(alloc, topology, topology.flow(place), ttl, &travel)?;
+    let clean = is_clean(travel.finding);
+    Ok(Told { text, clean })
+}
+
 /// The travel of a packet through the domain that a bundle tells.
 fn travel_in<P: Picker>(
     alloc: Global,
@@ -50,18 +72,13 @@ fn travel_in<P: Picker>(
     ensures no_device { IfErr result IsNoDeviceFault }
 {
     let input = domain_in(alloc, text, false)?;
-    let place = place_of(&input.domain, flow)?;
-    let travel = replay(alloc, &input.domain, place, ttl, picker)?;
-    let topology = input.domain.topology();
-    let text = travel_text(alloc, topology, topology.flow(place), ttl, &travel)?;
-    let clean = is_clean(travel.finding);
-    Ok(Told { text, clean })
+    travel_of(alloc, &input.domain, flow, ttl, picker)
 }
 
-/// Reads a bundle without a certificate from the input, at most 268,435,552 bytes, and writes the travel of one
-/// packet of the flow with this number, counted from 1, sent with this time to live, 1 to 255, whose copies are
-/// handled in the order that the picker chooses: its events, and last what it shows. It answers whether that is
-/// `Clean`. A refused bundle writes nothing.
+/// Reads a bundle without a certificate from the input, at most 268,435,552 bytes, and writes the
+/// travel of one packet of the flow with this number, counted from 1, sent with this time to live,
+/// 1 to 255, whose copies are handled in the order that the picker chooses: its events, and last
+/// what it shows. It answers whether that is `Clean`. A refused bundle writes nothing.
 pub fn run_replay<P: Picker, R: Input, W: Output>(
     alloc: Global,
     flow: u32,
@@ -75,13 +92,15 @@ pub fn run_replay<P: Picker, R: Input, W: Output>(
     requires writes { W.failed output.old < u64.MAX }
     ensures input_same { R.names input.new ≡ R.names input.old }
     ensures output_same { W.names output.new ≡ W.names output.old }
-    // The answer is that of the definition, or the bundle's first fault, or that it lists no such flow.
+    // The answer is that of the definition, or the bundle's first fault, or that it lists no such
+    // flow.
     ensures answer { IfSome (R.told input.old) (λ text.
         Answers text flow ttl (P.choices picker.old) result) }
     // No more is read than the greatest bundle and a line, whatever the answer.
     ensures consumed { ConsumesUpTo max_input (R.told input.old) (R.told input.new) }
     // The travel's text is written whole, or a part of it where the output failed, or else nothing.
-    ensures written { IfOk result (λ clean. IfSome (R.told input.old) (λ text. WritesTravel text flow ttl
+    ensures written { IfOk result
+        (λ clean. IfSome (R.told input.old) (λ text. WritesTravel text flow ttl
         (P.choices picker.old) clean (W.took output.old) (W.took output.new))) }
     ensures part { result ≡ Err RunFault.Write → IfSome (R.told input.old) (λ text.
         WritesPartOfTravel text flow ttl (P.choices picker.old)

@@ -2,7 +2,8 @@
 
 ghost use Rattle.std.specs.Prelude.{◌≡◌, ◌++◌, IfOk, OnOk};
 ghost use Rattle.std.specs.String.{string_bytes};
-ghost use Rattle.mcaudit.specs.ReplayRun.{event_line, event_lines, finding_line, is_clean as clean, replay_line, replay_text};
+ghost use Rattle.mcaudit.specs.ReplayRun.{event_line, event_lines, finding_line, is_clean as clean};
+ghost use Rattle.mcaudit.specs.ReplayRun.{replay_line, replay_text};
 
 use mc_forward::Event;
 use mc_replay::{Finding, Travel, shown_event};

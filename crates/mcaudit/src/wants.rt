@@ -28,8 +28,8 @@ fn is_wanted(
 }
 
 /// Reads a report list of one LAN from the input, at most 16,777,216 bytes, and writes `wanted` or
-/// `not wanted` with a line feed to the output. It answers whether the LAN wants what the source sends
-/// to the group. A refused list writes nothing.
+/// `not wanted` with a line feed to the output. It answers whether the LAN wants what the source
+/// sends to the group. A refused list writes nothing.
 pub fn run_wants<R: Input, W: Output>(
     alloc: Global,
     group: Addr,

@@ -1,5 +1,5 @@
-//! Does one step of a run with a text, and prints how many microseconds that took and how much memory the
-//! process had at most, as Linux counts it. `make bench` runs it.
+//! Does one step of a run with a text, and prints how many microseconds that took and how much
+//! memory the process had at most, as Linux counts it. `make bench` runs it.
 #![tactic(auto)]
 
 mod run;
@@ -11,7 +11,7 @@ use std::alloc::Global;
 use std::time::Clock;
 use std::{env, fs};
 
-const USAGE: &str = "usage: measure cache|vif|topology|bundle|assemble|travel FILE";
+const USAGE: &str = "usage: measure cache|vif|topology|bundle|assemble|travel|examine FILE";
 
 /// The step that the word names, done with the text. None where it names none.
 fn step_of(
@@ -27,6 +27,7 @@ fn step_of(
         "bundle" => run::bundle(rt, alloc, text)?,
         "assemble" => run::assemble(rt, alloc, text)?,
         "travel" => run::travel(rt, alloc, text)?,
+        "examine" => run::examine(rt, alloc, text)?,
         _ => return Ok(None),
     };
     Ok(Some(step))

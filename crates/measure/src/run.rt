@@ -3,6 +3,7 @@
 use anyhow::Context;
 use mc_forward::Domain;
 use mc_input::{BundleInput, read_input};
+use mc_maker::make;
 use mc_replay::{Finding, First, Travel, replay};
 use std::alloc::Global;
 use std::time::{Clock, Duration, Instant};
@@ -46,6 +47,16 @@ fn is_clean(travel: &Travel) -> bool {
     matches!(travel.finding, Finding::Clean)
 }
 
+/// Whether each flow of a domain has a certificate.
+fn are_right(alloc: Global, domain: &Domain) -> bool {
+    for flow in 0..domain.topology().flows() {
+        let Ok(Some(_)) = make(alloc, domain, flow) else {
+            return false;
+        };
+    }
+    true
+}
+
 /// Reading a bundle's parts.
 pub(crate) fn bundle(rt: &impl Clock, alloc: Global, text: &[u8]) -> anyhow::Result<Step> {
     let start = Instant::now(rt)?;
@@ -69,6 +80,16 @@ pub(crate) fn travel(rt: &impl Clock, alloc: Global, text: &[u8]) -> anyhow::Res
     let domain = domain_of(alloc, input).context("no domain")?;
     let start = Instant::now(rt)?;
     let good = travel_of(alloc, &domain).is_some_and(|travel| is_clean(&travel));
+    let took = start.elapsed(rt)?;
+    Ok(Step { took, good })
+}
+
+/// Examining each flow.
+pub(crate) fn examine(rt: &impl Clock, alloc: Global, text: &[u8]) -> anyhow::Result<Step> {
+    let input = input_of(alloc, text).context("the bundle is refused")?;
+    let domain = domain_of(alloc, input).context("no domain")?;
+    let start = Instant::now(rt)?;
+    let good = are_right(alloc, &domain);
     let took = start.elapsed(rt)?;
     Ok(Step { took, good })
 }

@@ -6,7 +6,6 @@ mod later;
 mod second;
 
 use super::network::{NETWORK, TWO_FLOWS, VERSION_ONE, VERSION_TWO, answer, changed};
-use mc_topology::Topology;
 use std::alloc::{AllocError, Global};
 use std::process::Abort;
 use std::test::Fail;
@@ -22,7 +21,7 @@ struct Case {
 fn check(
     rt: &impl Abort,
     alloc: Global,
-    topology: &Topology,
+    network: &str,
     certificate: &str,
     case: &Case,
 ) -> Result<(), AllocError> {
@@ -30,7 +29,7 @@ fn check(
     assert!(rt; certificate.contains(place), "{place}");
     for instead in case.instead {
         let text = changed(alloc, certificate, place, instead)?;
-        let found = answer(alloc, topology, text.as_bytes())?;
+        let found = answer(alloc, network, text.as_bytes())?;
         assert_eq!(rt; found.as_str(), wanted, "at {instead}");
     }
     Ok(())
@@ -40,37 +39,34 @@ fn check(
 fn check_each(
     rt: &impl Abort,
     alloc: Global,
-    topology: &Topology,
+    network: &str,
     certificate: &str,
     cases: &[Case],
 ) -> Result<(), AllocError> {
     for case in cases {
-        check(rt, alloc, topology, certificate, case)?;
+        check(rt, alloc, network, certificate, case)?;
     }
     Ok(())
 }
 
 #[test]
 fn faults_of_one_flow(rt: HostRuntime) -> Result<(), Fail> {
-    let topology = Topology::read(rt.alloc(), NETWORK.as_bytes())?;
-    check_each(&rt, rt.alloc(), &topology, VERSION_ONE, first::CASES)?;
-    check_each(&rt, rt.alloc(), &topology, VERSION_ONE, entries::CASES)?;
-    check_each(&rt, rt.alloc(), &topology, VERSION_TWO, second::CASES)?;
+    check_each(&rt, rt.alloc(), NETWORK, VERSION_ONE, first::CASES)?;
+    check_each(&rt, rt.alloc(), NETWORK, VERSION_ONE, entries::CASES)?;
+    check_each(&rt, rt.alloc(), NETWORK, VERSION_TWO, second::CASES)?;
     Ok(())
 }
 
 #[test]
 fn faults_of_two_flows(rt: HostRuntime) -> Result<(), Fail> {
-    let topology = Topology::read(rt.alloc(), TWO_FLOWS.as_bytes())?;
-    check_each(&rt, rt.alloc(), &topology, later::LISTS, later::ONE)?;
-    check_each(&rt, rt.alloc(), &topology, later::TREES, later::TWO)?;
+    check_each(&rt, rt.alloc(), TWO_FLOWS, later::LISTS, later::ONE)?;
+    check_each(&rt, rt.alloc(), TWO_FLOWS, later::TREES, later::TWO)?;
     Ok(())
 }
 
 #[test]
 fn bytes_that_are_no_text(rt: HostRuntime) -> Result<(), Fail> {
-    let topology = Topology::read(rt.alloc(), NETWORK.as_bytes())?;
-    let found = answer(rt.alloc(), &topology, b"{\"version\":\xff}")?;
+    let found = answer(rt.alloc(), NETWORK, b"{\"version\":\xff}")?;
     assert_eq!(rt; found.as_str(), "top: NotJson");
     Ok(())
 }

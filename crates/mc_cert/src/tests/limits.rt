@@ -1,6 +1,6 @@
 //! The greatest sizes, and one more.
 
-use super::network::{VERSION_ONE, VERSION_TWO, answer, network};
+use super::network::{NETWORK, VERSION_ONE, VERSION_TWO, answer};
 use std::alloc::{AllocError, Global};
 use std::test::Fail;
 
@@ -54,10 +54,9 @@ const CASES: &[(&str, &str, usize, &str, &str)] = &[
 
 #[test]
 fn counts(rt: HostRuntime) -> Result<(), Fail> {
-    let topology = network(rt.alloc())?;
     for (front, piece, count, back, wanted) in CASES {
         let text = repeated(rt.alloc(), front, piece, *count, back)?;
-        let found = answer(rt.alloc(), &topology, text.as_bytes())?;
+        let found = answer(rt.alloc(), NETWORK, text.as_bytes())?;
         assert_eq!(rt; found.as_str(), *wanted, "at {count} of {piece}");
     }
     Ok(())
@@ -65,14 +64,13 @@ fn counts(rt: HostRuntime) -> Result<(), Fail> {
 
 #[test]
 fn nested_lists_are_no_json(rt: HostRuntime) -> Result<(), Fail> {
-    let topology = network(rt.alloc())?;
     let mut text = String::new(rt.alloc());
     for bracket in ["[", "]"] {
         for _ in 0..200 {
             text.push_str(bracket)?;
         }
     }
-    let found = answer(rt.alloc(), &topology, text.as_bytes())?;
+    let found = answer(rt.alloc(), NETWORK, text.as_bytes())?;
     assert_eq!(rt; found.as_str(), "top: NotJson");
     Ok(())
 }
@@ -95,10 +93,9 @@ const SIZES: &[(&str, usize, &str)] = &[
 
 #[test]
 fn sizes(rt: HostRuntime) -> Result<(), Fail> {
-    let topology = network(rt.alloc())?;
     for (certificate, size, wanted) in SIZES {
         let text = padded(rt.alloc(), certificate, *size)?;
-        let found = answer(rt.alloc(), &topology, &text)?;
+        let found = answer(rt.alloc(), NETWORK, &text)?;
         assert_eq!(rt; found.as_str(), *wanted);
     }
     Ok(())

@@ -1,7 +1,7 @@
 //! Lists that come one after another, and the certificate of them.
 
 use super::network::TWO_FLOWS;
-use super::values::{REACHED, TREES, says};
+use super::values::{Listed, REACHED, TREES, says_over};
 use crate::*;
 use mc_text::Memory;
 use mc_topology::Topology;
@@ -32,14 +32,28 @@ fn certificate_of(
     lists.into_certificate(alloc)
 }
 
+/// The same, where the other one is read.
+fn repeated(alloc: Global, topology: &Topology) -> Result<Certificate, Fail> {
+    let read = Certificate::read(alloc, TREES.as_bytes(), topology)?;
+    Ok(certificate_of(alloc, topology, &read)?)
+}
+
+/// The same, over the topology of the two flows.
+fn repeated_over_two(alloc: Global) -> Result<Certificate, Fail> {
+    match Topology::read(alloc, TWO_FLOWS.as_bytes()) {
+        Ok(topology) => repeated(alloc, &topology),
+        Err(fault) => Err(Fail::from(fault)),
+    }
+}
+
 #[test]
 fn equal_lists_are_each_flows_own(rt: HostRuntime) -> Result<(), Fail> {
-    let two = Topology::read(rt.alloc(), TWO_FLOWS.as_bytes())?;
-    let read = Certificate::read(rt.alloc(), TREES.as_bytes(), &two)?;
-    let certificate = certificate_of(rt.alloc(), &two, &read)?;
-    let three = Topology::read(rt.alloc(), THREE_FLOWS.as_bytes())?;
-    assert!(rt; says(&certificate, &three, 0, [239, 1, 2, 3], &REACHED));
-    assert!(rt; says(&certificate, &three, 1, [239, 1, 2, 4], &REACHED[..1]));
-    assert!(rt; says(&certificate, &three, 2, [239, 1, 2, 5], &REACHED));
+    let certificate = repeated_over_two(rt.alloc())?;
+    let flows: [Listed; 3] = [
+        ([239, 1, 2, 3], &REACHED),
+        ([239, 1, 2, 4], &REACHED[..1]),
+        ([239, 1, 2, 5], &REACHED),
+    ];
+    assert!(rt; says_over(rt.alloc(), THREE_FLOWS, &certificate, &flows)?);
     Ok(())
 }

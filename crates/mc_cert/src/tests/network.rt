@@ -1,7 +1,8 @@
-//! A small network and its certificate in both versions: a source on l0, r1 from l0 to l1, r2 from l1 to l2.
+//! A small network and its certificate in both versions: a source on l0, r1 from l0 to l1, r2 from
+//! l1 to l2.
 
 use crate::*;
-use mc_topology::{Topology, TopologyFault};
+use mc_topology::Topology;
 use std::alloc::{AllocError, Global};
 
 pub(super) const NETWORK: &str = r#"version = 1
@@ -25,11 +26,6 @@ pub(super) const VERSION_ONE: &str =
 pub(super) const VERSION_TWO: &str =
     r#"{"flows":[{"group":"239.1.2.3","source":"10.0.0.5","tree":0}],"trees":[[{"lan":"l0","need":1,"rank":0},{"lan":"l1","need":2,"rank":1,"router":"r1","vif":1},{"lan":"l2","need":3,"rank":2,"router":"r2","vif":1}]],"version":2}"#;
 
-/// The topology of the network.
-pub(super) fn network(alloc: Global) -> Result<Topology, TopologyFault> {
-    Topology::read(alloc, NETWORK.as_bytes())
-}
-
 /// A text with one place changed.
 pub(super) fn changed(
     alloc: Global,
@@ -46,14 +42,18 @@ pub(super) fn changed(
     Ok(other)
 }
 
-/// The fault of a text, or `read`.
-pub(super) fn answer(
-    alloc: Global,
-    topology: &Topology,
-    text: &[u8],
-) -> Result<String, AllocError> {
+/// The fault of a text, or `read`, over a topology.
+fn answer_over(alloc: Global, topology: &Topology, text: &[u8]) -> Result<String, AllocError> {
     match Certificate::read(alloc, text, topology) {
         Ok(_) => String::from_str(alloc, "read"),
+        Err(fault) => fault.to_string(alloc),
+    }
+}
+
+/// The fault of a text, or `read`, over the topology of a network.
+pub(super) fn answer(alloc: Global, network: &str, text: &[u8]) -> Result<String, AllocError> {
+    match Topology::read(alloc, network.as_bytes()) {
+        Ok(topology) => answer_over(alloc, &topology, text),
         Err(fault) => fault.to_string(alloc),
     }
 }

@@ -3,7 +3,8 @@
 use super::network::{NETWORK, TWO_FLOWS, VERSION_ONE, VERSION_TWO};
 use crate::*;
 use mc_text::Addr;
-use mc_topology::{LanNo, RouterNo, Topology};
+use mc_topology::{LanNo, RouterNo, Topology, TopologyFault};
+use std::alloc::Global;
 use std::test::Fail;
 
 /// The entries of the network's certificate.
@@ -28,9 +29,12 @@ pub(super) const REACHED: [Reached; 3] = [
     },
 ];
 
-/// Whether the certificate says of the flow with this number that it goes from 10.0.0.5 to this group, and
-/// reaches these LANs.
-pub(super) fn says(
+/// A flow's group, and the LANs that it reaches.
+pub(super) type Listed<'a> = ([u8; 4], &'a [Reached]);
+
+/// Whether the certificate says of the flow with this number that it goes from 10.0.0.5 to this
+/// group, and reaches these LANs.
+fn says(
     certificate: &Certificate,
     topology: &Topology,
     number: u32,
@@ -45,13 +49,63 @@ pub(super) fn says(
     flow.source == source && flow.group == Addr::from_octets(group) && flow.reached == reached
 }
 
+/// The same of each flow, in order, and no other.
+fn says_each(certificate: &Certificate, topology: &Topology, flows: &[Listed<'_>]) -> bool {
+    let count = certificate.flows();
+    if flows.len() != count as usize {
+        return false;
+    }
+    for number in 0..count {
+        let (group, reached) = flows[number as usize];
+        if !says(certificate, topology, number, group, reached) {
+            return false;
+        }
+    }
+    true
+}
+
+/// Whether the certificate says it over the topology of a network.
+pub(super) fn says_over(
+    alloc: Global,
+    network: &str,
+    certificate: &Certificate,
+    flows: &[Listed<'_>],
+) -> Result<bool, TopologyFault> {
+    match Topology::read(alloc, network.as_bytes()) {
+        Ok(topology) => Ok(says_each(certificate, &topology, flows)),
+        Err(fault) => Err(fault),
+    }
+}
+
+/// Whether the certificate that a text stands for says it.
+fn tells(
+    alloc: Global,
+    topology: &Topology,
+    text: &str,
+    flows: &[Listed<'_>],
+) -> Result<bool, Fail> {
+    let certificate = Certificate::read(alloc, text.as_bytes(), topology)?;
+    Ok(says_each(&certificate, topology, flows))
+}
+
+/// The same, over the topology of a network.
+fn tells_over(
+    alloc: Global,
+    network: &str,
+    text: &str,
+    flows: &[Listed<'_>],
+) -> Result<bool, Fail> {
+    match Topology::read(alloc, network.as_bytes()) {
+        Ok(topology) => tells(alloc, &topology, text, flows),
+        Err(fault) => Err(Fail::from(fault)),
+    }
+}
+
 #[test]
 fn both_versions_are_read(rt: HostRuntime) -> Result<(), Fail> {
-    let topology = Topology::read(rt.alloc(), NETWORK.as_bytes())?;
     for text in [VERSION_ONE, VERSION_TWO] {
-        let certificate = Certificate::read(rt.alloc(), text.as_bytes(), &topology)?;
-        assert_eq!(rt; certificate.flows(), 1);
-        assert!(rt; says(&certificate, &topology, 0, [239, 1, 2, 3], &REACHED));
+        let flows: [Listed; 1] = [([239, 1, 2, 3], &REACHED)];
+        assert!(rt; tells_over(rt.alloc(), NETWORK, text, &flows)?);
     }
     Ok(())
 }
@@ -66,12 +120,9 @@ const LISTS: &str =
 
 #[test]
 fn each_flow_has_its_own_list(rt: HostRuntime) -> Result<(), Fail> {
-    let topology = Topology::read(rt.alloc(), TWO_FLOWS.as_bytes())?;
     for text in [TREES, LISTS] {
-        let certificate = Certificate::read(rt.alloc(), text.as_bytes(), &topology)?;
-        assert_eq!(rt; certificate.flows(), 2);
-        assert!(rt; says(&certificate, &topology, 0, [239, 1, 2, 3], &REACHED));
-        assert!(rt; says(&certificate, &topology, 1, [239, 1, 2, 4], &REACHED[..1]));
+        let flows: [Listed; 2] = [([239, 1, 2, 3], &REACHED), ([239, 1, 2, 4], &REACHED[..1])];
+        assert!(rt; tells_over(rt.alloc(), TWO_FLOWS, text, &flows)?);
     }
     Ok(())
 }
@@ -82,9 +133,7 @@ const SHARED: &str =
 
 #[test]
 fn flows_share_a_tree(rt: HostRuntime) -> Result<(), Fail> {
-    let topology = Topology::read(rt.alloc(), TWO_FLOWS.as_bytes())?;
-    let certificate = Certificate::read(rt.alloc(), SHARED.as_bytes(), &topology)?;
-    assert!(rt; says(&certificate, &topology, 0, [239, 1, 2, 3], &REACHED));
-    assert!(rt; says(&certificate, &topology, 1, [239, 1, 2, 4], &REACHED));
+    let flows: [Listed; 2] = [([239, 1, 2, 3], &REACHED), ([239, 1, 2, 4], &REACHED)];
+    assert!(rt; tells_over(rt.alloc(), TWO_FLOWS, SHARED, &flows)?);
     Ok(())
 }

@@ -6,11 +6,19 @@ use mc_topology::Topology;
 use std::alloc::{AllocError, Global};
 use std::test::Fail;
 
-/// The text of the certificate that a text stands for.
-fn rewritten(alloc: Global, topology: &Topology, text: &str) -> Result<String, Fail> {
+/// The text of the certificate that a text stands for, over a topology.
+fn rewritten_over(alloc: Global, topology: &Topology, text: &str) -> Result<String, Fail> {
     texts_stand_for_certificates();
     let certificate = Certificate::read(alloc, text.as_bytes(), topology)?;
     Ok(certificate.to_json(alloc, topology)?)
+}
+
+/// The text of the certificate that a text stands for, over the topology of a network.
+fn rewritten(alloc: Global, network: &str, text: &str) -> Result<String, Fail> {
+    match Topology::read(alloc, network.as_bytes()) {
+        Ok(topology) => rewritten_over(alloc, &topology, text),
+        Err(fault) => Err(Fail::from(fault)),
+    }
 }
 
 /// A network, the text of one of its certificates, and how it is written.
@@ -92,8 +100,7 @@ const CASES: &[Case] = &[
 #[test]
 fn certificates_are_written_in_version_two(rt: HostRuntime) -> Result<(), Fail> {
     for case in CASES {
-        let topology = Topology::read(rt.alloc(), case.network.as_bytes())?;
-        let written = rewritten(rt.alloc(), &topology, case.text)?;
+        let written = rewritten(rt.alloc(), case.network, case.text)?;
         assert_eq!(rt; written.as_str(), case.written);
     }
     Ok(())
@@ -139,9 +146,8 @@ fn one_tree(alloc: Global) -> Result<String, AllocError> {
 #[test]
 fn many_flows_share_a_tree(rt: HostRuntime) -> Result<(), Fail> {
     let network = many_flows(rt.alloc())?;
-    let topology = Topology::read(rt.alloc(), network.as_bytes())?;
     let text = one_tree(rt.alloc())?;
-    let written = rewritten(rt.alloc(), &topology, text.as_str())?;
+    let written = rewritten(rt.alloc(), network.as_str(), text.as_str())?;
     assert!(rt; written.as_str() == text.as_str());
     Ok(())
 }

@@ -38,8 +38,8 @@ source = [{address = "10.0.0.5", lan = "l0"}]
 flow = [{source = "10.0.0.5", group = "239.1.2.3", ttl = 3}]
 "#;
 
-/// Each LAN of the first flow's packet with this TTL, whose copies are handled in this order, ends with
-/// so many copies.
+/// Each LAN of the first flow's packet with this TTL, whose copies are handled in this order, ends
+/// with so many copies.
 fn ends_after(
     rt: &impl Abort,
     alloc: Global,
@@ -54,8 +54,8 @@ fn ends_after(
     Ok(())
 }
 
-/// Each LAN of the first flow's packet with TTL 3, of which a waiting copy is lost before the others are
-/// handled in this order, ends with so many copies.
+/// Each LAN of the first flow's packet with TTL 3, of which a waiting copy is lost before the
+/// others are handled in this order, ends with so many copies.
 fn ends_after_loss(
     rt: &impl Abort,
     alloc: Global,

@@ -1,6 +1,7 @@
-//! Want of memory: what `assemble` hands back, and the flight that `handle` leaves. With every growth
-//! granted these tests compare the calls' answers. `rt try --test --fail-alloc N`, for N from 1 on,
-//! refuses one growth after the other: the call is then made again, of what the refusal left.
+//! Want of memory: what `assemble` hands back, and the flight that `handle` leaves. With every
+//! growth granted these tests compare the calls' answers. `rt try --test --fail-alloc N`, for N
+//! from 1 on, refuses one growth after the other: the call is then made again, of what the refusal
+//! left.
 
 use super::network::*;
 use crate::{Carried, Domain, DomainFault, Event, Flight, Outcome, Refused, Stray, Tables};

@@ -113,8 +113,8 @@ pub(super) fn handled(
     Ok(flight.handle(index)?)
 }
 
-/// The flight of the first flow's packet with this TTL, in which the first waiting copy is handled each
-/// time, and these events are shown.
+/// The flight of the first flow's packet with this TTL, in which the first waiting copy is handled
+/// each time, and these events are shown.
 pub(super) fn showing<'d>(
     rt: &impl Abort,
     alloc: Global,

@@ -52,8 +52,8 @@ pub(super) const NONE: &str = "";
 /// A report that wants all sources of 239.1.2.3.
 const WANTED: &str = "2200eaf90000000102000000ef010203\n";
 
-/// A network: its third router's interfaces, and each router's vifs and row. r1 is on l0 and l1, r2 on l1 and
-/// l2, and l2 wants the first flow.
+/// A network: its third router's interfaces, and each router's vifs and row. r1 is on l0 and l1, r2
+/// on l1 and l2, and l2 wants the first flow.
 pub(super) type Network<'a> = (&'a str, [(&'a str, &'a str); 3]);
 
 fn topology_of(alloc: Global, third: &str) -> Result<Topology, Fail> {

@@ -40,7 +40,8 @@ fn reads_a_row(rt: HostRuntime) -> Result<(), Fail> {
     Ok(())
 }
 
-/// Rows for one source, for every source, and unresolved ones, in an order and with a count of -1 that no kernel prints.
+/// Rows for one source, for every source, and unresolved ones, in an order and with a count of -1
+/// that no kernel prints.
 const MIXED: &[u8] = b"Group    Origin   Iif     Pkts    Bytes    Wrong Oifs
 030201EF 0500000A 31         0 -1 18446744073709551615 31:254 0:1    7:3  
 040201EF 0500000A 0 -1 0 0
@@ -211,11 +212,7 @@ fn refuses_caches(rt: HostRuntime) {
             3,
             TableFaultKind::RepeatedEntry,
         ),
-        (
-            b"Group\n030201EF 0500000A -1 0 0 0\n030201EF 0500000A 0 0 0 0\n030201EF 0500000A 1 0 0 0\n",
-            4,
-            TableFaultKind::RepeatedEntry,
-        ),
+        (RESOLVED_TWICE, 4, TableFaultKind::RepeatedEntry),
         (ENTRY_TWICE, 3, TableFaultKind::RepeatedEntry),
     ];
     for (text, line, kind) in faults {
@@ -223,6 +220,13 @@ fn refuses_caches(rt: HostRuntime) {
         assert_eq!(rt; read.err(), Some(TableFault { line, kind }));
     }
 }
+
+/// An unresolved row and two resolved ones of one source and group.
+const RESOLVED_TWICE: &[u8] = b"Group
+030201EF 0500000A -1 0 0 0
+030201EF 0500000A 0 0 0 0
+030201EF 0500000A 1 0 0 0
+";
 
 /// A kernel's cache after an entry was added with two incoming vifs.
 const ENTRY_TWICE: &[u8] = b"Group    Origin   Iif     Pkts    Bytes    Wrong Oifs

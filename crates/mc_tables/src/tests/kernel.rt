@@ -54,7 +54,8 @@ const TWO_VIFS: &[u8] = b"Interface      BytesIn  PktsIn  BytesOut PktsOut Flags
  1 eth1              0       0         0       0 00000 020114AC 00000000
 ";
 
-/// As a Linux kernel printed it: the cache of that router after packets to sixty groups that no row is for.
+/// As a Linux kernel printed it: the cache of that router after packets to sixty groups that no row
+/// is for.
 const MANY_UNRESOLVED: &[u8] = b"Group    Origin   Iif     Pkts    Bytes    Wrong Oifs
 C80201EF 0500000A 0          0        0        0  1:1  
 030201EF 00000000 0          0        0        0  1:1  

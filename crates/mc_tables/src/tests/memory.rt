@@ -1,6 +1,6 @@
-//! Want of memory: each reader answers it, at line 0, in place of a table. With every growth granted
-//! these tests read each text once. `rt try --test --fail-alloc N`, for N from 1 on, refuses one growth
-//! after the other: the text is then read again.
+//! Want of memory: each reader answers it, at line 0, in place of a table. With every growth
+//! granted these tests read each text once. `rt try --test --fail-alloc N`, for N from 1 on,
+//! refuses one growth after the other: the text is then read again.
 
 use crate::{CacheTable, Oif, TableFault, TableFaultKind, VifTable};
 use mc_text::{Addr, Order};
@@ -21,7 +21,8 @@ const VIFS: &[u8] = b"Interface
 8 eth8 0 0 0 0 00000 00000000 00000000
 ";
 
-/// Rows of 239.1.2.3 for 10.0.0.1 to 10.0.0.13, and rows of 239.1.0.1 to 239.1.0.13 for every source.
+/// Rows of 239.1.2.3 for 10.0.0.1 to 10.0.0.13, and rows of 239.1.0.1 to 239.1.0.13 for every
+/// source.
 const ROWS: &[u8] = b"Group
 030201EF 0100000A 0 0 0 0 5:1 4:1 3:1 2:1 1:1
 030201EF 0200000A 0 0 0 0 5:1 4:1 3:1 2:1 1:1

@@ -137,21 +137,9 @@ fn refuses_vif_tables(rt: HostRuntime) {
             2,
             TableFaultKind::BadAddress,
         ),
-        (
-            b"Interface\n0 eth0 0 0 0 0 00000 00000000 00000000\n0 eth0 0 0 0 0 00000 00000000 00000000\n",
-            3,
-            TableFaultKind::RepeatedIndex,
-        ),
-        (
-            b"Interface\n0 none 0 0 0 0 00000 00000000 00000000\n00 none 0 0 0 0 00000 00000000 00000000\n",
-            3,
-            TableFaultKind::RepeatedIndex,
-        ),
-        (
-            b"Interface\n0 eth0 0 0 0 0 00000 00000000 00000000\n1 eth0 0 0 0 0 00000 00000000 00000000\n",
-            3,
-            TableFaultKind::RepeatedDevice,
-        ),
+        (ROW_TWICE, 3, TableFaultKind::RepeatedIndex),
+        (INDEX_TWICE, 3, TableFaultKind::RepeatedIndex),
+        (NAME_TWICE, 3, TableFaultKind::RepeatedDevice),
         (DEVICE_TWICE, 4, TableFaultKind::RepeatedDevice),
     ];
     for (text, line, kind) in faults {
@@ -181,6 +169,24 @@ fn refuses_a_vif_table_that_is_too_large(rt: HostRuntime) -> Result<(), Fail> {
     );
     Ok(())
 }
+
+/// One row twice.
+const ROW_TWICE: &[u8] = b"Interface
+0 eth0 0 0 0 0 00000 00000000 00000000
+0 eth0 0 0 0 0 00000 00000000 00000000
+";
+
+/// One index in two spellings, without a device.
+const INDEX_TWICE: &[u8] = b"Interface
+0 none 0 0 0 0 00000 00000000 00000000
+00 none 0 0 0 0 00000 00000000 00000000
+";
+
+/// One device with two indexes.
+const NAME_TWICE: &[u8] = b"Interface
+0 eth0 0 0 0 0 00000 00000000 00000000
+1 eth0 0 0 0 0 00000 00000000 00000000
+";
 
 /// A kernel's table after a device was added by its name and by its index.
 const DEVICE_TWICE: &[u8] = b"Interface      BytesIn  PktsIn  BytesOut PktsOut Flags Local    Remote

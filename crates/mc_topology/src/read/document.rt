@@ -7,7 +7,9 @@ ghost use Rattle.std.specs.Str.{bytes_eq};
 ghost use Rattle.toml.specs.Data.{get_member};
 ghost use Rattle.toml.specs.View.{view, table_view};
 ghost use Rattle.mc_topology.specs.Answer.{Answers};
-ghost use Rattle.mc_topology.specs.Document.{has_only, text_of, number_of, list_of, known_table, text_at, number_at, list_at, optional_text_at, optional_list_at, rows_at};
+ghost use Rattle.mc_topology.specs.Document.{has_only, text_of, number_of, list_of, known_table};
+ghost use Rattle.mc_topology.specs.Document.{text_at, number_at, list_at, optional_text_at};
+ghost use Rattle.mc_topology.specs.Document.{optional_list_at, rows_at};
 
 use crate::fault::TopologyFaultKind;
 use toml::{Table, Value};
@@ -22,7 +24,8 @@ fn is_known(known: &[&str], key: &str) -> bool
 /// Whether each key of the table is one of these.
 fn each_key_is_known(table: &Table, known: &[&str]) -> bool
     ensures { result ≡
-        list_all (λ key. list_any (λ k. bytes_eq k.now (string_bytes key)) known.now) (keys table.now) }
+        list_all (λ key. list_any (λ k. bytes_eq k.now (string_bytes key)) known.now)
+        (keys table.now) }
 {
     table.keys().all(|key| is_known(known, key.as_str()))
 }

@@ -1,16 +1,17 @@
 //! Reading the flows.
 
-ghost use Rattle.std.specs.Prelude.{◌≡◌, ◌≢◌, ◌≤◌, map, length, [], Err, IfOk};
+ghost use Rattle.std.specs.Prelude.{◌≡◌, ◌≢◌, ◌≤◌, map, length, false, Err, IfOk};
 ghost use Rattle.toml.specs.View.{view, table_view};
 ghost use Rattle.mc_topology.specs.declared.fault.Section.TheVariants as section;
-ghost use Rattle.mc_topology.specs.Answer.{Answers, out_of_memory, each};
-ghost use Rattle.mc_topology.specs.Flows.{ttl_of, flow_of, flow_rows, flows_in};
+ghost use Rattle.mc_topology.specs.Answer.{Answers, out_of_memory};
+ghost use Rattle.mc_topology.specs.Flows.{has_flow, ttl_of, flow_of, flow_rows, flows_in};
 
 use crate::fault::{Section, TopologyFault, TopologyFaultKind, place};
 use crate::flow::{Flow, MAX_FLOWS};
 use crate::flows::Flows;
 use crate::read::address::{group_address_of, source_address_of};
 use crate::read::document::{known_table, number_at, optional_list_at, text_at};
+use crate::read::rows::{Rows, each};
 use crate::sources::Sources;
 use std::alloc::Global;
 use toml::{Table, Value};
@@ -28,7 +29,8 @@ fn ttl_of(number: i64) -> Result<u8, TopologyFaultKind>
 /// Reads one flow, whose source and group none of the earlier ones has.
 #[tactic(auto, unfolding(crate::specs::Flows::flow_of))]
 fn flow_of(sources: &Sources, earlier: &Flows, value: &Value) -> Result<Flow, TopologyFaultKind>
-    ensures { result ≡ flow_of sources.now earlier.now (view value.now) }
+    ensures flow { result ≡ flow_of sources.now earlier.now (view value.now) }
+    ensures new { IfOk result (λ f. has_flow f.source f.group earlier.now ≡ false) }
 {
     let table = known_table(value, &["source", "group", "ttl"])?;
     let source_text = text_at(table, "source")?;
@@ -67,19 +69,27 @@ fn flow_rows(table: &Table) -> Result<&[Value], TopologyFaultKind>
     Ok(rows)
 }
 
-/// The flows of a list, one after the other.
-fn each_flow(alloc: Global, sources: &Sources, rows: &[Value]) -> Result<Flows, TopologyFault>
-    requires { length rows.now ≤ MAX_FLOWS }
-    ensures { result ≢ Err out_of_memory →
-        result ≡ each section.Flow (flow_of sources.now) [] (map view rows.now) }
-{
-    let mut flows = Flows::new(alloc);
-    for row in rows {
-        let number = flows.len() as u32 + 1;
-        let flow = place(Section::Flow, number, flow_of(sources, &flows, row))?;
-        flows.push(flow)?;
+impl Rows<Sources> for Flows {
+    ghost use Rattle.mc_topology.specs.declared.flow.Flow.{Flow};
+
+    ghost Row = { Flow };
+
+    ghost rows = { λ flows. flows };
+
+    ghost section = { section.Flow };
+
+    ghost one = { flow_of };
+
+    fn read_row(
+        &mut self,
+        _alloc: Global,
+        sources: &Sources,
+        number: u32,
+        row: &Value,
+    ) -> Result<(), TopologyFault> {
+        let flow = place(Section::Flow, number, flow_of(sources, self, row))?;
+        self.push(flow)
     }
-    Ok(flows)
 }
 
 /// The flows, in order.
@@ -93,5 +103,5 @@ pub(crate) fn flows_in(
         result ≡ flows_in sources.now (table_view table.now) }
 {
     let rows = place(Section::Flow, 0, flow_rows(table))?;
-    each_flow(alloc, sources, rows)
+    each(alloc, sources, Flows::new(alloc), rows)
 }

@@ -1,10 +1,10 @@
 //! Reading the interfaces.
 
-ghost use Rattle.std.specs.Prelude.{◌≡◌, ◌≢◌, ◌≤◌, map, length, [], Err, IfOk};
+ghost use Rattle.std.specs.Prelude.{◌≡◌, ◌≢◌, ◌≤◌, length, false, Err, IfOk};
 ghost use Rattle.toml.specs.View.{view, table_view};
 ghost use Rattle.mc_topology.specs.declared.fault.Section.TheVariants as section;
-ghost use Rattle.mc_topology.specs.Answer.{Answers, out_of_memory, each};
-ghost use Rattle.mc_topology.specs.Interfaces.{interface_of, interfaces_in};
+ghost use Rattle.mc_topology.specs.Answer.{Answers, out_of_memory};
+ghost use Rattle.mc_topology.specs.Interfaces.{has_interface, interface_of, interfaces_in};
 ghost use Rattle.mc_topology.specs.Kept.{interface_row};
 
 use crate::fault::{Section, TopologyFault, TopologyFaultKind, place};
@@ -13,6 +13,7 @@ use crate::lans::{Lans, MAX_LANS};
 use crate::name::is_device;
 use crate::number::LanNo;
 use crate::read::document::{known_table, rows_at, text_at};
+use crate::read::rows::{Rows, each};
 use crate::routers::{MAX_ROUTERS, Routers};
 use std::alloc::Global;
 use toml::{Table, Value};
@@ -29,6 +30,7 @@ fn interface_of(
     requires few_routers { length routers.now ≤ MAX_ROUTERS }
     ensures interface { Answers interface_row result
         (interface_of lans.now routers.now earlier.now (view value.now)) }
+    ensures new { IfOk result (λ i. has_interface i.0.router i.0.device.items earlier.now ≡ false) }
     ensures short { IfOk result (λ i. length i.0.device.items ≤ 15) }
 {
     let table = known_table(value, &["router", "device", "lan"])?;
@@ -51,27 +53,34 @@ fn interface_of(
     Ok((key, lan))
 }
 
-/// The interfaces of a list, one after the other.
-fn each_interface(
-    alloc: Global,
-    lans: &Lans,
-    routers: &Routers,
-    rows: &[Value],
-) -> Result<Interfaces, TopologyFault>
-    requires few_lans { length lans.now ≤ MAX_LANS }
-    requires few_routers { length routers.now ≤ MAX_ROUTERS }
-    requires few { length rows.now ≤ MAX_INTERFACES }
-    ensures { result ≢ Err out_of_memory → result ≡
-        each section.Interface (interface_of lans.now routers.now) [] (map view rows.now) }
-{
-    let mut interfaces = Interfaces::new(alloc);
-    for row in rows {
-        let number = interfaces.len() as u32 + 1;
-        let read = interface_of(lans, routers, &interfaces, row);
+impl<'a> Rows<(&'a Lans, &'a Routers)> for Interfaces {
+    ghost use Rattle.mc_topology.specs.declared.lans.TheConstants.{MAX_LANS};
+    ghost use Rattle.mc_topology.specs.declared.routers.TheConstants.{MAX_ROUTERS};
+    ghost use Rattle.mc_topology.specs.Rows.{InterfaceRow};
+
+    ghost Row = { InterfaceRow };
+
+    ghost rows = { λ interfaces. interfaces };
+
+    ghost section = { section.Interface };
+
+    ghost few = { λ before.
+        (length before.0.now ≤ MAX_LANS) × (length before.1.now ≤ MAX_ROUTERS) };
+
+    ghost one = { λ before. interface_of before.0.now before.1.now };
+
+    fn read_row(
+        &mut self,
+        _alloc: Global,
+        before: &(&'a Lans, &'a Routers),
+        number: u32,
+        row: &Value,
+    ) -> Result<(), TopologyFault> {
+        let (lans, routers) = *before;
+        let read = interface_of(lans, routers, self, row);
         let (key, lan) = place(Section::Interface, number, read)?;
-        interfaces.push(key, lan)?;
+        self.push(key, lan)
     }
-    Ok(interfaces)
 }
 
 /// The interfaces, in order.
@@ -92,5 +101,5 @@ pub(crate) fn interfaces_in(
         0,
         rows_at(table, "interface", MAX_INTERFACES),
     )?;
-    each_interface(alloc, lans, routers, rows)
+    each(alloc, &(lans, routers), Interfaces::new(alloc), rows)
 }

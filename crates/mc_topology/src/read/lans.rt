@@ -1,22 +1,24 @@
 //! Reading the list of LANs.
 
-ghost use Rattle.std.specs.Prelude.{◌≡◌, ◌≢◌, ◌≤◌, map, length, [], Err, IfOk};
+ghost use Rattle.std.specs.Prelude.{◌≡◌, ◌≢◌, ◌≤◌, map, length, false, Err, IfOk};
 ghost use Rattle.toml.specs.View.{view, table_view};
 ghost use Rattle.mc_topology.specs.declared.fault.Section.TheVariants as section;
-ghost use Rattle.mc_topology.specs.Answer.{Answers, out_of_memory, each};
-ghost use Rattle.mc_topology.specs.Lans.{lan_of, lan_rows, lans_in};
+ghost use Rattle.mc_topology.specs.Answer.{Answers, out_of_memory};
+ghost use Rattle.mc_topology.specs.Lans.{has_lan, lan_of, lan_rows, lans_in};
 
 use crate::fault::{Section, TopologyFault, TopologyFaultKind, place};
 use crate::lans::{Lans, MAX_LANS};
 use crate::name::is_name;
 use crate::read::document::{list_at, text_of};
+use crate::read::rows::{Rows, each};
 use std::alloc::Global;
 use toml::{Table, Value};
 
 /// Reads the name of one LAN, which none of the earlier ones has.
 #[tactic(auto, unfolding(crate::specs::Lans::lan_of))]
 fn lan_of<'a>(earlier: &Lans, value: &'a Value) -> Result<&'a str, TopologyFaultKind>
-    ensures { Answers (λ name. name.now) result (lan_of earlier.now (view value.now)) }
+    ensures name { Answers (λ name. name.now) result (lan_of earlier.now (view value.now)) }
+    ensures new { IfOk result (λ name. has_lan name.now earlier.now ≡ false) }
 {
     let name = text_of(value)?;
     if !is_name(name) {
@@ -41,20 +43,27 @@ fn lan_rows(table: &Table) -> Result<&[Value], TopologyFaultKind>
     Ok(rows)
 }
 
-/// The LANs of a list, one after the other.
-fn each_lan(alloc: Global, rows: &[Value]) -> Result<Lans, TopologyFault>
-    requires { length rows.now ≤ MAX_LANS }
-    ensures lans { result ≢ Err out_of_memory →
-        result ≡ each section.Lans lan_of [] (map view rows.now) }
-    ensures few { IfOk result (λ lans. length lans ≤ MAX_LANS) }
-{
-    let mut lans = Lans::new(alloc);
-    for row in rows {
-        let number = lans.len() as u32 + 1;
-        let name = place(Section::Lans, number, lan_of(&lans, row))?;
-        lans.push(alloc, name)?;
+impl Rows<()> for Lans {
+    ghost use Rattle.std.specs.Prelude.{List, ℕ};
+
+    ghost Row = { List ℕ };
+
+    ghost rows = { λ lans. lans };
+
+    ghost section = { section.Lans };
+
+    ghost one = { λ _. lan_of };
+
+    fn read_row(
+        &mut self,
+        alloc: Global,
+        _before: &(),
+        number: u32,
+        row: &Value,
+    ) -> Result<(), TopologyFault> {
+        let name = place(Section::Lans, number, lan_of(self, row))?;
+        self.push(alloc, name)
     }
-    Ok(lans)
 }
 
 /// The LANs, in order.
@@ -64,5 +73,5 @@ pub(crate) fn lans_in(alloc: Global, table: &Table) -> Result<Lans, TopologyFaul
     ensures few { IfOk result (λ lans. length lans ≤ MAX_LANS) }
 {
     let rows = place(Section::Lans, 0, lan_rows(table))?;
-    each_lan(alloc, rows)
+    each(alloc, &(), Lans::new(alloc), rows)
 }

@@ -1,14 +1,15 @@
 //! Reading the routers.
 
-ghost use Rattle.std.specs.Prelude.{◌≡◌, ◌≢◌, ◌≤◌, map, length, [], Err, IfOk, option_map};
+ghost use Rattle.std.specs.Prelude.{◌≡◌, ◌≢◌, ◌≤◌, length, false, Err, IfOk, option_map};
 ghost use Rattle.toml.specs.View.{view, table_view};
 ghost use Rattle.mc_topology.specs.declared.fault.Section.TheVariants as section;
-ghost use Rattle.mc_topology.specs.Answer.{Answers, out_of_memory, each};
-ghost use Rattle.mc_topology.specs.Routers.{order_of, router_of, routers_in};
+ghost use Rattle.mc_topology.specs.Answer.{out_of_memory};
+ghost use Rattle.mc_topology.specs.Routers.{has_router, order_of, router_of, routers_in};
 
 use crate::fault::{Section, TopologyFault, TopologyFaultKind, place};
 use crate::name::is_name;
 use crate::read::document::{known_table, optional_text_at, rows_at, text_at};
+use crate::read::rows::{Rows, each};
 use crate::routers::{MAX_ROUTERS, Routers};
 use mc_text::Order;
 use std::alloc::Global;
@@ -45,7 +46,8 @@ fn order_of(text: Option<&str>) -> Result<Order, TopologyFaultKind>
 /// Reads one router, whose name none of the earlier ones has.
 #[tactic(auto, unfolding(crate::specs::Routers::router_of))]
 fn router_of<'a>(earlier: &Routers, value: &'a Value) -> Result<RouterText<'a>, TopologyFaultKind>
-    ensures { result ≡ router_of earlier.now (view value.now) }
+    ensures router { result ≡ router_of earlier.now (view value.now) }
+    ensures new { IfOk result (λ r. has_router r.name earlier.now ≡ false) }
 {
     let table = known_table(value, &["name", "order"])?;
     let name = text_at(table, "name")?;
@@ -60,20 +62,27 @@ fn router_of<'a>(earlier: &Routers, value: &'a Value) -> Result<RouterText<'a>, 
     Ok(RouterText { name, order })
 }
 
-/// The routers of a list, one after the other.
-fn each_router(alloc: Global, rows: &[Value]) -> Result<Routers, TopologyFault>
-    requires { length rows.now ≤ MAX_ROUTERS }
-    ensures routers { result ≢ Err out_of_memory →
-        result ≡ each section.Router router_of [] (map view rows.now) }
-    ensures few { IfOk result (λ routers. length routers ≤ MAX_ROUTERS) }
-{
-    let mut routers = Routers::new(alloc);
-    for row in rows {
-        let number = routers.len() as u32 + 1;
-        let router = place(Section::Router, number, router_of(&routers, row))?;
-        routers.push(alloc, router.name, router.order)?;
+impl Rows<()> for Routers {
+    ghost use Rattle.mc_topology.specs.Rows.{RouterRow};
+
+    ghost Row = { RouterRow };
+
+    ghost rows = { λ routers. routers };
+
+    ghost section = { section.Router };
+
+    ghost one = { λ _. router_of };
+
+    fn read_row(
+        &mut self,
+        alloc: Global,
+        _before: &(),
+        number: u32,
+        row: &Value,
+    ) -> Result<(), TopologyFault> {
+        let router = place(Section::Router, number, router_of(self, row))?;
+        self.push(alloc, router.name, router.order)
     }
-    Ok(routers)
 }
 
 /// The routers, in order.
@@ -83,5 +92,5 @@ pub(crate) fn routers_in(alloc: Global, table: &Table) -> Result<Routers, Topolo
     ensures few { IfOk result (λ routers. length routers ≤ MAX_ROUTERS) }
 {
     let rows = place(Section::Router, 0, rows_at(table, "router", MAX_ROUTERS))?;
-    each_router(alloc, rows)
+    each(alloc, &(), Routers::new(alloc), rows)
 }

@@ -1,17 +1,18 @@
 //! Reading the sources.
 
-ghost use Rattle.std.specs.Prelude.{◌≡◌, ◌≢◌, ◌≤◌, map, length, [], Err};
+ghost use Rattle.std.specs.Prelude.{◌≡◌, ◌≢◌, ◌≤◌, length, false, Err, IfOk};
 ghost use Rattle.toml.specs.View.{view, table_view};
 ghost use Rattle.mc_topology.specs.declared.fault.Section.TheVariants as section;
-ghost use Rattle.mc_topology.specs.Answer.{Answers, out_of_memory, each};
+ghost use Rattle.mc_topology.specs.Answer.{Answers, out_of_memory};
 ghost use Rattle.mc_topology.specs.Rows.{source_row};
-ghost use Rattle.mc_topology.specs.Sources.{source_of, sources_in};
+ghost use Rattle.mc_topology.specs.Sources.{has_source, source_of, sources_in};
 
 use crate::fault::{Section, TopologyFault, TopologyFaultKind, place};
 use crate::lans::{Lans, MAX_LANS};
 use crate::number::LanNo;
 use crate::read::address::source_address_of;
 use crate::read::document::{known_table, rows_at, text_at};
+use crate::read::rows::{Rows, each};
 use crate::sources::{MAX_SOURCES, Sources};
 use mc_text::Addr;
 use std::alloc::Global;
@@ -25,7 +26,8 @@ fn source_of(
     value: &Value,
 ) -> Result<(Addr, LanNo), TopologyFaultKind>
     requires { length lans.now ≤ MAX_LANS }
-    ensures { Answers source_row result (source_of lans.now earlier.now (view value.now)) }
+    ensures source { Answers source_row result (source_of lans.now earlier.now (view value.now)) }
+    ensures new { IfOk result (λ s. has_source s.0 earlier.now ≡ false) }
 {
     let table = known_table(value, &["address", "lan"])?;
     let text = text_at(table, "address")?;
@@ -40,20 +42,30 @@ fn source_of(
     Ok((address, lan))
 }
 
-/// The sources of a list, one after the other.
-fn each_source(alloc: Global, lans: &Lans, rows: &[Value]) -> Result<Sources, TopologyFault>
-    requires few_lans { length lans.now ≤ MAX_LANS }
-    requires few { length rows.now ≤ MAX_SOURCES }
-    ensures { result ≢ Err out_of_memory →
-        result ≡ each section.Source (source_of lans.now) [] (map view rows.now) }
-{
-    let mut sources = Sources::new(alloc);
-    for row in rows {
-        let number = sources.len() as u32 + 1;
-        let (address, lan) = place(Section::Source, number, source_of(lans, &sources, row))?;
-        sources.push(address, lan)?;
+impl Rows<Lans> for Sources {
+    ghost use Rattle.mc_topology.specs.declared.lans.TheConstants.{MAX_LANS};
+    ghost use Rattle.mc_topology.specs.Rows.{SourceRow};
+
+    ghost Row = { SourceRow };
+
+    ghost rows = { λ sources. sources };
+
+    ghost section = { section.Source };
+
+    ghost few = { λ lans. length lans ≤ MAX_LANS };
+
+    ghost one = { source_of };
+
+    fn read_row(
+        &mut self,
+        _alloc: Global,
+        lans: &Lans,
+        number: u32,
+        row: &Value,
+    ) -> Result<(), TopologyFault> {
+        let (address, lan) = place(Section::Source, number, source_of(lans, self, row))?;
+        self.push(address, lan)
     }
-    Ok(sources)
 }
 
 /// The sources, in order.
@@ -67,5 +79,5 @@ pub(crate) fn sources_in(
     ensures { result ≢ Err out_of_memory → result ≡ sources_in lans.now (table_view table.now) }
 {
     let rows = place(Section::Source, 0, rows_at(table, "source", MAX_SOURCES))?;
-    each_source(alloc, lans, rows)
+    each(alloc, lans, Sources::new(alloc), rows)
 }

@@ -1,5 +1,5 @@
-//! Each fault with its place, and which comes first where two rules are broken: a file for each section,
-//! in the order in which its rules are judged.
+//! Each fault with its place, and which comes first where two rules are broken: a file for each
+//! section, in the order in which its rules are judged.
 
 mod flow;
 mod interface;

@@ -1,6 +1,6 @@
-//! Want of memory: the reader answers it, at `top` 0, in place of a topology. With every growth granted
-//! this test reads the text once. `rt try --test --fail-alloc N`, for N from 1 on, refuses one growth
-//! after the other: the text is then read again.
+//! Want of memory: the reader answers it, at `top` 0, in place of a topology. With every growth
+//! granted this test reads the text once. `rt try --test --fail-alloc N`, for N from 1 on, refuses
+//! one growth after the other: the text is then read again.
 
 use crate::*;
 use std::alloc::Global;

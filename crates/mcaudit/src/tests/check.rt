@@ -3,7 +3,8 @@
 use super::*;
 use crate::check::run_check;
 
-/// Two routers from l0 over l1 to l2, where a host wants the one flow, with the certificate of its tree.
+/// Two routers from l0 over l1 to l2, where a host wants the one flow, with the certificate of its
+/// tree.
 const CHAIN: &str = "mcaudit bundle 1\n\
 part topology 385\n\
 version = 1\n\

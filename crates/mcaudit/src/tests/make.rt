@@ -1,4 +1,5 @@
-//! One LAN alone and a domain with two ways to its last LAN through `run_make`, and devices that fail.
+//! One LAN alone and a domain with two ways to its last LAN through `run_make`, and devices that
+//! fail.
 
 use super::replay::TWO_WAYS;
 use super::*;

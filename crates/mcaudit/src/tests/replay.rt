@@ -1,5 +1,5 @@
-//! A domain with a second router on its last LAN through `run_replay`, a flow that isn't listed, and an output
-//! that fails.
+//! A domain with a second router on its last LAN through `run_replay`, a flow that isn't listed,
+//! and an output that fails.
 
 use super::*;
 use crate::replay::run_replay;

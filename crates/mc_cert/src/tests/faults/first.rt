@@ -212,7 +212,8 @@ pub(super) const CASES: &[Case] = &[
         ],
         answer: "flow 1: WrongFlows",
     },
-    // No entry is no fault, nor are other orders of keys, spaces and escapes; of equal keys the last counts.
+    // No entry is no fault, nor are other orders of keys, spaces and escapes; of equal keys the
+    // last counts.
     Case {
         place: FLOW,
         instead: &[

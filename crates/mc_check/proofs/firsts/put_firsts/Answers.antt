@@ -1,4 +1,4 @@
-use Rattle.std.proofs.Common.{◌≡◌, ◌<◌, length, get_or, sym, subst, arith}
+use Rattle.std.proofs.Common.{◌<◌, length, sym, subst, arith}
 use Rattle.mc_theory.specs.Certificates.{Entry}
 use Rattle.mc_check.proofs.FirstLemmas.{taken-next}
 use Rattle.mc_check.proofs.firsts.put_firsts.Goals as goal

@@ -1,6 +1,3 @@
-use Rattle.std.proofs.Common.{◌≡◌, take, drop, length, []}
-use Rattle.mc_theory.specs.Reasons.{twice}
-use Rattle.mc_check.specs.Firsts.{AreFirsts}
 use Rattle.mc_check.proofs.FirstLemmas.{Taken}
 use Rattle.mc_check.proofs.firsts.put_firsts.Given as goal
 

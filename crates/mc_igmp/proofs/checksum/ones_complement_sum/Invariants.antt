@@ -1,10 +1,14 @@
-use Rattle.std.proofs.Common.{length}
+use Rattle.std.proofs.Common.{◌≡◌, ◌+◌, ◌%◌, ◌≤◌, length}
+use Rattle.std.specs.Prelude.{◌↔◌}
 use Rattle.mc_igmp.specs.Checksum.{word_sum}
-use Rattle.mc_igmp.proofs.ChecksumLemmas.{Summed}
 use Rattle.mc_igmp.proofs.checksum.ones_complement_sum.Given as goal
 
 abbrev pub invariant-loop-rest : goal.invariant-loop-rest
-invariant-loop-rest l = Summed l.sum l.rest (word_sum l.message)
+invariant-loop-rest l = record {
+  bound : l.sum ≤ 65535;
+  congruent : (l.sum + word_sum l.rest) % 65535 ≡ word_sum l.message % 65535;
+  zero : (l.sum + word_sum l.rest ≡ 0) ↔ (word_sum l.message ≡ 0);
+}
 
 abbrev pub decreases-loop-rest : goal.decreases-loop-rest
 decreases-loop-rest l = length l.rest

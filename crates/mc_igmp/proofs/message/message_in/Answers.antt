@@ -1,4 +1,4 @@
-use Rattle.std.proofs.Common.{sym, arith}
+use Rattle.std.proofs.Common.{get_or, sym, arith}
 use Rattle.mc_igmp.proofs.MessageLemmas.{new_report, older_again, other_again}
 use Rattle.mc_igmp.proofs.message.message_in.Goals as goal
 
@@ -10,7 +10,7 @@ returns-in-34 c =
 
 pub returns-in-18 : goal.returns-in-18
 returns-in-18 c = rw (c.of_older_report.ensures, c.group_of.ensures)
-    (sym (older_again c.args.bytes.now _ c.in-18.is))
+    (sym (older_again c.args.bytes.now (get_or c.args.bytes.now 0 0) assumption))
 
 pub returns-in_default : goal.returns-in_default
 returns-in_default c = sym (other_again c.args.bytes.now _ (λ is. grind (arith, is)))

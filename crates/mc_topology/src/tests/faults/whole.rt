@@ -1,5 +1,5 @@
-//! Whole texts: short ones, ones under headers, ones that break a rule of each section, and bytes that
-//! are no text.
+//! Whole texts: short ones, ones under headers, ones that break a rule of each section, and bytes
+//! that are no text.
 
 /// A text and its answer.
 type Text = (&'static str, &'static str);
@@ -53,8 +53,8 @@ flow = [{source = "10.0.0.5", group = "239.1.2.3", ttl = 3}]
 "#,
         "read",
     ),
-    // The last rule of a section comes before the first one of each later section, in whatever order
-    // the sections stand in the text.
+    // The last rule of a section comes before the first one of each later section, in whatever
+    // order the sections stand in the text.
     (
         r#"version = 2
 lans = 1

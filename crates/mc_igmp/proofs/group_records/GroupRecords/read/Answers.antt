@@ -1,4 +1,4 @@
-use Rattle.std.proofs.Common.{arith}
+use Rattle.std.proofs.Common.{arith, refl}
 use Rattle.mc_igmp.proofs.RecordsLemmas.{records_cut, records-length}
 use Rattle.mc_igmp.proofs.group_records.GroupRecords.read.Goals as goal
 
@@ -8,12 +8,11 @@ slice_bounds-own-count c =
 
 pub invariant_of-result : goal.invariant_of-result
 invariant_of-result c =
-    let cut = records_cut c.args.count c.args.bytes.now c.in_ok-ignored.ignored.now
-    (λ i. omega (arith, c.type_inv.bytes i)) c.in_ok-ignored.ensures in
-    rw c.from.ensures cut.whole
+    rw c.from.ensures (records_cut c.args.count c.args.bytes.now c.in_ok-ignored.ignored.now _
+    (λ i. omega (arith, c.type_inv.bytes i)) c.in_ok-ignored.ensures refl).0
 
 pub returns : goal.returns
 returns c =
-    let cut = records_cut c.args.count c.args.bytes.now c.in_ok-ignored.ignored.now
-    (λ i. omega (arith, c.type_inv.bytes i)) c.in_ok-ignored.ensures in
-    (c.in_ok-ignored.ignored.now, c.in_ok-ignored.ensures, rw c.from.ensures cut.records)
+    let records = (records_cut c.args.count c.args.bytes.now c.in_ok-ignored.ignored.now _
+    (λ i. omega (arith, c.type_inv.bytes i)) c.in_ok-ignored.ensures refl).1 in
+    (c.in_ok-ignored.ignored.now, c.in_ok-ignored.ensures, rw c.from.ensures records)

@@ -1,6 +1,6 @@
 use Rattle.std.proofs.Common.{◌-◌, length, sym, ap, ◌∙◌, arith}
 use Rattle.mc_igmp.specs.Records.{records_in}
-use Rattle.mc_igmp.proofs.RecordsLemmas.{records_in-cut, records_in-first, IsWhole-rest}
+use Rattle.mc_igmp.proofs.RecordsLemmas.{records_in-first, IsWhole-rest}
 use Rattle.mc_igmp.proofs.group_records.GroupRecordsIterator.next.Goals as goal
 
 pub returns-then-self-eq0-clause-steps : goal.returns-then-self-eq0-clause-steps
@@ -12,8 +12,9 @@ returns-then-self-eq0-clause-steps c =
 
 pub returns-in_err-record-clause-steps : goal.returns-in_err-record-clause-steps
 returns-in_err-record-clause-steps c =
-    let none = sym c.self.view_is ∙ records_in-cut c.self.inside.left c.self.inside.bytes.now
-    (sym c.in_err-record.ensures) in
+    let first = records_in-first c.self.inside.left (c.self.inside.left - 1)
+    c.self.inside.bytes.now (omega arith) in
+    let none = sym c.self.view_is ∙ (rw (← c.in_err-record.ensures) at first) in
     rw c.from_residual.ensures (none, none)
 
 pub invariant_of-self : goal.invariant_of-self
@@ -22,9 +23,10 @@ invariant_of-self c =
     (omega arith) (sym c.in_ok-record.ensures) c.self.invariant
 
 pub returns-clause-steps : goal.returns-clause-steps
-returns-clause-steps c = sym c.self.view_is
-    ∙ records_in-first c.self.inside.left (c.self.inside.left - 1) c.self.inside.bytes.now _ _
-    (omega arith) (sym c.in_ok-record.ensures)
+returns-clause-steps c =
+    let first = records_in-first c.self.inside.left (c.self.inside.left - 1)
+    c.self.inside.bytes.now (omega arith) in
+    sym c.self.view_is ∙ (rw (← c.in_ok-record.ensures) at first)
 
 pub returns-clause-goes : goal.returns-clause-goes
 returns-clause-goes c =

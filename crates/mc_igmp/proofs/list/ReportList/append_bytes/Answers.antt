@@ -1,6 +1,6 @@
 use Rattle.std.proofs.Common.{[], length, ap, arith}
 use Rattle.std.proofs.lemmas.List.{length-append}
-use Rattle.mc_igmp.proofs.RecordsLemmas.{IsWhole-append, records_in-append, records-length}
+use Rattle.mc_igmp.proofs.RecordsLemmas.{records_both, records-length}
 use Rattle.mc_igmp.proofs.list.ReportList.append_bytes.Goals as goal
 
 pub overflow_add-self : goal.overflow_add-self
@@ -13,9 +13,9 @@ overflow_add-self c =
     omega (arith, kept, added, ok, small, ap length c.in_ok-extend_from_slice.ensures.items, all)
 
 pub invariant_of-self-2 : goal.invariant_of-self-2
-invariant_of-self-2 c = rw c.in_ok-extend_from_slice.ensures.items (IsWhole-append
-    c.self.inside.count c.args.count c.self.inside.bytes.items _ c.self.invariant c.requires)
+invariant_of-self-2 c = rw c.in_ok-extend_from_slice.ensures.items (records_both 1
+    c.self.inside.count _ c.self.inside.bytes.items _ [] [] c.self.invariant c.requires).0
 
 pub returns : goal.returns
-returns c = rw (c.in_ok-extend_from_slice.ensures.items, ← c.self.view_is) (records_in-append
-    c.self.inside.count c.args.count c.self.inside.bytes.items _ c.self.invariant)
+returns c = rw (c.in_ok-extend_from_slice.ensures.items, ← c.self.view_is) (records_both 1
+    c.self.inside.count _ c.self.inside.bytes.items _ [] [] c.self.invariant c.requires).1

@@ -1,4 +1,4 @@
-use Rattle.std.proofs.Common.{[], Ok, refl, inl, sym}
+use Rattle.std.proofs.Common.{[], Err, ap, refl}
 use Rattle.std.proofs.lemmas.Result.{err_from_is_err_and}
 use Rattle.mc_text.proofs.StepLemmas.{with_front-none}
 use Rattle.mc_text.specs.LineView.{line_text}
@@ -7,12 +7,11 @@ use Rattle.mc_igmp.specs.ReadingList.{read_lines}
 use Rattle.mc_igmp.specs.Records.{records_in}
 use Rattle.mc_igmp.proofs.RecordsLemmas.{after_records-none}
 use Rattle.mc_igmp.proofs.ListLemmas.{lines_go_on, read_list-large, list_read, list_refused}
-use Rattle.mc_igmp.proofs.ListLemmas.{read_list-found, answer_only}
 use Rattle.mc_igmp.proofs.list.ReportList.read.Goals as goal
 
-pub returns-then-text-gt-MAX_TEXT-clause-fault : goal.returns-then-text-gt-MAX_TEXT-clause-fault
-returns-then-text-gt-MAX_TEXT-clause-fault c =
-    rw c.at.ensures (inl (read_list-large c.args.text.now c.if-text-gt-MAX_TEXT.true))
+pub returns-then-text-gt-MAX_TEXT : goal.returns-then-text-gt-MAX_TEXT
+returns-then-text-gt-MAX_TEXT c =
+    read_list-large c.args.text.now _ c.if-text-gt-MAX_TEXT.true (ap Err c.at.ensures)
 
 pub invariant_of-list : goal.invariant_of-list
 invariant_of-list c = rw c.new.ensures.items (after_records-none 0 1 [] refl)
@@ -30,26 +29,13 @@ loop-line-preserved c =
     c.loop-line.line-iterator c.next.new.self _ c.in-Some.ensures.steps read.1 read.2
     c.loop-line.invariant
 
-pub returns-in_err-push_line-clause-fault : goal.returns-in_err-push_line-clause-fault
-returns-in_err-push_line-clause-fault c =
+pub returns-in_err-push_line : goal.returns-in_err-push_line
+returns-in_err-push_line c =
     let p = err_from_is_err_and c.from_residual.result c.from_residual.ensures.1 in
     rw (p.1, p.2) (list_refused c.args.text.now c.loop-line.list (line_text c.in-Some.line)
     c.loop-line.line-iterator c.next.new.self _ c.if-text-gt-MAX_TEXT.false
     c.in-Some.ensures.steps c.in_err-push_line.ensures.err c.loop-line.invariant)
 
-pub returns-in_err-push_line-clause-only : goal.returns-in_err-push_line-clause-only
-returns-in_err-push_line-clause-only c = λ records. answer_only c.args.text.now records _
-    (returns-in_err-push_line-clause-fault c)
-
-pub returns-clause-fault : goal.returns-clause-fault
-returns-clause-fault c = inl (list_read c.args.text.now c.loop-line.list c.loop-line.line-iterator
-    c.if-text-gt-MAX_TEXT.false c.in-None.ensures.steps.0 c.loop-line.invariant)
-
-pub returns-clause-found : goal.returns-clause-found
-returns-clause-found c = read_list-found c.args.text.now c.loop-line.list
-    (sym (list_read c.args.text.now c.loop-line.list c.loop-line.line-iterator
-    c.if-text-gt-MAX_TEXT.false c.in-None.ensures.steps.0 c.loop-line.invariant))
-
-pub returns-clause-only : goal.returns-clause-only
-returns-clause-only c = λ records. answer_only c.args.text.now records (Ok c.loop-line.list)
-    (returns-clause-fault c)
+pub returns : goal.returns
+returns c = list_read c.args.text.now c.loop-line.list c.loop-line.line-iterator
+    c.if-text-gt-MAX_TEXT.false c.in-None.ensures.steps.0 c.loop-line.invariant

@@ -1,0 +1,68 @@
+//! The hexadecimal digits of an address word.
+
+ghost use Rattle.std.specs.Prelude.{◌≡◌, ◌&&◌, ℕ, List, length, slice_index, false};
+ghost use Rattle.std.specs.Prelude.{IfSome, IfNone, Some, Ok};
+ghost use Rattle.hex.specs.Hex.{is_hex_digit, pair_value, decode_of};
+ghost use Rattle.mc_text.specs.AddressDigits.{value_or_16};
+
+/// The value of each byte that is a hexadecimal digit of either case, and 16 of each other one.
+const VALUES: &[u8; 256] = &[
+    16, 16, 16, 16, 16, 16, 16, 16, 16, 16, 16, 16, 16, 16, 16, 16, 16, 16, 16, 16, 16, 16, 16, 16,
+    16, 16, 16, 16, 16, 16, 16, 16, 16, 16, 16, 16, 16, 16, 16, 16, 16, 16, 16, 16, 16, 16, 16, 16,
+    0, 1, 2, 3, 4, 5, 6, 7, 8, 9, 16, 16, 16, 16, 16, 16, 16, 10, 11, 12, 13, 14, 15, 16, 16, 16,
+    16, 16, 16, 16, 16, 16, 16, 16, 16, 16, 16, 16, 16, 16, 16, 16, 16, 16, 16, 16, 16, 16, 16, 10,
+    11, 12, 13, 14, 15, 16, 16, 16, 16, 16, 16, 16, 16, 16, 16, 16, 16, 16, 16, 16, 16, 16, 16, 16,
+    16, 16, 16, 16, 16, 16, 16, 16, 16, 16, 16, 16, 16, 16, 16, 16, 16, 16, 16, 16, 16, 16, 16, 16,
+    16, 16, 16, 16, 16, 16, 16, 16, 16, 16, 16, 16, 16, 16, 16, 16, 16, 16, 16, 16, 16, 16, 16, 16,
+    16, 16, 16, 16, 16, 16, 16, 16, 16, 16, 16, 16, 16, 16, 16, 16, 16, 16, 16, 16, 16, 16, 16, 16,
+    16, 16, 16, 16, 16, 16, 16, 16, 16, 16, 16, 16, 16, 16, 16, 16, 16, 16, 16, 16, 16, 16, 16, 16,
+    16, 16, 16, 16, 16, 16, 16, 16, 16, 16, 16, 16, 16, 16, 16, 16, 16, 16, 16, 16, 16, 16, 16, 16,
+    16, 16, 16, 16, 16, 16, 16, 16, 16, 16, 16, 16, 16, 16,
+];
+
+/// What the list has for a byte.
+fn value_of(byte: u8, values: &[u8; 256]) -> u8
+    ensures { result ≡ slice_index values.now byte }
+{
+    values[byte as usize]
+}
+
+/// The value of a hexadecimal digit, or 16.
+#[tactic(auto, using(crate::proofs::AddressDigitLemmas::listed))]
+fn digit(byte: u8) -> u8
+    ensures { result ≡ value_or_16 byte }
+{
+    value_of(byte, VALUES)
+}
+
+/// The octet that two digits write.
+fn octet(high: u8, low: u8) -> Option<u8>
+    ensures found { IfSome result (λ octet. (i : ℕ) → pair_value high low i ≡ Ok octet) }
+    ensures only { IfNone result ((is_hex_digit high && is_hex_digit low) ≡ false) }
+{
+    let high = digit(high);
+    let low = digit(low);
+    if high < 16 && low < 16 {
+        Some(high * 16 + low)
+    } else {
+        None
+    }
+}
+
+/// The four bytes of a word of eight hexadecimal digits.
+#[tactic(auto, using(crate::proofs::AddressDigitLemmas::eight_digits))]
+pub(crate) fn four_bytes(word: &[u8]) -> Option<[u8; 4]>
+    ensures found { IfSome result (λ bytes. decode_of word.now ≡ Ok bytes) }
+    ensures only { (bytes : List ℕ) → length bytes ≡ 4
+        → decode_of word.now ≡ Ok bytes → result ≡ Some bytes }
+{
+    let [a, b, c, d, e, f, g, h] = word else {
+        return None;
+    };
+    Some([
+        octet(*a, *b)?,
+        octet(*c, *d)?,
+        octet(*e, *f)?,
+        octet(*g, *h)?,
+    ])
+}

@@ -1,0 +1,68 @@
+//! Reading the rows of a section, one after the other.
+
+ghost use Rattle.std.specs.Prelude.{◌≡◌, ◌≢◌, ◌≤◌, ⊤, List, [], ◌∷◌, ◌++◌, length, map};
+ghost use Rattle.std.specs.Prelude.{Result, Ok, Err, IfOk, IfErr, OnOk};
+ghost use Rattle.toml.specs.Data.{Data};
+ghost use Rattle.toml.specs.View.{view};
+ghost use Rattle.mc_topology.specs.declared.fault.Section.{Section};
+ghost use Rattle.mc_topology.specs.declared.fault.TopologyFaultKind.{TopologyFaultKind};
+ghost use Rattle.mc_topology.specs.Answer.{Answers, out_of_memory, place, each};
+
+use crate::fault::TopologyFault;
+use std::alloc::Global;
+use toml::Value;
+
+/// A section that is read row by row, each row beside the sections before it, `B`, and beside the
+/// earlier rows.
+pub(crate) trait Rows<B>: Drop {
+    // what a row stands for
+    ghost Row: { Type 0 };
+
+    // the rows that were read
+    ghost rows: { Self → List Row };
+
+    // the section
+    ghost section: { Section };
+
+    // what the sections before it have to keep
+    ghost few: { B → Type 0 } = { λ _. ⊤ };
+
+    // a row, beside the sections before it and the earlier rows
+    ghost one: { B → List Row → Data → Result Row TopologyFaultKind };
+
+    /// Reads the row with this number, counted from 1, and adds it.
+    fn read_row(
+        &mut self,
+        alloc: Global,
+        before: &B,
+        number: u32,
+        row: &Value,
+    ) -> Result<(), TopologyFault>
+        requires { few before.now }
+        ensures added { OnOk result
+            ((x : Row) × (one before.now (rows self.old) (view row.now) ≡ Ok x)
+            × (rows self.new ≡ rows self.old ++ x ∷ [])) }
+        ensures fault { IfErr result (λ fault. fault ≢ out_of_memory →
+            place section number (one before.now (rows self.old) (view row.now)) ≡ Err fault) };
+}
+
+/// The section of these rows, one after the other, from the one that has none.
+pub(crate) fn each<B, S: Rows<B>>(
+    alloc: Global,
+    before: &B,
+    none: S,
+    rows: &[Value],
+) -> Result<S, TopologyFault>
+    requires before { S.few before.now }
+    requires none { S.rows none ≡ [] }
+    requires count { length rows.now ≤ u32.MAX }
+    ensures rows { result ≢ Err out_of_memory → Answers S.rows result
+        (each S.section (S.one before.now) [] (map view rows.now)) }
+    ensures count { IfOk result (λ section. length (S.rows section) ≡ length rows.now) }
+{
+    let mut section = none;
+    for (index, row) in rows.iter().enumerate() {
+        section.read_row(alloc, before, index as u32 + 1, row)?;
+    }
+    Ok(section)
+}

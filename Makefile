@@ -1,6 +1,7 @@
 # make            builds the proved program, crates/mcaudit/out/mcaudit
 # make example    shows an audit of a fault and of its mending, and the whole way to a verdict; by the program if it is built
 # make test       the gate: every proof, the edits that must fail, the tests, the command-line cases, and those of tools/
+# make edits      tries further wrong bodies, which the prover must refuse; CRATES="mc_text mc_igmp" are those of some crates
 # make bench      does steps of a run on large texts, and prints what they took in time and memory (it needs python3)
 # make lab        from routers to a verdict, in network namespaces (it needs root, smcroute, tcpdump and python3)
 # make install    puts the program and its tools into $(PREFIX)/bin, the manual page and the completion into $(PREFIX)/share
@@ -10,7 +11,7 @@ PROGRAM = crates/mcaudit/out/mcaudit
 MEASURE = crates/measure/out/measure
 SOURCES = $(shell find crates -path '*/out' -prune -o -type f \( -name '*.rt' -o -name '*.antt' \) -print) crates.txt
 
-.PHONY: all example test bench lab install
+.PHONY: all example test edits bench lab install
 
 all: $(PROGRAM)
 
@@ -27,6 +28,9 @@ test:
 	rt ci
 	sh tests/cli/run.sh $(PROGRAM)
 	sh tests/tools/run.sh
+
+edits:
+	sh tests/edits/run.sh $(CRATES)
 
 bench: $(MEASURE)
 	python3 bench/run.py $(MEASURE)

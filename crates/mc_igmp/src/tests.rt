@@ -3,6 +3,7 @@
 use super::*;
 use std::alloc::{AllocError, Global};
 use std::fmt::Write;
+use std::process::Abort;
 use std::test::Fail;
 
 // A query, as the line of a list. It stands for no record.
@@ -11,14 +12,23 @@ const QUERY: &str = "1164ee9b00000000";
 // EXCLUDE of nothing for 239.1.2.3.
 const ALL_SOURCES: &str = "2200eaf90000000102000000ef010203";
 
+// The same, ended.
+const ALL_SOURCES_LINE: &str = "2200eaf90000000102000000ef010203\n";
+
+// The sources of a record, each after a space.
+fn push_sources(out: &mut String, sources: Sources<'_>) -> Result<(), AllocError> {
+    for source in sources.iter() {
+        write!(out, " {source}")?;
+    }
+    Ok(())
+}
+
 // What a record says.
 fn push_record(out: &mut String, record: Record<'_>) -> Result<(), AllocError> {
     let kind = record.kind;
     let group = record.group;
     write!(out, "{kind:?} {group}")?;
-    for source in record.sources.iter() {
-        write!(out, " {source}")?;
-    }
+    push_sources(out, record.sources)?;
     out.push_str(";")
 }
 
@@ -147,6 +157,20 @@ fn records_of_lists(rt: HostRuntime) -> Result<(), Fail> {
     Ok(())
 }
 
+// A text is refused at a line, at this record and for this reason.
+fn check_fault(
+    rt: &impl Abort,
+    alloc: Global,
+    line: u32,
+    want: &str,
+    text: &str,
+) -> Result<(), AllocError> {
+    let shown = list_shown(alloc, text)?;
+    let told = format!(in alloc; "line {line} record {want}")?;
+    assert!(rt; shown == told, "{text}");
+    Ok(())
+}
+
 // Each text is refused at its first line, and at the second one behind a good line.
 #[test]
 fn faults_of_lists(rt: HostRuntime) -> Result<(), Fail> {
@@ -183,71 +207,62 @@ fn faults_of_lists(rt: HostRuntime) -> Result<(), Fail> {
         ("2200e9f90000000103000000ef010203\nzz", "1: StateChange"),
     ];
     for (text, want) in cases {
-        let first = format!(in rt.alloc(); "line 1 record {want}")?;
-        assert_eq!(rt;
-            list_shown(rt.alloc(), text)?.as_str(),
-            first.as_str(),
-            "{text}"
-        );
+        check_fault(&rt, rt.alloc(), 1, want, text)?;
         let after_another = format!(in rt.alloc(); "{ALL_SOURCES}\n{text}")?;
-        let second = format!(in rt.alloc(); "line 2 record {want}")?;
-        assert_eq!(rt;
-            list_shown(rt.alloc(), after_another.as_str())?.as_str(),
-            second.as_str(),
-            "{text}"
-        );
+        check_fault(&rt, rt.alloc(), 2, want, after_another.as_str())?;
     }
     Ok(())
 }
 
+// A text is read as no record, or has this fault.
+fn check_shown(
+    rt: &impl Abort,
+    alloc: Global,
+    text: &str,
+    want: &str,
+) -> Result<(), AllocError> {
+    let shown = list_shown(alloc, text)?;
+    assert!(rt; shown.as_str() == want, "{shown}");
+    Ok(())
+}
+
+// A query of 65,515 bytes, and one of a byte more.
 #[test]
-fn limits_of_lists(rt: HostRuntime) -> Result<(), Fail> {
-    // A query of 65,515 bytes, and one of a byte more.
-    let zeros = repeated(rt.alloc(), "00", 65_507)?;
-    let longest = format!(in rt.alloc(); "{QUERY}{zeros}\n")?;
-    assert_eq!(rt; list_shown(rt.alloc(), longest.as_str())?.as_str(), "");
-    let longer = format!(in rt.alloc(); "{ALL_SOURCES}\n{QUERY}{zeros}00\n")?;
-    assert_eq!(rt;
-        list_shown(rt.alloc(), longer.as_str())?.as_str(),
-        "line 2 record 0: TooLarge"
-    );
-    let unended = format!(in rt.alloc(); "{QUERY}{zeros}00")?;
-    assert_eq!(rt;
-        list_shown(rt.alloc(), unended.as_str())?.as_str(),
-        "line 1 record 0: Unended"
-    );
-    // 65,536 lines, and one more.
+fn longest_lines(rt: HostRuntime) -> Result<(), Fail> {
+    for (zeros, before, after, want) in [
+        (65_507, "", "\n", ""),
+        (65_508, ALL_SOURCES_LINE, "\n", "line 2 record 0: TooLarge"),
+        (65_508, "", "", "line 1 record 0: Unended"),
+    ] {
+        let zeros = repeated(rt.alloc(), "00", zeros)?;
+        let text = format!(in rt.alloc(); "{before}{QUERY}{zeros}{after}")?;
+        check_shown(&rt, rt.alloc(), text.as_str(), want)?;
+    }
+    Ok(())
+}
+
+// 65,536 lines, and one more.
+#[test]
+fn most_lines(rt: HostRuntime) -> Result<(), Fail> {
     let mut lines = repeated(rt.alloc(), "1164ee9b00000000\n", 65_536)?;
-    assert_eq!(rt; list_shown(rt.alloc(), lines.as_str())?.as_str(), "");
+    check_shown(&rt, rt.alloc(), lines.as_str(), "")?;
     lines.push_str("zz\n")?;
-    assert_eq!(rt;
-        list_shown(rt.alloc(), lines.as_str())?.as_str(),
-        "line 65537 record 0: TooLarge"
-    );
-    // 16,777,216 bytes, and one more.
+    check_shown(&rt, rt.alloc(), lines.as_str(), "line 65537 record 0: TooLarge")?;
+    Ok(())
+}
+
+// The fault of a text that is no list.
+fn fault_of(alloc: Global, text: &[u8]) -> Option<(u32, ListFaultKind)> {
+    let fault = ReportList::read(alloc, text).err()?;
+    Some((fault.line, fault.kind))
+}
+
+// 16,777,216 bytes, and one more.
+#[test]
+fn most_bytes(rt: HostRuntime) -> Result<(), Fail> {
     let mut bytes = vec![in rt.alloc(); b'\n'; 16_777_216]?;
-    let fault = ReportList::read(rt.alloc(), &bytes)
-        .err()
-        .ok_or("a list of empty lines")?;
-    assert_eq!(rt;
-        fault,
-        ListFault {
-            line: 1,
-            record_no: 0,
-            kind: ListFaultKind::Short
-        }
-    );
+    assert!(rt; fault_of(rt.alloc(), &bytes) == Some((1, ListFaultKind::Short)));
     bytes.push(b'\n')?;
-    let fault = ReportList::read(rt.alloc(), &bytes)
-        .err()
-        .ok_or("a list too large")?;
-    assert_eq!(rt;
-        fault,
-        ListFault {
-            line: 0,
-            record_no: 0,
-            kind: ListFaultKind::TooLarge
-        }
-    );
+    assert!(rt; fault_of(rt.alloc(), &bytes) == Some((0, ListFaultKind::TooLarge)));
     Ok(())
 }

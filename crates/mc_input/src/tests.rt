@@ -8,6 +8,7 @@ use mc_tables::{TableFault, TableFaultKind};
 use mc_text::{BundleFault, PartName};
 use mc_topology::{Section, TopologyFault, TopologyFaultKind};
 use std::alloc::Global;
+use std::process::Abort;
 use std::test::Fail;
 
 pub(crate) const TOPOLOGY: &str = "version = 1\n\
@@ -75,29 +76,60 @@ fn bundle_of(alloc: Global, parts: &[TextPart]) -> Result<String, Fail> {
     Ok(text)
 }
 
-#[test]
-fn chain_is_told(rt: HostRuntime) -> Result<(), Fail> {
-    let alloc = rt.alloc();
-    let text = bundle_of(alloc, &PARTS)?;
-    let input = read_input(alloc, text.as_bytes(), true)?;
-    assert_eq!(rt; (input.topology.lans(), input.topology.routers()), (3, 2));
-    assert_eq!(rt; (input.tables.len(), input.reports.len()), (2, 3));
-    assert_eq!(rt; input.certificate, Some(CERTIFICATE.as_bytes()));
-    let text = bundle_of(alloc, &PARTS[..8])?;
-    let input = read_input(alloc, text.as_bytes(), false)?;
-    assert_eq!(rt; input.certificate, None);
+// What the chain's bundle tells, with this certificate or with none.
+fn check_chain(rt: &impl Abort, input: &BundleInput<'_>, certificate: Option<&[u8]>) {
+    assert!(rt; input.topology.lans() == 3 && input.topology.routers() == 2);
+    assert!(rt; input.tables.len() == 2 && input.reports.len() == 3);
+    assert!(rt; input.certificate == certificate);
+}
+
+// The parts tell the chain.
+fn check_told(
+    rt: &impl Abort,
+    alloc: Global,
+    parts: &[TextPart],
+    certificate: Option<&[u8]>,
+) -> Result<(), Fail> {
+    let text = bundle_of(alloc, parts)?;
+    let input = read_input(alloc, text.as_bytes(), certificate.is_some())?;
+    check_chain(rt, &input, certificate);
     Ok(())
 }
 
-// The fault that a bundle of the parts is refused with, where a certificate is to be there.
-fn fault_of(alloc: Global, parts: &[TextPart]) -> Result<Option<InputFault>, Fail> {
+#[test]
+fn chain_is_told(rt: HostRuntime) -> Result<(), Fail> {
+    check_told(&rt, rt.alloc(), &PARTS, Some(CERTIFICATE.as_bytes()))?;
+    check_told(&rt, rt.alloc(), &PARTS[..8], None)?;
+    Ok(())
+}
+
+// A bundle of the parts is refused for this.
+fn check_refused(
+    rt: &impl Abort,
+    alloc: Global,
+    parts: &[TextPart],
+    certified: bool,
+    wanted: Option<InputFault>,
+) -> Result<(), Fail> {
     let text = bundle_of(alloc, parts)?;
-    Ok(read_input(alloc, text.as_bytes(), true).err())
+    let fault = read_input(alloc, text.as_bytes(), certified).err();
+    assert!(rt; fault == wanted);
+    Ok(())
+}
+
+// So is the chain's with one part another one, where a certificate is to be there.
+fn check_part(
+    rt: &impl Abort,
+    alloc: Global,
+    place: usize,
+    part: TextPart,
+    wanted: Option<InputFault>,
+) -> Result<(), Fail> {
+    check_refused(rt, alloc, &with_part(place, part), true, wanted)
 }
 
 #[test]
 fn other_names_are_refused_by_place(rt: HostRuntime) -> Result<(), Fail> {
-    let alloc = rt.alloc();
     for (place, part) in [
         (0usize, ("topologies", TOPOLOGY)),
         (1, ("vif/r2", VIFS)),
@@ -107,72 +139,90 @@ fn other_names_are_refused_by_place(rt: HostRuntime) -> Result<(), Fail> {
         (7, ("igmp/l20", WANTED)),
         (8, ("certificates", CERTIFICATE)),
     ] {
-        let fault = fault_of(alloc, &with_part(place, part))?;
-        assert_eq!(rt;
-            fault,
-            Some(InputFault::Parts(place as u32 + 1)),
-            "{}",
-            part.0
-        );
+        let wanted = Some(InputFault::Parts(place as u32 + 1));
+        check_part(&rt, rt.alloc(), place, part, wanted)?;
     }
-    assert_eq!(rt; fault_of(alloc, &[])?, Some(InputFault::Parts(1)));
-    assert_eq!(rt; fault_of(alloc, &PARTS[..8])?, Some(InputFault::Parts(9)));
-    let text = bundle_of(alloc, &PARTS)?;
-    let more = read_input(alloc, text.as_bytes(), false).err();
-    assert_eq!(rt; more, Some(InputFault::Parts(9)));
     Ok(())
 }
 
 #[test]
-fn contents_are_refused_by_part(rt: HostRuntime) -> Result<(), Fail> {
-    let alloc = rt.alloc();
+fn other_counts_are_refused_by_place(rt: HostRuntime) -> Result<(), Fail> {
+    for (count, certified, place) in [(0usize, true, 1u32), (8, true, 9), (9, false, 9)] {
+        let wanted = Some(InputFault::Parts(place));
+        check_refused(&rt, rt.alloc(), &PARTS[..count], certified, wanted)?;
+    }
+    Ok(())
+}
+
+#[test]
+fn topologies_are_refused(rt: HostRuntime) -> Result<(), Fail> {
     let no_flow = TopologyFault {
         section: Section::Flow,
         number: 0,
         kind: TopologyFaultKind::NoFlow,
     };
-    let fault = fault_of(alloc, &with_part(0, ("topology", NO_FLOW)))?;
-    assert_eq!(rt; fault, Some(InputFault::Topology(no_flow)));
+    let wanted = Some(InputFault::Topology(no_flow));
+    check_part(&rt, rt.alloc(), 0, ("topology", NO_FLOW), wanted)
+}
+
+#[test]
+fn caches_are_refused_by_part(rt: HostRuntime) -> Result<(), Fail> {
+    let name = PartName::new(b"cache/r1").ok_or("a name")?;
     for (text, kind) in [
         (UNENDED, TableFaultKind::Unended),
         (BAD_THRESHOLD, TableFaultKind::BadThreshold),
     ] {
-        let fault = fault_of(alloc, &with_part(2, ("cache/r1", text)))?;
-        let told = PartName::new(b"cache/r1").map(|name| InputFault::Cache(
-            name,
-            TableFault { line: 2, kind },
-        ));
-        assert_eq!(rt; fault, told);
+        let wanted = Some(InputFault::Cache(name, TableFault { line: 2, kind }));
+        check_part(&rt, rt.alloc(), 2, ("cache/r1", text), wanted)?;
     }
-    let fault = fault_of(alloc, &with_part(3, ("vif/r2", CACHE)))?;
+    Ok(())
+}
+
+#[test]
+fn vif_tables_are_refused_by_part(rt: HostRuntime) -> Result<(), Fail> {
+    let name = PartName::new(b"vif/r2").ok_or("a name")?;
     let kind = TableFaultKind::NoHeader;
-    let told = PartName::new(b"vif/r2").map(|name| InputFault::Vif(
-        name,
-        TableFault { line: 1, kind },
-    ));
-    assert_eq!(rt; fault, told);
-    let fault = fault_of(alloc, &with_part(6, ("igmp/l1", "zz\n")))?;
+    let wanted = Some(InputFault::Vif(name, TableFault { line: 1, kind }));
+    check_part(&rt, rt.alloc(), 3, ("vif/r2", CACHE), wanted)
+}
+
+#[test]
+fn reports_are_refused_by_part(rt: HostRuntime) -> Result<(), Fail> {
+    let name = PartName::new(b"igmp/l1").ok_or("a name")?;
     let list = ListFault {
         line: 1,
         record_no: 0,
         kind: ListFaultKind::BadHex,
     };
-    let told = PartName::new(b"igmp/l1").map(|name| InputFault::Reports(name, list));
-    assert_eq!(rt; fault, told);
+    let wanted = Some(InputFault::Reports(name, list));
+    check_part(&rt, rt.alloc(), 6, ("igmp/l1", "zz\n"), wanted)
+}
+
+// Two parts of the chain other ones: their names come before what they hold.
+#[test]
+fn names_come_before_contents(rt: HostRuntime) -> Result<(), Fail> {
+    let mut parts = with_part(2, ("cache/r1", UNENDED));
+    parts[7] = ("igmp/l9", WANTED);
+    let wanted = Some(InputFault::Parts(8));
+    check_refused(&rt, rt.alloc(), &parts, true, wanted)
+}
+
+// The topology's contents come before the names that follow from it.
+#[test]
+fn topology_comes_before_names(rt: HostRuntime) -> Result<(), Fail> {
+    let mut parts = with_part(0, ("topology", ""));
+    parts[7] = ("igmp/l9", WANTED);
+    let text = bundle_of(rt.alloc(), &parts)?;
+    let fault = read_input(rt.alloc(), text.as_bytes(), true).err();
+    assert!(rt; matches!(fault, Some(InputFault::Topology(_))));
     Ok(())
 }
 
 #[test]
-fn names_come_before_contents_and_framing_before_both(rt: HostRuntime) -> Result<(), Fail> {
-    let alloc = rt.alloc();
-    let mut parts = with_part(2, ("cache/r1", UNENDED));
-    parts[7] = ("igmp/l9", WANTED);
-    assert_eq!(rt; fault_of(alloc, &parts)?, Some(InputFault::Parts(8)));
-    parts[0] = ("topology", "");
-    assert!(rt; matches!(fault_of(alloc, &parts)?, Some(InputFault::Topology(_))));
-    let text = bundle_of(alloc, &parts)?;
+fn framing_comes_before_all(rt: HostRuntime) -> Result<(), Fail> {
+    let text = bundle_of(rt.alloc(), &with_part(0, ("topology", "")))?;
     let cut = text.as_bytes().strip_suffix(b"end\n").unwrap_or(b"");
-    let fault = read_input(alloc, cut, true).err();
-    assert_eq!(rt; fault, Some(InputFault::Bundle(BundleFault::NoEnd)));
+    let fault = read_input(rt.alloc(), cut, true).err();
+    assert!(rt; fault == Some(InputFault::Bundle(BundleFault::NoEnd)));
     Ok(())
 }

@@ -1,9 +1,14 @@
 -- The nine words of a vif's line, in their order.
 use Rattle.std.specs.Prelude.{ℕ, List, [], ◌∷◌}
+use Rattle.mc_tables.specs.declared.vif_line.CounterWords.{CounterWords}
 use Rattle.mc_tables.specs.declared.vif_line.VifWords.{VifWords}
+
+-- the four that count, before the rest
+abbrev pub counters_before : CounterWords → List (List ℕ) → List (List ℕ)
+counters_before w rest =
+    w.bytes_in.now ∷ w.packets_in.now ∷ w.bytes_out.now ∷ w.packets_out.now ∷ rest
 
 abbrev pub word_list : VifWords → List (List ℕ)
 word_list w =
     w.index.now ∷ w.device.now
-    ∷ w.bytes_in.now ∷ w.packets_in.now ∷ w.bytes_out.now ∷ w.packets_out.now
-    ∷ w.flags.now ∷ w.local.now ∷ w.remote.now ∷ []
+    ∷ counters_before w.counters (w.flags.now ∷ w.local.now ∷ w.remote.now ∷ [])

@@ -20,7 +20,7 @@ use std::alloc::Global;
 const UNRESOLVED: &[u8] = b"-1";
 
 /// The words of a line before the outgoing ones, by what they are.
-#[derive(Debug, Drop)]
+#[derive(Clone, Copy)]
 pub struct CacheWords<'a> {
     pub group: &'a [u8],
     pub origin: &'a [u8],

@@ -1,6 +1,6 @@
 //! One line of `/proc/net/ip_mr_vif`.
 
-ghost use Rattle.std.specs.Prelude.{◌≡◌, ◌≢◌, ◌≤◌, length, IsTrue, IfSome, IfNone, Some};
+ghost use Rattle.std.specs.Prelude.{◌≡◌, ◌≢◌, ◌≤◌, ◌<◌, length, IsTrue, IfSome, IfNone, Some};
 ghost use Rattle.std.specs.List.{list_all};
 ghost use Rattle.std.specs.Char.{is_ascii_hexdigit};
 ghost use Rattle.std.specs.Str.Parse.{digits_value};
@@ -9,7 +9,7 @@ ghost use Rattle.mc_tables.specs.declared.fault.TableFaultKind.TheVariants.{BadA
 ghost use Rattle.mc_tables.specs.Steps.{demand};
 ghost use Rattle.mc_tables.specs.TableWords.{is_hexadecimal};
 ghost use Rattle.mc_tables.specs.VifReading.{device_in, flags_in, vif_in_words};
-ghost use Rattle.mc_tables.specs.VifWords.{word_list};
+ghost use Rattle.mc_tables.specs.VifWords.{counters_before, word_list};
 
 use crate::fault::TableFaultKind;
 use crate::table_words::{MAX_VIF, check_counter, is_hexadecimal_word, number};
@@ -18,15 +18,21 @@ use crate::vif_row::VifRow;
 use mc_text::{Words, is_device_name};
 use std::str;
 
-/// The words of a line, by what they are.
-#[derive(Debug, Drop)]
-pub struct VifWords<'a> {
-    pub index: &'a [u8],
-    pub device: &'a [u8],
+/// The four words that count, by what they are.
+#[derive(Clone, Copy)]
+pub struct CounterWords<'a> {
     pub bytes_in: &'a [u8],
     pub packets_in: &'a [u8],
     pub bytes_out: &'a [u8],
     pub packets_out: &'a [u8],
+}
+
+/// The words of a line, by what they are.
+#[derive(Clone, Copy)]
+pub struct VifWords<'a> {
+    pub index: &'a [u8],
+    pub device: &'a [u8],
+    pub counters: CounterWords<'a>,
     pub flags: &'a [u8],
     pub local: &'a [u8],
     pub remote: &'a [u8],
@@ -41,6 +47,19 @@ pub fn vif_of_line(line: &[u8]) -> Result<VifRow, TableFaultKind>
     vif_of_words(&words)
 }
 
+/// The next four words, if they are there.
+fn counter_words<'a>(words: &mut Words<'a>) -> Option<CounterWords<'a>>
+    ensures found { IfSome result (λ counters. words.old ≡ counters_before counters words.new) }
+    ensures only { IfNone result (length words.old < 4) }
+{
+    Some(CounterWords {
+        bytes_in: words.next()?,
+        packets_in: words.next()?,
+        bytes_out: words.next()?,
+        packets_out: words.next()?,
+    })
+}
+
 /// The line's words, if there are nine.
 fn vif_words<'a>(line: &'a [u8]) -> Option<VifWords<'a>>
     ensures found { IfSome result (λ words. words_of line.now ≡ word_list words) }
@@ -50,10 +69,7 @@ fn vif_words<'a>(line: &'a [u8]) -> Option<VifWords<'a>>
     let found = VifWords {
         index: words.next()?,
         device: words.next()?,
-        bytes_in: words.next()?,
-        packets_in: words.next()?,
-        bytes_out: words.next()?,
-        packets_out: words.next()?,
+        counters: counter_words(&mut words)?,
         flags: words.next()?,
         local: words.next()?,
         remote: words.next()?,
@@ -70,10 +86,10 @@ fn vif_of_words(words: &VifWords<'_>) -> Result<VifRow, TableFaultKind>
 {
     let index = number(words.index, 0, MAX_VIF).ok_or(TableFaultKind::BadIndex)?;
     let device = device_name(words.device)?;
-    check_counter(words.bytes_in)?;
-    check_counter(words.packets_in)?;
-    check_counter(words.bytes_out)?;
-    check_counter(words.packets_out)?;
+    check_counter(words.counters.bytes_in)?;
+    check_counter(words.counters.packets_in)?;
+    check_counter(words.counters.bytes_out)?;
+    check_counter(words.counters.packets_out)?;
     let flags = flags_of_word(words.flags)?;
     check_address(words.local)?;
     check_address(words.remote)?;

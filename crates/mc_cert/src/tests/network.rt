@@ -26,6 +26,14 @@ pub(super) const VERSION_ONE: &str =
 pub(super) const VERSION_TWO: &str =
     r#"{"flows":[{"group":"239.1.2.3","source":"10.0.0.5","tree":0}],"trees":[[{"lan":"l0","need":1,"rank":0},{"lan":"l1","need":2,"rank":1,"router":"r1","vif":1},{"lan":"l2","need":3,"rank":2,"router":"r2","vif":1}]],"version":2}"#;
 
+/// Writes the parts of a text, one after the other.
+fn push_each(text: &mut String, parts: &[&str]) -> Result<(), AllocError> {
+    for part in parts {
+        text.push_str(part)?;
+    }
+    Ok(())
+}
+
 /// A text with one place changed.
 pub(super) fn changed(
     alloc: Global,
@@ -33,12 +41,9 @@ pub(super) fn changed(
     from: &str,
     to: &str,
 ) -> Result<String, AllocError> {
+    let (before, after) = text.split_once(from).unwrap_or(("", ""));
     let mut other = String::new(alloc);
-    if let Some((before, after)) = text.split_once(from) {
-        other.push_str(before)?;
-        other.push_str(to)?;
-        other.push_str(after)?;
-    }
+    push_each(&mut other, &[before, to, after])?;
     Ok(other)
 }
 

@@ -25,24 +25,20 @@ fn both_branches_are_certified(rt: HostRuntime) -> Result<(), Fail> {
     Ok(())
 }
 
-/// Handles the flight's copies by these picks, and then none waits. What l0 to l3 carried.
-fn handled_by(
-    rt: &impl Abort,
-    flight: &mut Flight<'_>,
-    picks: [usize; 3],
-) -> Result<[u32; 4], Fail> {
+/// Handles the flight's copies by these picks.
+fn handle_each(rt: &impl Abort, flight: &mut Flight<'_>, picks: [usize; 3]) -> Result<(), Fail> {
     for pick in picks {
         assert!(rt; pick < flight.waiting());
         let _event = flight.handle(pick)?;
     }
-    assert_eq!(rt; flight.waiting(), 0);
+    Ok(())
+}
+
+/// None waits, and what l0 to l3 carried.
+fn carried_at_last(rt: &impl Abort, flight: &Flight<'_>) -> [u32; 4] {
+    assert!(rt; flight.waiting() == 0);
     assert!(rt; flight.strays().is_empty());
-    Ok([
-        flight.carried(LanNo(0)),
-        flight.carried(LanNo(1)),
-        flight.carried(LanNo(2)),
-        flight.carried(LanNo(3)),
-    ])
+    [0, 1, 2, 3].map(|lan| flight.carried(LanNo(lan)))
 }
 
 /// What the LANs of a domain carried of a packet once its copies were handled by these picks.
@@ -55,7 +51,8 @@ fn carried_on(
 ) -> Result<[u32; 4], Fail> {
     assert!(rt; domain.topology().flows() > 0);
     let mut flight = Flight::start(alloc, domain, 0, ttl)?;
-    handled_by(rt, &mut flight, picks)
+    handle_each(rt, &mut flight, picks)?;
+    Ok(carried_at_last(rt, &flight))
 }
 
 /// What the LANs of the network carried of a packet once its copies were handled by these picks.

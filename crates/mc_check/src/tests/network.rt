@@ -77,15 +77,22 @@ pub(super) fn topology_of(alloc: Global, network: &Network<'_>) -> Result<Topolo
     Ok(Topology::read(alloc, text.as_bytes())?)
 }
 
-fn tables_of(alloc: Global, order: Order, vifs: &str, rows: &str) -> Result<Tables, Fail> {
-    let vifs = format!(in alloc;
-        "Interface BytesIn PktsIn BytesOut PktsOut Flags Local Remote\n{vifs}"
+fn vifs_of(alloc: Global, rows: &str) -> Result<VifTable, Fail> {
+    let text = format!(in alloc;
+        "Interface BytesIn PktsIn BytesOut PktsOut Flags Local Remote\n{rows}"
     )?;
-    let cache = format!(in alloc; "Group Origin Iif Pkts Bytes Wrong Oifs\n{rows}")?;
-    Ok(Tables {
-        vifs: VifTable::read(alloc, vifs.as_bytes())?,
-        cache: CacheTable::read(alloc, cache.as_bytes(), order)?,
-    })
+    Ok(VifTable::read(alloc, text.as_bytes())?)
+}
+
+fn cache_of(alloc: Global, order: Order, rows: &str) -> Result<CacheTable, Fail> {
+    let text = format!(in alloc; "Group Origin Iif Pkts Bytes Wrong Oifs\n{rows}")?;
+    Ok(CacheTable::read(alloc, text.as_bytes(), order)?)
+}
+
+fn tables_of(alloc: Global, order: Order, vifs: &str, rows: &str) -> Result<Tables, Fail> {
+    let vifs = vifs_of(alloc, vifs)?;
+    let cache = cache_of(alloc, order, rows)?;
+    Ok(Tables { vifs, cache })
 }
 
 fn tables_of_routers(
@@ -112,6 +119,31 @@ fn reports_of(alloc: Global, lans: u32, wanting: &[u32]) -> Result<Vec<ReportLis
     Ok(reports)
 }
 
+/// The tables of the routers and the reports of the LANs.
+fn parts_of(
+    alloc: Global,
+    topology: &Topology,
+    routers: &[(&str, &str)],
+    wanting: &[u32],
+) -> Result<(Vec<Tables>, Vec<ReportList>), Fail> {
+    let tables = tables_of_routers(alloc, topology, routers)?;
+    let reports = reports_of(alloc, topology.lans(), wanting)?;
+    Ok((tables, reports))
+}
+
+/// The domain of these parts.
+fn assembled(
+    alloc: Global,
+    topology: Topology,
+    tables: Vec<Tables>,
+    reports: Vec<ReportList>,
+) -> Result<Domain, Fail> {
+    match Domain::assemble(alloc, topology, tables, reports) {
+        Ok(domain) => Ok(domain),
+        Err(refused) => Err(Fail::from(refused.fault)),
+    }
+}
+
 /// The domain of the texts.
 pub(super) fn domain_of(alloc: Global, network: &Network<'_>) -> Result<Domain, Fail> {
     let topology = topology_of(alloc, network)?;
@@ -126,12 +158,8 @@ pub(super) fn domain_over(
     routers: &[(&str, &str)],
     wanting: &[u32],
 ) -> Result<Domain, Fail> {
-    let tables = tables_of_routers(alloc, &topology, routers)?;
-    let reports = reports_of(alloc, topology.lans(), wanting)?;
-    match Domain::assemble(alloc, topology, tables, reports) {
-        Ok(domain) => Ok(domain),
-        Err(refused) => Err(refused.fault)?,
-    }
+    let (tables, reports) = parts_of(alloc, &topology, routers, wanting)?;
+    assembled(alloc, topology, tables, reports)
 }
 
 fn entries_of(alloc: Global, rows: &[EntryRow]) -> Result<Vec<Reached>, AllocError> {

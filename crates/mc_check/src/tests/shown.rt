@@ -2,7 +2,9 @@
 
 use super::network::{CHAIN, topology_of};
 use crate::{Reason, Verdict};
-use mc_topology::{LanNo, RouterNo};
+use mc_topology::{LanNo, RouterNo, Topology};
+use std::alloc::Global;
+use std::process::Abort;
 use std::test::Fail;
 
 const SECOND_ROUTER: RouterNo = RouterNo(1);
@@ -15,9 +17,8 @@ const L2: LanNo = LanNo(2);
 
 const L3: LanNo = LanNo(3);
 
-#[test]
-fn reasons(rt: HostRuntime) -> Result<(), Fail> {
-    let topology = topology_of(rt.alloc(), &CHAIN)?;
+/// How reasons are written, where the topology is that of the chain.
+fn shows_reasons(rt: &impl Abort, alloc: Global, topology: &Topology) -> Result<(), Fail> {
     for (reason, text) in [
         (Reason::TwoEntries(L2), "TwoEntries l2"),
         (Reason::BadSource, "BadSource"),
@@ -35,15 +36,20 @@ fn reasons(rt: HostRuntime) -> Result<(), Fail> {
         (Reason::Extra(ROUTER_PAST_THE_LAST, 1, L3), "Extra  1 "),
         (Reason::Low(LanNo(u32::MAX)), "Low "),
     ] {
-        let shown = reason.shown(&topology).to_string(rt.alloc())?;
-        assert_eq!(rt; shown.as_str(), text);
+        let shown = reason.shown(topology).to_string(alloc)?;
+        assert!(rt; shown.as_str() == text, "{shown}");
     }
     Ok(())
 }
 
 #[test]
-fn verdicts(rt: HostRuntime) -> Result<(), Fail> {
+fn reasons(rt: HostRuntime) -> Result<(), Fail> {
     let topology = topology_of(rt.alloc(), &CHAIN)?;
+    shows_reasons(&rt, rt.alloc(), &topology)
+}
+
+/// How verdicts are written there.
+fn shows_verdicts(rt: &impl Abort, alloc: Global, topology: &Topology) -> Result<(), Fail> {
     for (verdict, text) in [
         (Verdict::Yes { copies: 1 }, "yes copies 1"),
         (Verdict::Yes { copies: 1024 }, "yes copies 1024"),
@@ -53,8 +59,14 @@ fn verdicts(rt: HostRuntime) -> Result<(), Fail> {
             "no Extra r2 1 l0",
         ),
     ] {
-        let shown = verdict.shown(&topology).to_string(rt.alloc())?;
-        assert_eq!(rt; shown.as_str(), text);
+        let shown = verdict.shown(topology).to_string(alloc)?;
+        assert!(rt; shown.as_str() == text, "{shown}");
     }
     Ok(())
+}
+
+#[test]
+fn verdicts(rt: HostRuntime) -> Result<(), Fail> {
+    let topology = topology_of(rt.alloc(), &CHAIN)?;
+    shows_verdicts(&rt, rt.alloc(), &topology)
 }

@@ -125,14 +125,19 @@ fn registers(alloc: Global) -> Result<Domain, Fail> {
     domain_of(alloc, REGISTER_TOPOLOGY, &[tables], &["", WANTED])
 }
 
+/// Vifs 0 and 1 lie on the LANs of their devices, and no other vif on any.
+fn has_two_placed(rt: &impl Abort, domain: &Domain) {
+    assert!(rt; placed(rt, domain, 0) == Some(LanNo(0)));
+    assert!(rt; placed(rt, domain, 1) == Some(LanNo(1)));
+    for vif in [2u8, 3, 31, 32, 255] {
+        assert!(rt; placed(rt, domain, vif).is_none(), "at vif {vif}");
+    }
+}
+
 #[test]
 fn register_vif_lies_on_no_lan(rt: HostRuntime) -> Result<(), Fail> {
     let domain = registers(rt.alloc())?;
-    assert_eq!(rt; placed(&rt, &domain, 0), Some(LanNo(0)));
-    assert_eq!(rt; placed(&rt, &domain, 1), Some(LanNo(1)));
-    for vif in [2u8, 3, 31, 32, 255] {
-        assert!(rt; placed(&rt, &domain, vif).is_none(), "at vif {vif}");
-    }
+    has_two_placed(&rt, &domain);
     Ok(())
 }
 
@@ -150,9 +155,8 @@ fn filters(alloc: Global) -> Result<Domain, Fail> {
     domain_of(alloc, FILTERS_TOPOLOGY, &[tables], &lans)
 }
 
-#[test]
-fn reports_of_three_hosts(rt: HostRuntime) -> Result<(), Fail> {
-    let domain = filters(rt.alloc())?;
+/// Which LANs want which flows.
+fn wants_by_filters(rt: &impl Abort, domain: &Domain) {
     for (lan, flow, want) in [
         (0u32, 0u32, false),
         (0, 4, false),
@@ -167,34 +171,52 @@ fn reports_of_three_hosts(rt: HostRuntime) -> Result<(), Fail> {
         (2, 3, false),
         (2, 4, true),
     ] {
-        assert_eq!(rt;
-            wants(&rt, &domain, lan, flow),
-            want,
-            "LAN {lan} flow {flow}"
-        );
+        let found = wants(rt, domain, lan, flow);
+        assert!(rt; found == want, "LAN {lan} flow {flow}");
     }
+}
+
+#[test]
+fn reports_of_three_hosts(rt: HostRuntime) -> Result<(), Fail> {
+    let domain = filters(rt.alloc())?;
+    wants_by_filters(&rt, &domain);
     Ok(())
+}
+
+/// Where the router sends each of the five flows.
+fn sends_five_flows(rt: &impl Abort, domain: &Domain) {
+    assert!(rt; sent_to(rt, domain, 0, &[1, 2]));
+    assert!(rt; sent_to(rt, domain, 1, &[1]));
+    assert!(rt; sent_to(rt, domain, 2, &[2]));
+    assert!(rt; sent_to(rt, domain, 3, &[1]));
+    assert!(rt; sent_to(rt, domain, 4, &[1, 2]));
 }
 
 #[test]
 fn rows_of_five_flows(rt: HostRuntime) -> Result<(), Fail> {
     let domain = filters(rt.alloc())?;
-    assert!(rt; sent_to(&rt, &domain, 0, &[1, 2]));
-    assert!(rt; sent_to(&rt, &domain, 1, &[1]));
-    assert!(rt; sent_to(&rt, &domain, 2, &[2]));
-    assert!(rt; sent_to(&rt, &domain, 3, &[1]));
-    assert!(rt; sent_to(&rt, &domain, 4, &[1, 2]));
+    sends_five_flows(&rt, &domain);
     Ok(())
+}
+
+/// A LAN has one interface, at this vif of the first router.
+fn has_one_interface(rt: &impl Abort, domain: &Domain, lan: u32, vif: u8) {
+    assert!(rt; lan < domain.topology().lans());
+    let mut interfaces = domain.interfaces(LanNo(lan));
+    assert!(rt; interfaces.next() == Some((RouterNo(0), vif)));
+    assert!(rt; interfaces.next().is_none());
+}
+
+/// Each vif has its LAN.
+fn has_three_interfaces(rt: &impl Abort, domain: &Domain) {
+    for (lan, vif) in [(0u32, 0u8), (1, 1), (2, 2)] {
+        has_one_interface(rt, domain, lan, vif);
+    }
 }
 
 #[test]
 fn interface_of_each_lan(rt: HostRuntime) -> Result<(), Fail> {
     let domain = filters(rt.alloc())?;
-    for (lan, vif) in [(0u32, 0u8), (1, 1), (2, 2)] {
-        assert!(rt; lan < domain.topology().lans());
-        let mut interfaces = domain.interfaces(LanNo(lan));
-        assert_eq!(rt; interfaces.next(), Some((RouterNo(0), vif)));
-        assert_eq!(rt; interfaces.next(), None);
-    }
+    has_three_interfaces(&rt, &domain);
     Ok(())
 }

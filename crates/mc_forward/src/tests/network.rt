@@ -42,10 +42,9 @@ pub(super) const WANTED: &str = "2200eaf90000000102000000ef010203\n";
 
 /// The tables of these texts.
 pub(super) fn tables_of(alloc: Global, texts: (&str, &str)) -> Result<Tables, Fail> {
-    Ok(Tables {
-        vifs: VifTable::read(alloc, texts.0.as_bytes())?,
-        cache: CacheTable::read(alloc, texts.1.as_bytes(), Order::Little)?,
-    })
+    let vifs = VifTable::read(alloc, texts.0.as_bytes())?;
+    let cache = CacheTable::read(alloc, texts.1.as_bytes(), Order::Little)?;
+    Ok(Tables { vifs, cache })
 }
 
 /// The tables of each router's texts.
@@ -86,9 +85,9 @@ pub(super) fn domain_of(
     routers: &[(&str, &str)],
     lans: &[&str],
 ) -> Result<Domain, Fail> {
-    let topology = Topology::read(alloc, topology.as_bytes())?;
     let tables = tables_of_all(alloc, routers)?;
     let reports = reports_of_all(alloc, lans)?;
+    let topology = Topology::read(alloc, topology.as_bytes())?;
     Ok(assembled(alloc, topology, tables, reports)?)
 }
 

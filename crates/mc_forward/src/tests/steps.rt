@@ -161,12 +161,10 @@ fn refusal_of(
 #[test]
 fn one_router_too_few(rt: HostRuntime) -> Result<(), Fail> {
     let alloc = rt.alloc();
-    let topology = Topology::read(alloc, CHAIN.as_bytes())?;
     let tables = tables_of_all(alloc, &[FORWARDS])?;
     let reports = reports_of_all(alloc, &["", "", WANTED])?;
-    assert_eq!(rt;
-        refusal_of(alloc, topology, tables, reports),
-        Some((DomainFault::Count, 2, 1, 3))
-    );
+    let topology = Topology::read(alloc, CHAIN.as_bytes())?;
+    let refusal = refusal_of(alloc, topology, tables, reports);
+    assert!(rt; refusal == Some((DomainFault::Count, 2, 1, 3)));
     Ok(())
 }

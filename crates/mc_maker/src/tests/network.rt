@@ -74,13 +74,16 @@ fn topology_of(alloc: Global, network: &Network<'_>) -> Result<Topology, Fail> {
     Ok(Topology::read(alloc, text.as_bytes())?)
 }
 
+fn cache_of(alloc: Global, rows: &str) -> Result<CacheTable, Fail> {
+    let text = format!(in alloc; "Group Origin Iif Pkts Bytes Wrong Oifs\n{rows}")?;
+    Ok(CacheTable::read(alloc, text.as_bytes(), Order::Little)?)
+}
+
 /// The tables of a router with these rows.
 fn tables_of(alloc: Global, rows: &str) -> Result<Tables, Fail> {
-    let cache = format!(in alloc; "Group Origin Iif Pkts Bytes Wrong Oifs\n{rows}")?;
-    Ok(Tables {
-        vifs: VifTable::read(alloc, VIFS.as_bytes())?,
-        cache: CacheTable::read(alloc, cache.as_bytes(), Order::Little)?,
-    })
+    let vifs = VifTable::read(alloc, VIFS.as_bytes())?;
+    let cache = cache_of(alloc, rows)?;
+    Ok(Tables { vifs, cache })
 }
 
 fn all_tables(alloc: Global, rows: &[&str]) -> Result<Vec<Tables>, Fail> {
@@ -99,19 +102,23 @@ fn all_reports(alloc: Global, last: &str) -> Result<Vec<ReportList>, Fail> {
     Ok(reports)
 }
 
+/// The domain of these parts.
 fn assembled(
     alloc: Global,
     topology: Topology,
-    rows: &[&str],
+    tables: Vec<Tables>,
     reports: Vec<ReportList>,
 ) -> Result<Domain, Fail> {
-    let tables = all_tables(alloc, rows)?;
-    Ok(Domain::assemble(alloc, topology, tables, reports).map_err(|refused| refused.fault)?)
+    match Domain::assemble(alloc, topology, tables, reports) {
+        Ok(domain) => Ok(domain),
+        Err(refused) => Err(Fail::from(refused.fault)),
+    }
 }
 
 /// The domain of a network.
 pub(super) fn domain_of(alloc: Global, network: &Network<'_>) -> Result<Domain, Fail> {
-    let topology = topology_of(alloc, network)?;
+    let tables = all_tables(alloc, &network.rows)?;
     let reports = all_reports(alloc, network.wanted)?;
-    assembled(alloc, topology, &network.rows, reports)
+    let topology = topology_of(alloc, network)?;
+    assembled(alloc, topology, tables, reports)
 }

@@ -57,18 +57,19 @@ const WANTED: &str = "2200eaf90000000102000000ef010203\n";
 pub(super) type Network<'a> = (&'a str, [(&'a str, &'a str); 3]);
 
 fn topology_of(alloc: Global, third: &str) -> Result<Topology, Fail> {
-    let mut text = String::from_str(alloc, ROUTERS)?;
-    text.push_str(third)?;
-    text.push_str(FLOWS)?;
+    let text = format!(in alloc; "{ROUTERS}{third}{FLOWS}")?;
     Ok(Topology::read(alloc, text.as_bytes())?)
+}
+
+fn cache_of(alloc: Global, row: &str) -> Result<CacheTable, Fail> {
+    let text = format!(in alloc; "Group Origin Iif Pkts Bytes Wrong Oifs\n{row}")?;
+    Ok(CacheTable::read(alloc, text.as_bytes(), Order::Little)?)
 }
 
 /// The tables of a router with these vifs and this row.
 fn tables_of(alloc: Global, vifs: &str, row: &str) -> Result<Tables, Fail> {
-    let mut cache = String::from_str(alloc, "Group Origin Iif Pkts Bytes Wrong Oifs\n")?;
-    cache.push_str(row)?;
-    let cache = CacheTable::read(alloc, cache.as_bytes(), Order::Little)?;
     let vifs = VifTable::read(alloc, vifs.as_bytes())?;
+    let cache = cache_of(alloc, row)?;
     Ok(Tables { vifs, cache })
 }
 
@@ -102,9 +103,9 @@ fn assembled(
 }
 
 fn domain_of(alloc: Global, network: &Network<'_>) -> Result<Domain, Fail> {
-    let topology = topology_of(alloc, network.0)?;
     let tables = all_tables(alloc, &network.1)?;
     let reports = all_reports(alloc)?;
+    let topology = topology_of(alloc, network.0)?;
     Ok(assembled(alloc, topology, tables, reports)?)
 }
 
@@ -133,6 +134,20 @@ fn travel_of<P: Picker>(
     text_of(alloc, domain.topology(), &travel)
 }
 
+/// The packet has this travel in a domain.
+fn check_travel<P: Picker>(
+    rt: &impl Abort,
+    alloc: Global,
+    domain: &Domain,
+    packet: (u32, u8),
+    picker: &mut P,
+    travel: &str,
+) -> Result<(), Fail> {
+    let text = travel_of(rt, alloc, domain, packet, picker)?;
+    assert!(rt; text.as_str() == travel, "{text}");
+    Ok(())
+}
+
 /// The packet, by the number of its flow and its TTL, has this travel by the picker's choices.
 pub(super) fn travels<P: Picker>(
     rt: &impl Abort,
@@ -143,7 +158,5 @@ pub(super) fn travels<P: Picker>(
     travel: &str,
 ) -> Result<(), Fail> {
     let domain = domain_of(alloc, network)?;
-    let text = travel_of(rt, alloc, &domain, packet, picker)?;
-    assert_eq!(rt; text.as_str(), travel);
-    Ok(())
+    check_travel(rt, alloc, &domain, packet, picker, travel)
 }

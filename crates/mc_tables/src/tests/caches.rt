@@ -3,6 +3,7 @@
 use crate::{CacheTable, Oif, Oifs, TableFault, TableFaultKind};
 use mc_text::{Addr, Order};
 use std::alloc::{AllocError, Global};
+use std::process::Abort;
 use std::test::Fail;
 
 const SOURCE: [u8; 4] = [10, 0, 0, 5];
@@ -19,23 +20,45 @@ const BIG: &[u8] = b"Group
 ef010203 0a000005 000 12 1200 0 0001:001
 ";
 
+/// Whether the table has an entry for 10.0.0.5 and a group, with this incoming vif and these
+/// outgoing ones.
+fn has_entry(table: &CacheTable, group: [u8; 4], iif: u8, oifs: &[Oif]) -> bool {
+    match table.exact(Addr::from_octets(SOURCE), Addr::from_octets(group)) {
+        Some(entry) => entry.iif == iif && entry.oifs.as_slice() == oifs,
+        None => false,
+    }
+}
+
+/// Whether the table has no entry for 10.0.0.5 and a group.
+fn has_none(table: &CacheTable, group: [u8; 4]) -> bool {
+    table
+        .exact(Addr::from_octets(SOURCE), Addr::from_octets(group))
+        .is_none()
+}
+
+/// Whether the table has a row of a group for every source.
+fn is_wildcard(table: &CacheTable, group: [u8; 4]) -> bool {
+    table.wildcard(Addr::from_octets(group))
+}
+
+/// An outgoing vif.
+const fn oif(vif: u8, threshold: u8) -> Oif {
+    Oif { vif, threshold }
+}
+
+/// What the table of one row answers.
+fn check_row(rt: &impl Abort, table: &CacheTable) {
+    assert!(rt; has_entry(table, GROUP, 0, &[oif(1, 1)]));
+    let (source, group) = (Addr::from_octets(SOURCE), Addr::from_octets(GROUP));
+    assert!(rt; table.exact(group, source).is_none());
+    assert!(rt; !table.wildcard(group));
+}
+
 #[test]
 fn reads_a_row(rt: HostRuntime) -> Result<(), Fail> {
     for (text, order) in [(PADDED, Order::Little), (BIG, Order::Big)] {
         let table = CacheTable::read(rt.alloc(), text, order)?;
-        let (source, group) = (Addr::from_octets(SOURCE), Addr::from_octets(GROUP));
-        let entry = table.exact(source, group).ok_or("no entry")?;
-        assert_eq!(rt; entry.iif, 0);
-        assert_eq!(rt;
-            entry.oifs.as_slice(),
-            [Oif {
-                vif: 1,
-                threshold: 1
-            }]
-            .as_slice()
-        );
-        assert!(rt; table.exact(group, source).is_none());
-        assert!(rt; !table.wildcard(group));
+        check_row(&rt, &table);
     }
     Ok(())
 }
@@ -52,54 +75,34 @@ const MIXED: &[u8] = b"Group    Origin   Iif     Pkts    Bytes    Wrong Oifs
 3C0008EF 0500000A -1         0        0        0
 ";
 
+/// What the table of those rows answers.
+fn check_mixed(rt: &impl Abort, table: &CacheTable) {
+    let ascending = [oif(0, 1), oif(7, 3), oif(31, 254)];
+    assert!(rt; has_entry(table, GROUP, 31, &ascending));
+    assert!(rt; has_entry(table, [239, 1, 2, 4], 0, &[]));
+    assert!(rt; has_none(table, [239, 8, 0, 60]), "unresolved");
+    let (unspecified, group) = (
+        Addr::from_octets([0, 0, 0, 0]),
+        Addr::from_octets([239, 1, 2, 5]),
+    );
+    assert!(rt; table.exact(unspecified, group).is_none());
+    assert!(rt; table.wildcard(group));
+    assert!(rt; !is_wildcard(table, [239, 1, 2, 6]), "unresolved");
+    assert!(rt; !is_wildcard(table, GROUP));
+}
+
 #[test]
 fn answers_by_source_and_group(rt: HostRuntime) -> Result<(), Fail> {
     let table = CacheTable::read(rt.alloc(), MIXED, Order::Little)?;
-    let source = Addr::from_octets(SOURCE);
-    let full = table
-        .exact(source, Addr::from_octets(GROUP))
-        .ok_or("no entry")?;
-    let ascending = [
-        Oif {
-            vif: 0,
-            threshold: 1,
-        },
-        Oif {
-            vif: 7,
-            threshold: 3,
-        },
-        Oif {
-            vif: 31,
-            threshold: 254,
-        },
-    ];
-    assert_eq!(rt; full.iif, 31);
-    assert_eq!(rt; full.oifs.as_slice(), ascending.as_slice());
-    let empty = table
-        .exact(source, Addr::from_octets([239, 1, 2, 4]))
-        .ok_or("no entry")?;
-    assert_eq!(rt; empty.oifs.as_slice(), [].as_slice());
-    assert!(rt;
-        table
-            .exact(source, Addr::from_octets([239, 8, 0, 60]))
-            .is_none(),
-        "unresolved"
-    );
-    let unspecified = Addr::from_octets([0, 0, 0, 0]);
-    assert!(rt;
-        table
-            .exact(unspecified, Addr::from_octets([239, 1, 2, 5]))
-            .is_none()
-    );
-    assert!(rt; table.wildcard(Addr::from_octets([239, 1, 2, 5])));
-    assert!(rt;
-        !table.wildcard(Addr::from_octets([239, 1, 2, 6])),
-        "unresolved"
-    );
-    assert!(rt; !table.wildcard(Addr::from_octets(GROUP)));
+    check_mixed(&rt, &table);
+    Ok(())
+}
+
+#[test]
+fn row_for_every_group(rt: HostRuntime) -> Result<(), Fail> {
     let any = b"Group\n00000000 00000000 0 0 0 0 1:1\n";
-    let any = CacheTable::read(rt.alloc(), any, Order::Little)?;
-    assert!(rt; any.wildcard(Addr::from_octets(GROUP)), "every group");
+    let table = CacheTable::read(rt.alloc(), any, Order::Little)?;
+    assert!(rt; is_wildcard(&table, GROUP));
     Ok(())
 }
 

@@ -9,7 +9,7 @@ mod source;
 mod top;
 mod whole;
 
-use super::network::{NETWORK, answer, changed};
+use super::network::{NETWORK, changed, check_answer};
 use std::alloc::{AllocError, Global};
 use std::process::Abort;
 use std::test::Fail;
@@ -27,8 +27,7 @@ fn check(rt: &impl Abort, alloc: Global, case: &Case) -> Result<(), AllocError> 
     assert!(rt; NETWORK.contains(place), "{place}");
     for instead in case.instead {
         let text = changed(alloc, place, instead)?;
-        let found = answer(alloc, text.as_bytes())?;
-        assert_eq!(rt; found.as_str(), wanted, "at {instead}");
+        check_answer(rt, alloc, text.as_bytes(), wanted)?;
     }
     Ok(())
 }
@@ -44,8 +43,7 @@ fn check_each(rt: &impl Abort, alloc: Global, cases: &[Case]) -> Result<(), Allo
 /// Reads the whole texts.
 fn check_texts(rt: &impl Abort, alloc: Global) -> Result<(), AllocError> {
     for (text, wanted) in whole::TEXTS {
-        let found = answer(alloc, text.as_bytes())?;
-        assert_eq!(rt; found.as_str(), *wanted, "at {text}");
+        check_answer(rt, alloc, text.as_bytes(), wanted)?;
     }
     Ok(())
 }
@@ -53,8 +51,7 @@ fn check_texts(rt: &impl Abort, alloc: Global) -> Result<(), AllocError> {
 /// Reads the bytes that are no text.
 fn check_no_texts(rt: &impl Abort, alloc: Global) -> Result<(), AllocError> {
     for bytes in whole::NO_TEXTS {
-        let found = answer(alloc, bytes)?;
-        assert_eq!(rt; found.as_str(), "top 0: NotToml", "at {bytes:?}");
+        check_answer(rt, alloc, bytes, "top 0: NotToml")?;
     }
     Ok(())
 }

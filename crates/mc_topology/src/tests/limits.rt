@@ -1,6 +1,6 @@
 //! The greatest topology, and one past each limit.
 
-use super::network::{FLOWS, INTERFACES, LANS, NETWORK, ROUTERS, SOURCES, answer, changed};
+use super::network::{FLOWS, INTERFACES, LANS, NETWORK, ROUTERS, SOURCES, changed, check_answer};
 use std::alloc::{AllocError, Global};
 use std::process::Abort;
 use std::test::Fail;
@@ -131,8 +131,7 @@ fn counts(rt: HostRuntime) -> Result<(), Fail> {
         ),
     ] {
         let text = sized(rt.alloc(), &parts)?;
-        let found = answer(rt.alloc(), text.as_bytes())?;
-        assert_eq!(rt; found.as_str(), wanted);
+        check_answer(&rt, rt.alloc(), text.as_bytes(), wanted)?;
     }
     Ok(())
 }
@@ -164,8 +163,7 @@ fn counts_before_parts(rt: HostRuntime) -> Result<(), Fail> {
     ] {
         let list = ones(rt.alloc(), count)?;
         let text = changed(rt.alloc(), place, list.as_str())?;
-        let found = answer(rt.alloc(), text.as_bytes())?;
-        assert_eq!(rt; found.as_str(), wanted);
+        check_answer(&rt, rt.alloc(), text.as_bytes(), wanted)?;
     }
     Ok(())
 }
@@ -187,30 +185,42 @@ fn check_size(
     text: &mut String,
     wanted: &str,
 ) -> Result<(), AllocError> {
-    assert_eq!(rt; text.len(), 16_777_216);
-    let found = answer(alloc, text.as_bytes())?;
-    assert_eq!(rt; found.as_str(), wanted);
+    assert!(rt; text.len() == 16_777_216);
+    check_answer(rt, alloc, text.as_bytes(), wanted)?;
     text.push_str("#")?;
-    let found = answer(alloc, text.as_bytes())?;
-    assert_eq!(rt; found.as_str(), "top 0: TooMany");
+    check_answer(rt, alloc, text.as_bytes(), "top 0: TooMany")
+}
+
+/// The text of the network, with a comment behind it.
+fn padded(alloc: Global, comment: &str) -> Result<String, Fail> {
+    let behind = comment.get(NETWORK.len()..).ok_or("too short")?;
+    let mut text = String::from_str(alloc, NETWORK)?;
+    text.push_str(behind)?;
+    Ok(text)
+}
+
+#[test]
+fn size_of_a_network(rt: HostRuntime) -> Result<(), Fail> {
+    let comment = greatest_of(rt.alloc(), "#")?;
+    let mut text = padded(rt.alloc(), comment.as_str())?;
+    check_size(&rt, rt.alloc(), &mut text, "read")?;
     Ok(())
 }
 
 #[test]
 fn sizes(rt: HostRuntime) -> Result<(), Fail> {
-    let alloc = rt.alloc();
-    let mut comment = greatest_of(alloc, "#")?;
-    let mut padded = String::from_str(alloc, NETWORK)?;
-    padded.push_str(comment.as_str().get(NETWORK.len()..).ok_or("too short")?)?;
-    check_size(&rt, alloc, &mut padded, "read")?;
-    check_size(&rt, alloc, &mut comment, "top 0: MissingKey")?;
-    let mut no_toml = greatest_of(alloc, "=")?;
-    check_size(&rt, alloc, &mut no_toml, "top 0: NotToml")?;
+    for (byte, wanted) in [("#", "top 0: MissingKey"), ("=", "top 0: NotToml")] {
+        let mut text = greatest_of(rt.alloc(), byte)?;
+        check_size(&rt, rt.alloc(), &mut text, wanted)?;
+    }
+    Ok(())
+}
 
-    // Too many bytes come before bytes that are no text.
-    let mut no_text = no_toml.into_bytes();
-    no_text.push(0xFF)?;
-    let found = answer(alloc, no_text.as_slice())?;
-    assert_eq!(rt; found.as_str(), "top 0: TooMany");
+/// Too many bytes come before bytes that are no text.
+#[test]
+fn size_of_no_text(rt: HostRuntime) -> Result<(), Fail> {
+    let no_text = vec![in rt.alloc(); 0xFFu8; 16_777_217]?;
+    check_answer(&rt, rt.alloc(), no_text.as_slice(), "top 0: TooMany")?;
+    check_answer(&rt, rt.alloc(), &no_text[1..], "top 0: NotToml")?;
     Ok(())
 }

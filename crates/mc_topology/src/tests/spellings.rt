@@ -2,6 +2,7 @@
 
 use super::network::NETWORK;
 use crate::Topology;
+use std::alloc::Global;
 use std::test::Fail;
 
 const SPELLINGS: &[&str] = &[
@@ -51,13 +52,23 @@ source = [{address = \"10.0.0.5\", lan = \"l0\"}]\r
 flow = [{source = \"10.0.0.5\", group = \"239.1.2.3\", ttl = 3}]",
 ];
 
+/// A topology with all that it holds, as it is shown for a test.
+fn shown(alloc: Global, topology: &Topology) -> Result<String, Fail> {
+    Ok(format!(in alloc; "{topology:?}")?)
+}
+
+/// The same of the topology of a text.
+fn read_shown(alloc: Global, text: &str) -> Result<String, Fail> {
+    let topology = Topology::read(alloc, text.as_bytes())?;
+    shown(alloc, &topology)
+}
+
 #[test]
 fn spellings(rt: HostRuntime) -> Result<(), Fail> {
-    let plain = Topology::read(rt.alloc(), NETWORK.as_bytes())?;
-    let plain = format!(in rt.alloc(); "{plain:?}")?;
+    let plain = read_shown(rt.alloc(), NETWORK)?;
     for text in SPELLINGS {
-        let other = Topology::read(rt.alloc(), text.as_bytes())?;
-        assert_eq!(rt; format!(in rt.alloc(); "{other:?}")?, plain, "at {text}");
+        let other = read_shown(rt.alloc(), text)?;
+        assert!(rt; other == plain, "at {text}");
     }
     Ok(())
 }

@@ -215,12 +215,7 @@ fn faults_of_lists(rt: HostRuntime) -> Result<(), Fail> {
 }
 
 // A text is read as no record, or has this fault.
-fn check_shown(
-    rt: &impl Abort,
-    alloc: Global,
-    text: &str,
-    want: &str,
-) -> Result<(), AllocError> {
+fn check_shown(rt: &impl Abort, alloc: Global, text: &str, want: &str) -> Result<(), AllocError> {
     let shown = list_shown(alloc, text)?;
     assert!(rt; shown.as_str() == want, "{shown}");
     Ok(())
@@ -247,7 +242,12 @@ fn most_lines(rt: HostRuntime) -> Result<(), Fail> {
     let mut lines = repeated(rt.alloc(), "1164ee9b00000000\n", 65_536)?;
     check_shown(&rt, rt.alloc(), lines.as_str(), "")?;
     lines.push_str("zz\n")?;
-    check_shown(&rt, rt.alloc(), lines.as_str(), "line 65537 record 0: TooLarge")?;
+    check_shown(
+        &rt,
+        rt.alloc(),
+        lines.as_str(),
+        "line 65537 record 0: TooLarge",
+    )?;
     Ok(())
 }
 

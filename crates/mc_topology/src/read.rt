@@ -13,7 +13,8 @@ ghost use Rattle.std.specs.Prelude.{◌≡◌, ◌≢◌, Ok, Err, IfErr, IfOk};
 ghost use Rattle.toml.specs.View.{table_view};
 ghost use Rattle.mc_topology.specs.declared.fault.Section.TheVariants as section;
 ghost use Rattle.mc_topology.specs.Answer.{out_of_memory, place};
-ghost use Rattle.mc_topology.specs.Reading.{document_of, version_in, topology_in, reading_of};
+ghost use Rattle.mc_topology.specs.Document.{has_only};
+ghost use Rattle.mc_topology.specs.Reading.{top_keys, document_of, version_in, topology_in, reading_of};
 
 use crate::fault::{Section, TopologyFault, TopologyFaultKind, place};
 use crate::topology::Topology;
@@ -44,15 +45,22 @@ fn document_of(alloc: Global, text: &[u8]) -> Result<Table, TopologyFault>
     }
 }
 
+/// Whether the table has no key but those of a topology.
+fn has_top_keys(table: &Table) -> bool
+    ensures { result ≡ has_only top_keys (table_view table.now) }
+{
+    has_only(
+        table,
+        &["version", "lans", "router", "interface", "source", "flow"],
+    )
+}
+
 /// Looks at the keys and the version.
 #[tactic(auto, unfolding(crate::specs::Reading::version_in))]
 fn version_in(table: &Table) -> Result<(), TopologyFaultKind>
     ensures { result ≡ version_in (table_view table.now) }
 {
-    if !has_only(
-        table,
-        &["version", "lans", "router", "interface", "source", "flow"],
-    ) {
+    if !has_top_keys(table) {
         return Err(TopologyFaultKind::UnknownKey);
     }
     let version = number_at(table, "version")?;

@@ -77,10 +77,10 @@ pub(super) fn topology_of(alloc: Global, network: &Network<'_>) -> Result<Topolo
     Ok(Topology::read(alloc, text.as_bytes())?)
 }
 
+const VIF_HEADER: &str = "Interface BytesIn PktsIn BytesOut PktsOut Flags Local Remote\n";
+
 fn vifs_of(alloc: Global, rows: &str) -> Result<VifTable, Fail> {
-    let text = format!(in alloc;
-        "Interface BytesIn PktsIn BytesOut PktsOut Flags Local Remote\n{rows}"
-    )?;
+    let text = format!(in alloc; "{VIF_HEADER}{rows}")?;
     Ok(VifTable::read(alloc, text.as_bytes())?)
 }
 

@@ -6,9 +6,8 @@
 use super::network::*;
 use crate::{Carried, Domain, DomainFault, Event, Flight, Outcome, Refused, Stray, Tables};
 use mc_igmp::ReportList;
-use mc_text::Memory;
 use mc_topology::{LanNo, Topology};
-use std::alloc::Global;
+use std::alloc::{AllocError, Global};
 use std::process::Abort;
 use std::test::Fail;
 
@@ -111,33 +110,50 @@ fn lan_of(rt: &impl Abort, domain: &Domain, lan: u32) -> (bool, usize) {
     )
 }
 
-/// The flight shows what it showed before.
-fn is_as_before(
-    rt: &impl Abort,
-    flight: &Flight<'_>,
+/// What a flight shows.
+#[derive(Drop)]
+struct Before {
     waiting: usize,
-    copies: &[Carried],
-    strays: &[Stray],
-) {
-    assert_eq!(rt; flight.waiting(), waiting);
-    assert_eq!(rt; flight.copies(), copies);
-    assert_eq!(rt; flight.strays(), strays);
+    copies: Vec<Carried>,
+    strays: Vec<Stray>,
+}
+
+fn shown_by(alloc: Global, flight: &Flight<'_>) -> Result<Before, AllocError> {
+    let copies = flight.copies().to_vec(alloc)?;
+    let strays = flight.strays().to_vec(alloc)?;
+    let waiting = flight.waiting();
+    Ok(Before {
+        waiting,
+        copies,
+        strays,
+    })
+}
+
+/// The flight shows what it showed before.
+fn is_as_before(rt: &impl Abort, flight: &Flight<'_>, before: &Before) {
+    assert!(rt; flight.waiting() == before.waiting);
+    assert!(rt; flight.copies() == before.copies.as_slice());
+    assert!(rt; flight.strays() == before.strays.as_slice());
 }
 
 /// The handling of the first waiting copy. Where a growth is refused the flight is as it was, and
 /// the handling can be asked for again.
-fn handled_at_last(rt: &impl Abort, alloc: Global, flight: &mut Flight<'_>) -> Result<Event, Fail> {
-    let copies = flight.copies().to_vec(alloc)?;
-    let strays = flight.strays().to_vec(alloc)?;
-    let waiting = flight.waiting();
-    assert!(rt; waiting > 0);
-    match flight.handle(0) {
-        Ok(event) => Ok(event),
-        Err(Memory) => {
-            is_as_before(rt, flight, waiting, &copies, &strays);
-            handled(rt, flight, 0)
-        }
+fn handled_or_as_before(
+    rt: &impl Abort,
+    flight: &mut Flight<'_>,
+    before: &Before,
+) -> Result<Event, Fail> {
+    assert!(rt; flight.waiting() > 0);
+    if let Ok(event) = flight.handle(0) {
+        return Ok(event);
     }
+    is_as_before(rt, flight, before);
+    handled(rt, flight, 0)
+}
+
+fn handled_at_last(rt: &impl Abort, alloc: Global, flight: &mut Flight<'_>) -> Result<Event, Fail> {
+    let before = shown_by(alloc, flight)?;
+    handled_or_as_before(rt, flight, &before)
 }
 
 /// What the handling with this number shows, counted from 0. r1 sends onto l1 and l2, and each of

@@ -3,7 +3,29 @@
 ghost use Rattle.std.specs.Prelude.{None};
 
 use crate::*;
+use std::alloc::Global;
 use std::test::Fail;
+
+/// The bundle of these parts.
+fn written(alloc: Global, parts: &[Part<'_>]) -> Result<Vec<u8>, BundleFault> {
+    let mut output = ToWriter::new(Vec::new(alloc));
+    write_bundle(parts, &mut output)?;
+    Ok(output.into_inner())
+}
+
+/// Whether the bundle has these parts and no other.
+fn has_parts(bundle: &Bundle<'_>, parts: &[Part<'_>]) -> bool {
+    if bundle.count() != parts.len() {
+        return false;
+    }
+    for (place, wanted) in parts.iter().enumerate() {
+        let found = bundle.part(place);
+        if found.name != wanted.name || found.bytes != wanted.bytes {
+            return false;
+        }
+    }
+    true
+}
 
 #[test]
 fn writes_what_is_read_again(rt: HostRuntime) -> Result<(), Fail> {
@@ -19,18 +41,11 @@ fn writes_what_is_read_again(rt: HostRuntime) -> Result<(), Fail> {
             bytes: b"",
         },
     ];
-    let mut output = ToWriter::new(Vec::new(rt.alloc()));
-    write_bundle(&parts, &mut output)?;
-    let text = output.into_inner();
+    let text = written(rt.alloc(), &parts)?;
     let want = b"mcaudit bundle 1\npart topology 12\nversion = 1\n\npart cache/r1 0\n\nend\n";
-    assert_eq!(rt; text.as_slice(), want.as_slice());
-
+    assert!(rt; text.as_slice() == want.as_slice());
     let bundle = Bundle::read(rt.alloc(), &text)?;
-    assert_eq!(rt; bundle.count(), 2);
-    let first = bundle.part(0);
-    assert_eq!(rt; first.name.as_bytes(), b"topology".as_slice());
-    assert_eq!(rt; first.bytes, b"version = 1\n".as_slice());
-    assert!(rt; bundle.part(1).name == cache);
+    assert!(rt; has_parts(&bundle, &parts));
     Ok(())
 }
 
@@ -78,12 +93,9 @@ fn the_greatest_part_is_written_and_read(rt: HostRuntime) -> Result<(), Fail> {
         name,
         bytes: &bytes,
     }];
-    let mut output = ToWriter::new(Vec::new(rt.alloc()));
-    write_bundle(&parts, &mut output)?;
-    let text = output.into_inner();
+    let text = written(rt.alloc(), &parts)?;
     let bundle = Bundle::read(rt.alloc(), &text)?;
-    assert_eq!(rt; bundle.count(), 1);
-    assert!(rt; bundle.part(0).bytes == bytes.as_slice());
+    assert!(rt; has_parts(&bundle, &parts));
     Ok(())
 }
 

@@ -1,6 +1,7 @@
 //! Bundles that are read.
 
 use crate::*;
+use std::process::Abort;
 use std::test::Fail;
 
 const LINE_OF_95: &[u8] = b"mcaudit bundle 1\n\
@@ -24,6 +25,17 @@ const ONE_EMPTY_PART: &[(&[u8], &[u8])] = &[(b"a", b"")];
 
 const TWO_PARTS: &[(&[u8], &[u8])] = &[(b"a/b", b"x\ny"), (b"c", b"\nend\n")];
 
+/// The bundle has these parts, each a name and bytes, and no other.
+fn check_parts(rt: &impl Abort, bundle: &Bundle<'_>, parts: &[(&[u8], &[u8])]) {
+    assert!(rt; bundle.count() == parts.len());
+    for place in 0..bundle.count() {
+        let part = bundle.part(place);
+        let (name, bytes) = parts.get(place).copied().unwrap_or_default();
+        assert!(rt; part.name.as_bytes() == name);
+        assert!(rt; part.bytes == bytes);
+    }
+}
+
 #[test]
 fn tells_the_parts(rt: HostRuntime) -> Result<(), Fail> {
     for (text, parts) in [
@@ -35,13 +47,7 @@ fn tells_the_parts(rt: HostRuntime) -> Result<(), Fail> {
         ),
     ] {
         let bundle = Bundle::read(rt.alloc(), text)?;
-        assert_eq!(rt; bundle.count(), parts.len());
-        for place in 0..bundle.count() {
-            let part = bundle.part(place);
-            let (name, bytes) = parts.get(place).copied().unwrap_or_default();
-            assert_eq!(rt; part.name.as_bytes(), name);
-            assert_eq!(rt; part.bytes, bytes);
-        }
+        check_parts(&rt, &bundle, parts);
     }
     Ok(())
 }

@@ -22,7 +22,10 @@ fn reads_an_input_to_its_end_or_the_limit(rt: HostRuntime) -> Result<(), Fail> {
     ] {
         let mut input = FaultyInput::new(TEXT, piece, 100);
         let bytes = read_to_limit(rt.alloc(), &mut input, limit)?;
-        assert_eq!(rt; bytes.as_slice(), want, "{piece} at a time, up to {limit}");
+        assert!(rt;
+            bytes.as_slice() == want,
+            "{piece} at a time, up to {limit}"
+        );
         assert_eq!(rt; input.failures(), 0);
     }
     Ok(())
@@ -52,22 +55,29 @@ fn writes_a_text_up_to_where_the_output_stops(rt: HostRuntime) {
 }
 
 #[test]
-fn goes_through_memory(rt: HostRuntime) -> Result<(), Fail> {
+fn reads_from_memory(rt: HostRuntime) -> Result<(), Fail> {
     let mut input = FromReader::new(TEXT);
     let bytes = read_to_limit(rt.alloc(), &mut input, 6)?;
-    assert_eq!(rt; bytes.as_slice(), b"wanted".as_slice());
+    assert!(rt; bytes.as_slice() == b"wanted".as_slice());
     assert_eq!(rt; Input::failures(&input), 0);
-    assert_eq!(rt; input.into_inner(), b"\n".as_slice());
-
-    let mut output = ToWriter::new(Vec::new(rt.alloc()));
-    write_all(&mut output, &bytes)?;
-    assert_eq!(rt; Output::failures(&output), 0);
-    assert_eq!(rt; output.into_inner().as_slice(), b"wanted".as_slice());
-
-    let mut cursor = ToWriter::new(Cursor::new([0u8; 4]));
-    assert!(rt; write_all(&mut cursor, &bytes).is_err());
-    assert_eq!(rt; Output::failures(&cursor), 1);
+    assert!(rt; input.into_inner() == b"\n".as_slice());
     Ok(())
+}
+
+#[test]
+fn writes_into_memory(rt: HostRuntime) -> Result<(), Fail> {
+    let mut output = ToWriter::new(Vec::new(rt.alloc()));
+    write_all(&mut output, b"wanted")?;
+    assert_eq!(rt; Output::failures(&output), 0);
+    assert!(rt; output.into_inner().as_slice() == b"wanted".as_slice());
+    Ok(())
+}
+
+#[test]
+fn a_full_writer_fails(rt: HostRuntime) {
+    let mut cursor = ToWriter::new(Cursor::new([0u8; 4]));
+    assert!(rt; write_all(&mut cursor, b"wanted").is_err());
+    assert_eq!(rt; Output::failures(&cursor), 1);
 }
 
 /// Reads up to four bytes through a reference to the input. Its clauses show that the lender knows
@@ -95,18 +105,21 @@ fn write_lent<W: Output>(output: &mut W, text: &[u8]) -> Result<(), DeviceFault>
 }
 
 #[test]
-fn goes_through_lent_devices(rt: HostRuntime) -> Result<(), Fail> {
+fn reads_through_a_lent_input(rt: HostRuntime) -> Result<(), Fail> {
     let mut input = FromReader::new(TEXT);
-    let front = read_lent(rt.alloc(), &mut input)?;
-    assert_eq!(rt; front.as_slice(), b"want".as_slice());
-    let rest = read_lent(rt.alloc(), &mut input)?;
-    assert_eq!(rt; rest.as_slice(), b"ed\n".as_slice());
+    for wanted in [b"want".as_slice(), b"ed\n"] {
+        let bytes = read_lent(rt.alloc(), &mut input)?;
+        assert!(rt; bytes.as_slice() == wanted);
+    }
     assert_eq!(rt; Input::failures(&&mut input), 0);
-
-    let mut output = FaultyOutput::new(rt.alloc(), 3, 5, Stop::Error);
-    assert!(rt; write_lent(&mut output, &front).is_ok());
-    assert_eq!(rt; write_lent(&mut output, &rest), Err(DeviceFault));
-    assert_eq!(rt; output.taken(), b"wante".as_slice());
-    assert_eq!(rt; Output::failures(&&mut output), 1);
     Ok(())
+}
+
+#[test]
+fn writes_through_a_lent_output(rt: HostRuntime) {
+    let mut output = FaultyOutput::new(rt.alloc(), 3, 5, Stop::Error);
+    assert!(rt; write_lent(&mut output, b"want").is_ok());
+    assert!(rt; write_lent(&mut output, b"ed\n") == Err(DeviceFault));
+    assert!(rt; output.taken() == b"wante".as_slice());
+    assert_eq!(rt; Output::failures(&&mut output), 1);
 }

@@ -6,11 +6,16 @@ use std::test::Fail;
 #[test]
 fn addresses(rt: HostRuntime) -> Result<(), Fail> {
     let source = Addr::parse_dotted(b"10.0.0.5").ok_or("an address")?;
-    assert_eq!(rt; source.octets().as_slice(), [10, 0, 0, 5].as_slice());
+    assert!(rt; source.octets() == [10, 0, 0, 5]);
     assert_eq!(rt; source.to_string(rt.alloc())?.as_str(), "10.0.0.5");
     let group = Addr::parse_dotted(b"239.1.2.3").ok_or("an address")?;
     assert!(rt; source < group);
-    assert_eq!(rt; Addr::from_octets([239, 1, 2, 3]), group);
+    assert!(rt; Addr::from_octets([239, 1, 2, 3]) == group);
+    Ok(())
+}
+
+#[test]
+fn texts_that_are_no_addresses(rt: HostRuntime) {
     for text in [
         "239.1.2.03",
         "1.2.3",
@@ -21,9 +26,8 @@ fn addresses(rt: HostRuntime) -> Result<(), Fail> {
         "",
         "1..2.3",
     ] {
-        assert_eq!(rt; Addr::parse_dotted(text.as_bytes()), None, "at {text}");
+        assert!(rt; Addr::parse_dotted(text.as_bytes()).is_none(), "at {text}");
     }
-    Ok(())
 }
 
 #[test]

@@ -74,22 +74,39 @@ pub(crate) fn assemble(rt: &impl Clock, alloc: Global, text: &[u8]) -> anyhow::R
     Ok(Step { took, good })
 }
 
+/// The domain of a bundle.
+fn domain_in(alloc: Global, text: &[u8]) -> anyhow::Result<Domain> {
+    let input = input_of(alloc, text).context("the bundle is refused")?;
+    domain_of(alloc, input).context("no domain")
+}
+
+/// Whether the travel of the first flow's packet is clean.
+fn travels_clean(alloc: Global, domain: &Domain) -> bool {
+    travel_of(alloc, domain).is_some_and(|travel| is_clean(&travel))
+}
+
+fn travel_in(rt: &impl Clock, alloc: Global, domain: &Domain) -> anyhow::Result<Step> {
+    let start = Instant::now(rt)?;
+    let good = travels_clean(alloc, domain);
+    let took = start.elapsed(rt)?;
+    Ok(Step { took, good })
+}
+
 /// Following a packet of the first flow.
 pub(crate) fn travel(rt: &impl Clock, alloc: Global, text: &[u8]) -> anyhow::Result<Step> {
-    let input = input_of(alloc, text).context("the bundle is refused")?;
-    let domain = domain_of(alloc, input).context("no domain")?;
+    let domain = domain_in(alloc, text)?;
+    travel_in(rt, alloc, &domain)
+}
+
+fn examine_in(rt: &impl Clock, alloc: Global, domain: &Domain) -> anyhow::Result<Step> {
     let start = Instant::now(rt)?;
-    let good = travel_of(alloc, &domain).is_some_and(|travel| is_clean(&travel));
+    let good = are_right(alloc, domain);
     let took = start.elapsed(rt)?;
     Ok(Step { took, good })
 }
 
 /// Examining each flow.
 pub(crate) fn examine(rt: &impl Clock, alloc: Global, text: &[u8]) -> anyhow::Result<Step> {
-    let input = input_of(alloc, text).context("the bundle is refused")?;
-    let domain = domain_of(alloc, input).context("no domain")?;
-    let start = Instant::now(rt)?;
-    let good = are_right(alloc, &domain);
-    let took = start.elapsed(rt)?;
-    Ok(Step { took, good })
+    let domain = domain_in(alloc, text)?;
+    examine_in(rt, alloc, &domain)
 }

@@ -7,7 +7,8 @@ here=$(cd "$(dirname "$0")" && pwd)
 room=$(mktemp -d)
 trap 'rm -rf "$room"' EXIT
 trap 'exit 1' HUP INT TERM
-cp -R "$here/../../crates" "$here/../../crates.txt" "$here/../../HANDLES" "$room"
+# (what is built stays with it, and what is half done doesn't)
+tar -C "$here/../.." --exclude=out/incremental -cf - crates crates.txt HANDLES | tar -C "$room" -xf -
 for folder in "$here"/*/; do
     crate=$(basename "$folder")
     rm -rf "$room/crates/$crate/must-fail"

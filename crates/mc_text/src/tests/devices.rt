@@ -107,10 +107,10 @@ fn write_lent<W: Output>(output: &mut W, text: &[u8]) -> Result<(), DeviceFault>
 #[test]
 fn reads_through_a_lent_input(rt: HostRuntime) -> Result<(), Fail> {
     let mut input = FromReader::new(TEXT);
-    for wanted in [b"want".as_slice(), b"ed\n"] {
-        let bytes = read_lent(rt.alloc(), &mut input)?;
-        assert!(rt; bytes.as_slice() == wanted);
-    }
+    let front = read_lent(rt.alloc(), &mut input)?;
+    assert!(rt; front.as_slice() == b"want".as_slice());
+    let rest = read_lent(rt.alloc(), &mut input)?;
+    assert!(rt; rest.as_slice() == b"ed\n".as_slice());
     assert_eq!(rt; Input::failures(&&mut input), 0);
     Ok(())
 }

@@ -1,6 +1,7 @@
 //! Texts of `/proc/net/ip_mr_vif`.
 
 use crate::{TableFault, TableFaultKind, VifTable};
+use std::process::Abort;
 use std::test::Fail;
 
 /// A table with all that a line may have, its indexes in no order.
@@ -12,34 +13,59 @@ const TABLE: &[u8] = b"Interface      BytesIn  PktsIn  BytesOut PktsOut Flags Lo
  1 none 0 0 0 0 00000008 00000002 00000000
 ";
 
+/// A vif's index, its device, and whether it is a tunnel or a register.
+type VifRow = (u8, &'static [u8], bool, bool);
+
+/// Whether the table has this vif.
+fn has_vif(table: &VifTable, row: &VifRow) -> bool {
+    let (index, device, tunnel, register) = *row;
+    match table.vif(index) {
+        Some(vif) => {
+            vif.device() == device && vif.tunnel() == tunnel && vif.register() == register
+        }
+        None => false,
+    }
+}
+
+/// The table has these vifs.
+fn check_vifs(rt: &impl Abort, table: &VifTable, rows: &[VifRow]) {
+    for row in rows {
+        assert!(rt; has_vif(table, row), "at {}", row.0);
+    }
+}
+
+/// What else the table of those lines answers.
+fn check_look_ups(rt: &impl Abort, table: &VifTable) {
+    assert!(rt; table.vif(3).is_none());
+    assert!(rt; table.vif(255).is_none());
+    assert!(rt; table.index_of(b"pimreg") == Some(31));
+    assert!(rt; table.index_of(b"eth0") == Some(0));
+    assert!(rt; table.index_of(b"none").is_none());
+    assert!(rt; table.index_of(b"eth1").is_none());
+}
+
 #[test]
 fn reads_vifs(rt: HostRuntime) -> Result<(), Fail> {
-    let table = VifTable::read(rt.alloc(), TABLE)?;
-    let rows: [(u8, &[u8], bool, bool); 5] = [
+    let rows: [VifRow; 5] = [
         (0, b"eth0", false, false),
         (1, b"none", false, false),
         (2, b"a.name_of15byte", true, false),
         (7, b"none", false, false),
         (31, b"pimreg", false, true),
     ];
-    for (index, device, tunnel, register) in rows {
-        let vif = table.vif(index).ok_or("no vif")?;
-        assert_eq!(rt; vif.device(), device, "at {index}");
-        assert_eq!(rt; vif.tunnel(), tunnel, "at {index}");
-        assert_eq!(rt; vif.register(), register, "at {index}");
-    }
-    assert!(rt; table.vif(3).is_none());
-    assert!(rt; table.vif(255).is_none());
-    assert_eq!(rt; table.index_of(b"pimreg"), Some(31));
-    assert_eq!(rt; table.index_of(b"eth0"), Some(0));
-    assert_eq!(rt; table.index_of(b"none"), None);
-    assert_eq!(rt; table.index_of(b"eth1"), None);
+    let table = VifTable::read(rt.alloc(), TABLE)?;
+    check_vifs(&rt, &table, &rows);
+    check_look_ups(&rt, &table);
+    Ok(())
+}
 
+#[test]
+fn reads_vifs_without_devices(rt: HostRuntime) -> Result<(), Fail> {
+    let rows: [VifRow; 2] = [(0, b"none", false, false), (1, b"none", false, false)];
     let table = VifTable::read(rt.alloc(), WITHOUT_DEVICES)?;
-    assert_eq!(rt; table.vif(0).ok_or("no vif")?.device(), b"none".as_slice());
-    assert_eq!(rt; table.vif(1).ok_or("no vif")?.device(), b"none".as_slice());
+    check_vifs(&rt, &table, &rows);
     assert!(rt; table.vif(2).is_none());
-    assert_eq!(rt; table.index_of(b"none"), None);
+    assert!(rt; table.index_of(b"none").is_none());
     Ok(())
 }
 

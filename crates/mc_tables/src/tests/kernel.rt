@@ -2,6 +2,7 @@
 
 use crate::{CacheTable, Oif, VifTable};
 use mc_text::{Addr, Order};
+use std::process::Abort;
 use std::test::Fail;
 
 /// As a Linux kernel printed it: a router with as many vifs as there can be.
@@ -122,14 +123,14 @@ C80201EF 0500000A 0          0        0        0  1:1
 ";
 
 /// The devices of the router with all vifs, by index.
-const DEVICES: [&[u8]; 32] = [
+const DEVICES: &[&[u8]] = &[
     b"e15", b"e16", b"e17", b"e18", b"e19", b"e20", b"e21", b"e22", b"e23", b"e24", b"e25", b"e26",
     b"e27", b"e28", b"e29", b"e30", b"e31", b"e0", b"e1", b"e2", b"e3", b"e4", b"e5", b"e6", b"e7",
     b"e8", b"e9", b"e10", b"e11", b"e12", b"e13", b"e14",
 ];
 
 /// What the row says of each outgoing vif and its threshold.
-const OIFS: [(u8, u8); 31] = [
+const OIFS: &[(u8, u8)] = &[
     (0, 4),
     (1, 1),
     (2, 2),
@@ -163,29 +164,57 @@ const OIFS: [(u8, u8); 31] = [
     (31, 3),
 ];
 
+/// Whether the vif with this index has this device, and is neither a tunnel nor a register.
+fn has_device(table: &VifTable, index: u8, device: &[u8]) -> bool {
+    match table.vif(index) {
+        Some(vif) => vif.device() == device && !vif.tunnel() && !vif.register(),
+        None => false,
+    }
+}
+
+/// Each vif has its device, and each device its vif.
+fn check_all_vifs(rt: &impl Abort, table: &VifTable) {
+    for (index, device) in (0..32).zip(DEVICES) {
+        assert!(rt; has_device(table, index, device), "at {index}");
+        assert!(rt; table.index_of(device) == Some(index));
+    }
+    assert!(rt; table.vif(32).is_none());
+    assert!(rt; table.index_of(b"e32").is_none());
+}
+
 #[test]
 fn reads_a_router_with_all_vifs(rt: HostRuntime) -> Result<(), Fail> {
     let table = VifTable::read(rt.alloc(), ALL_VIFS)?;
-    for (index, device) in (0..32).zip(DEVICES) {
-        let vif = table.vif(index).ok_or("no vif")?;
-        assert_eq!(rt; vif.device(), device, "at {index}");
-        assert!(rt; !vif.tunnel() && !vif.register(), "at {index}");
-        assert_eq!(rt; table.index_of(device), Some(index));
-    }
-    assert!(rt; table.vif(32).is_none());
-    assert_eq!(rt; table.index_of(b"e32"), None);
+    check_all_vifs(&rt, &table);
+    Ok(())
+}
 
-    let cache = CacheTable::read(rt.alloc(), ALL_OTHER_VIFS, Order::Little)?;
-    let (source, group) = (
-        Addr::from_octets([10, 0, 0, 5]),
-        Addr::from_octets([239, 1, 2, 3]),
-    );
-    let entry = cache.exact(source, group).ok_or("no entry")?;
-    assert_eq!(rt; entry.iif, 17);
-    assert_eq!(rt; entry.oifs.as_slice().len(), 31);
-    for (oif, (vif, threshold)) in entry.oifs.as_slice().iter().zip(OIFS) {
-        assert_eq!(rt; *oif, Oif { vif, threshold });
+/// Whether these are all vifs but one, with their thresholds.
+fn are_all_others(oifs: &[Oif]) -> bool {
+    if oifs.len() != OIFS.len() {
+        return false;
     }
+    for (oif, (vif, threshold)) in oifs.iter().zip(OIFS) {
+        if oif.vif != *vif || oif.threshold != *threshold {
+            return false;
+        }
+    }
+    true
+}
+
+/// Whether the row sends on to all vifs but the one that it takes from.
+fn sends_to_all_others(cache: &CacheTable) -> bool {
+    let source = Addr::from_octets([10, 0, 0, 5]);
+    match cache.exact(source, Addr::from_octets([239, 1, 2, 3])) {
+        Some(entry) => entry.iif == 17 && are_all_others(entry.oifs.as_slice()),
+        None => false,
+    }
+}
+
+#[test]
+fn reads_a_row_with_all_other_vifs(rt: HostRuntime) -> Result<(), Fail> {
+    let cache = CacheTable::read(rt.alloc(), ALL_OTHER_VIFS, Order::Little)?;
+    assert!(rt; sends_to_all_others(&cache));
     Ok(())
 }
 

@@ -1,7 +1,7 @@
 # make            builds the proved program, crates/mcaudit/out/mcaudit
 # make example    shows an audit of a fault and of its mending, and the whole way to a verdict; by the program if it is built
-# make test       the gate: every proof, the edits that must fail, the tests, the command-line cases, and those of tools/
-# make edits      tries further wrong bodies, which the prover must refuse; CRATES="mc_text mc_igmp" are those of some crates
+# make test       the gate: every proof, the edits that must fail, the tests, the command-line cases, and those of tools/;
+#                 REPORT=bench/gate.md writes what each part took
 # make bench      does steps of a run on large texts, and prints what they took in time and memory (it needs python3)
 # make lab        from routers to a verdict, in network namespaces (it needs root, smcroute, tcpdump and python3)
 # make install    puts the program and its tools into $(PREFIX)/bin, the manual page and the completion into $(PREFIX)/share
@@ -9,14 +9,17 @@
 PREFIX ?= /usr/local
 PROGRAM = crates/mcaudit/out/mcaudit
 MEASURE = crates/measure/out/measure
-SOURCES = $(shell find crates -path '*/out' -prune -o -type f \( -name '*.rt' -o -name '*.antt' \) -print) crates.txt
+SOURCES = $(shell find crates \( -path '*/out' -o -path 'crates/mc_tests_*' \) -prune -o -type f \( -name '*.rt' -o -name '*.antt' \) -print) crates.txt
+# the libraries below the program, lowest first
+LIBRARIES = $(filter-out mcaudit measure mc_samples mc_tests_%,$(shell sed -n 's/^\([a-z_]*\):.*/\1/p' crates.txt))
 
-.PHONY: all example test edits bench lab install
+.PHONY: all example test bench lab install
 
 all: $(PROGRAM)
 
 $(PROGRAM): $(SOURCES)
 	rm -f $(PROGRAM)
+	sh crates/prove.sh $(LIBRARIES)
 	cd crates/mcaudit && rt run -- check < stdin
 	test -x $(PROGRAM)
 
@@ -25,18 +28,14 @@ example:
 		sh examples/whole_way.sh $(PROGRAM); else sh examples/whole_way.sh; fi
 
 test:
-	rt ci
-	sh tests/cli/run.sh $(PROGRAM)
-	sh tests/tools/run.sh
-
-edits:
-	sh tests/edits/run.sh $(CRATES)
+	python3 tests/gate/run.py $(REPORT)
 
 bench: $(MEASURE)
 	python3 bench/run.py $(MEASURE)
 
 $(MEASURE): $(SOURCES)
 	rm -f $(MEASURE)
+	sh crates/prove.sh $(LIBRARIES)
 	cd crates/measure && rt run -- vif /dev/null
 	test -x $(MEASURE)
 

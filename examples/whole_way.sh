@@ -3,8 +3,9 @@
 # script: what an audit says of the second, whose domain has a fault, and of the same with the fault mended; the
 # certificate and the verdict of the first; and the travel that shows the fault. Usage: whole_way.sh [PROGRAM]
 #
-# Without a program the source runs unproved, by `rt try`: that takes about a minute for each command, and not
-# the time of all proofs.
+# The folder steps/ has of each step its words and what it must write; a step that reads gets what the step
+# before it must write. Without a program the source runs unproved, by `rt try`, which builds it once for all
+# steps: that takes two or three minutes, and not the time of all proofs.
 
 examples=$(cd "$(dirname "$0")" && pwd) || exit 1
 program=
@@ -13,60 +14,76 @@ if [ $# -gt 0 ]; then
 fi
 scratch=$(mktemp -d) || exit 1
 trap 'rm -rf "$scratch"' EXIT
-cp -R "$examples/network" "$examples/second-router" "$scratch" || exit 1
+cp -R "$examples/network" "$examples/second-router" "$examples/steps" "$scratch" || exit 1
 cd "$scratch" || exit 1
 cp -R second-router mended || exit 1
-rm -f network/certificate
+sed /0500000A/d second-router/cache-r3 > mended/cache-r3
+cp steps/make-network.stdout network/certificate
 
-# Runs the source on the words, unproved, with copies of the files of all folders.
-try_mcaudit() {
-    set -- -- "$@"
-    for file in network/* second-router/* mended/*; do
-        set -- --data "$file=$scratch/$file" "$@"
-    done
-    (cd "$examples/../crates/mcaudit" && rt try "$@" 2> "$scratch/said")
-    status=$?
-    grep -q '^run=ended' said || cat said >&2
-    return "$status"
-}
+# Each step, its standard input, and its status.
+statuses='
+audit-second-router - 1
+audit-mended - 0
+pack-network - 0
+make-network pack-network 0
+pack-certified - 0
+check-certified pack-certified 0
+pack-second-router - 0
+replay-second-router pack-second-router 1
+'
 
-# Runs the program on the words after the first two: its standard output goes to the file, and its status has
-# to be the wanted one.
-run_to() {
-    file=$1
-    wanted=$2
-    shift 2
-    if [ -n "$program" ]; then "$program" "$@" > "$file"; else try_mcaudit "$@" > "$file"; fi
-    status=$?
-    [ "$status" = "$wanted" ] && return
-    echo "mcaudit $*: status $status, not $wanted" >&2
+fail() {
+    echo "$*" >&2
     exit 1
 }
 
-[ -n "$program" ] || echo "(no program is built: its source runs unproved; \`make\` proves and builds it)"
+# Runs the program on each step.
+run_program() {
+    echo "$statuses" | while read -r step _ _; do
+        [ -n "$step" ] || continue
+        set --
+        while IFS= read -r word; do set -- "$@" "$word"; done < "steps/$step.args"
+        "$program" "$@" < "steps/$step" > written
+        echo "case=$step run=ended status=$?"
+        cmp -s written "steps/$step.stdout" || echo "case=$step: wrote something else than it must"
+    done > said
+}
 
-echo "\$ mcaudit audit second-router --travel"
-run_to audited 1 audit second-router --travel < /dev/null
-cat audited
+# Runs the source on each step, unproved, with copies of the files of all folders.
+run_source() {
+    set --
+    for file in network/* second-router/* mended/*; do
+        set -- "$@" --data "$file=$scratch/$file"
+    done
+    (cd "$examples/../crates/mcaudit" && rt try --cases "$scratch/steps" "$@") > said 2>&1 ||
+        { cat said >&2; fail "the source did not run as it must"; }
+}
 
-echo "\$ cp -R second-router mended && sed -i /0500000A/d mended/cache-r3"
-sed /0500000A/d second-router/cache-r3 > mended/cache-r3
+# Prints a command, and what its step wrote.
+show() {
+    echo "\$ $1"
+    [ $# -eq 1 ] || cat "steps/$2.stdout"
+}
 
-echo "\$ mcaudit audit mended"
-run_to audited 0 audit mended < /dev/null
-cat audited
+echo "$statuses" | while read -r step before _; do
+    [ -n "$step" ] || continue
+    if [ "$before" = - ]; then : > "steps/$step"; else cp "steps/$before.stdout" "steps/$step"; fi
+done
+if [ -n "$program" ]; then
+    run_program
+else
+    echo "(no program is built, so its source runs unproved, in two or three minutes; \`make\` proves and builds it)"
+    run_source
+fi
+echo "$statuses" | while read -r step _ wanted; do
+    [ -n "$step" ] || continue
+    grep -q "^case=$step run=ended status=$wanted\( \|$\)" said || fail "$step: its status is not $wanted"
+    ! grep "^case=$step: wrote" said >&2 || exit 1
+done || exit 1
 
-echo "\$ mcaudit pack network | mcaudit make | tee network/certificate"
-run_to bundle 0 pack network < /dev/null
-run_to network/certificate 0 make < bundle
-cat network/certificate
-
-echo "\$ mcaudit pack network --certificate | mcaudit check"
-run_to bundle 0 pack network --certificate < /dev/null
-run_to verdict 0 check < bundle
-cat verdict
-
-echo "\$ mcaudit pack second-router | mcaudit replay 1 255"
-run_to bundle 0 pack second-router < /dev/null
-run_to travel 1 replay 1 255 < bundle
-cat travel
+show "mcaudit audit second-router --travel" audit-second-router
+show "cp -R second-router mended && sed -i /0500000A/d mended/cache-r3"
+show "mcaudit audit mended" audit-mended
+show "mcaudit pack network | mcaudit make | tee network/certificate" make-network
+show "mcaudit pack network --certificate | mcaudit check" check-certified
+show "mcaudit pack second-router | mcaudit replay 1 255" replay-second-router

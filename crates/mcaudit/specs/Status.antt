@@ -1,7 +1,7 @@
 -- The exit status that tells why the program gives no answer.
 use Rattle.std.specs.Prelude.{ℕ}
-use Rattle.mcaudit.specs.declared.command.WordsFault.TheVariants as words
-use Rattle.mcaudit.specs.declared.fault.RunFault.TheVariants as run
+use Rattle.mc_words.specs.declared.fault.WordsFault.TheVariants as words
+use Rattle.mc_run.specs.declared.fault.RunFault.TheVariants as run
 use Rattle.mcaudit.specs.declared.failure.Failure.{Failure}
 use Rattle.mcaudit.specs.declared.failure.Failure.TheVariants.{Words, Run}
 

@@ -4,8 +4,8 @@ ghost use Rattle.std.specs.Prelude.{◌≡◌};
 ghost use Rattle.mcaudit.specs.declared.failure.Failure.TheVariants.{Words, Run};
 ghost use Rattle.mcaudit.specs.Status.{status_of};
 
-use crate::command::WordsFault;
-use crate::fault::RunFault;
+use mc_run::RunFault;
+use mc_words::WordsFault;
 use thiserror::Error;
 
 /// Why the program gives no answer. Its text is what standard error gets.

@@ -1,36 +1,18 @@
 //! mcaudit: an auditor of the multicast forwarding state of a domain of Linux routers.
 #![tactic(auto)]
 
-mod audit;
-mod check;
-mod command;
-mod domain_input;
 mod failure;
-mod fault;
-mod found_text;
-mod laws;
-mod make;
-mod pack;
-mod replay;
-mod travel_text;
-mod verdict_text;
-mod wants;
 
-use audit::run_audit;
-use check::run_check;
-use command::{Task, borrowed, command_of, words_of};
 use failure::Failure;
-use make::run_make;
 use mc_files::Folder;
 use mc_replay::{First, Last};
+use mc_run::{run_audit, run_check, run_make, run_pack, run_replay, run_wants};
 use mc_text::{FromReader, ToWriter};
-use pack::run_pack;
-use replay::run_replay;
+use mc_words::{Task, borrowed, command_of, words_of};
 use std::env::Env;
 use std::io::{self, Input};
 use std::process::ExitCode;
 use std::rt::Files;
-use wants::run_wants;
 
 fn try_main(rt: &(impl Env + AllocGlobal + Files + Input + Print)) -> Result<bool, Failure> {
     let words = words_of(rt)?;
@@ -76,6 +58,3 @@ fn main(rt: HostRuntime) -> ExitCode {
         }
     }
 }
-
-#[cfg(test)]
-mod tests;

@@ -1,0 +1,508 @@
+-- A certificate that `mcaudit make` writes is one that `mcaudit check` says yes to.
+use Rattle.std.proofs.Common.{◌≡◌, ℕ, zero, suc, ◌+◌, ◌<◌, ◌≤◌, ◌==◌, max, All, Bool, true, false}
+use Rattle.std.proofs.Common.{List, [], ◌∷◌, ◌++◌}
+use Rattle.std.proofs.Common.{length, map, Option, Some, None, Result, Ok, refl, sym, ap, subst}
+use Rattle.std.proofs.Common.{◌∙◌, arith, length-append}
+use Rattle.std.specs.Prelude.{◌↔◌, IsSome, IsTrue, slice_get, slice_index_or}
+use Rattle.std.specs.List.{AllByRecursion}
+use Rattle.std.proofs.lemmas.Bool.{eqb-true, eq-eqb, false≢true}
+use Rattle.std.proofs.lemmas.List.{length-map}
+use Rattle.std.proofs.lemmas.Str.{IsUtf8-append}
+use Rattle.json.proofs.Printed.Utf8.{IsUtf8-are_ascii}
+use Rattle.mc_text.specs.Bundle.{PartText, IsBundle, max_part}
+use Rattle.mc_text.proofs.BundleLaws.{same_parts}
+use Rattle.mc_igmp.specs.declared.record.Record.{Record}
+use Rattle.mc_igmp.specs.ReportList.{IsReportList}
+use Rattle.mc_igmp.specs.Wants.{Wants}
+use Rattle.mc_igmp.proofs.ListLemmas.{read_list-again}
+use Rattle.mc_tables.proofs.LawLemmas.{one_cache, one_vif_table}
+use Rattle.mc_topology.proofs.ReadLemmas.{one_topology}
+use Rattle.mc_topology.specs.Stands.{TopologyStands}
+use Rattle.mc_theory.specs.Lists.{In}
+use Rattle.mc_theory.specs.Nets.{Net, Interface}
+use Rattle.mc_theory.specs.Certificates.{Entry, IsAccepted, IsTree, source_entry_of}
+use Rattle.mc_theory.proofs.InLists.{same-by_image, slice_get-map_some}
+use Rattle.mc_theory.proofs.Judged.{judged}
+use Rattle.mc_topology.specs.Rows.{RouterRow}
+use Rattle.mc_topology.specs.Topology.{TopologyValue}
+use Rattle.mc_forward.specs.Assembling.{IsAssembled}
+use Rattle.mc_forward.specs.Domains.{DomainValue, IsDomain, TablesValue, net_of, wants_of}
+use Rattle.mc_forward.proofs.DomainLemmas.{net-of_domain, wanting-within}
+use Rattle.mc_input.specs.Input.{InputValue, PartsStand, TellTables, TellReports}
+use Rattle.mc_cert.specs.Certificate.{Tree, IsOfBytes}
+use Rattle.mc_cert.specs.CertificateText.{certificate_text}
+use Rattle.mc_cert.specs.Reading.{reading_of}
+use Rattle.mc_cert.specs.Stands.{CertificateStands}
+use Rattle.mc_cert.proofs.Documents.{texts_stand}
+use Rattle.mc_cert.proofs.ReadLemmas.{one_certificate}
+use Rattle.mc_cert.proofs.Whole.{reading_again}
+use Rattle.mc_check.specs.Reasons.{reason_value}
+use Rattle.mc_check.specs.Verdicts.{is_yes}
+use Rattle.mc_check.specs.declared.verdict.Verdict.{Verdict}
+use Rattle.mc_check.specs.declared.verdict.Verdict.TheVariants.{Yes, No}
+use Rattle.mc_maker.specs.Examined.{IfCertified}
+use Rattle.mc_maker.specs.declared.examination.Examined.{Examined}
+use Rattle.mc_maker.specs.declared.examination.Examined.TheVariants.{Certified, Found}
+use Rattle.mc_maker.proofs.FilledLemmas.{in-all}
+use Rattle.mc_run.specs.BundleMeaning.{MeansDomain}
+use Rattle.mc_run.specs.CheckRun.{IsVerdictText}
+use Rattle.mc_run.specs.MakeRun.{AreExamined, IsMadeText, are_certified, lists_of}
+use Rattle.mc_run.specs.MakeRun.{with_certificate}
+use Rattle.mc_run.specs.VerdictText.{AreVerdicts, IsVerdict, are_yes, check_text}
+use Rattle.mc_run.proofs.LineFeed.{read_fed}
+use Rattle.mc_run.proofs.MakeLemmas.{at as at_place, each_list, lists_belong, lists_kept, within}
+
+-- ---- the numbers of an accepted list are bytes
+
+module _ (n : Net) (es : List Entry) (tree : IsTree n es) where
+  source_is : (e : Entry) → In e es → e.lan ≡ n.source → e ≡ source_entry_of n
+  source_is e h at = same-by_image (λ (x : Entry). x.lan) e (source_entry_of n) es tree.one_entry h
+      tree.source_entry at
+
+  source_of_none : (e : Entry) → In e es → e.forwarder ≡ None → (b : Bool) → (e.lan == n.source) ≡ b
+      → e ≡ source_entry_of n
+  source_of_none e h none true q = source_is e h (eqb-true e.lan n.source q)
+  source_of_none e h none false q =
+      let fed = tree.others_fed e h (λ same. false≢true (sym q ∙ eq-eqb e.lan n.source same)) in
+      absurd (false≢true (subst (λ (o : Option Interface). IsSome o) none fed))
+
+  by_forwarder : (k : ℕ) (e : Entry) (o : Option Interface) → e.rank ≤ k → In e es → e.forwarder ≡ o
+      → ((p : Entry) → p.rank < k → In p es → IsOfBytes p) → IsOfBytes e
+  by_forwarder k e None within h q lower =
+      subst (λ (x : Entry). IsOfBytes x) (sym (source_of_none e h q (e.lan == n.source) refl))
+      (record { rank = omega arith; need = omega arith })
+  by_forwarder k e (Some i) within h q lower =
+      let fed = tree.fed e i.0 i.1 h q in
+      let child = tree.tree fed.0 i.0 i.1 fed.1 e.lan fed.2 fed.3 fed.4 in
+      let same : e ≡ child.0 =
+      same-by_image (λ (x : Entry). x.lan) e child.0 es tree.one_entry h child.1 (sym child.2) in
+      let rank : e.rank ≡ fed.0.rank + 1 = ap (λ (x : Entry). x.rank) same ∙ child.3.rank in
+      let need : e.need ≡ max fed.0.need (fed.0.rank + fed.1 + 1) =
+      ap (λ (x : Entry). x.need) same ∙ child.3.need in
+      let live : fed.0.rank + fed.1 + 1 ≤ 255 = fed.3.live in
+      let base : fed.0.need ≤ 255 = (lower fed.0 (omega (arith, rank, within)) fed.2).need in
+      record { rank = omega (arith, rank, live); need = omega (arith, need, live, base) }
+
+  bytes_by : (k : ℕ) (e : Entry) → e.rank ≤ k → In e es → IsOfBytes e
+  bytes_by zero e within h =
+      by_forwarder 0 e e.forwarder within h refl (λ p lt in_p. absurd (omega (arith, lt)))
+  bytes_by (suc k) e within h =
+      by_forwarder (suc k) e e.forwarder within h refl
+      (λ p lt in_p. bytes_by k p (omega (arith, lt)) in_p)
+
+  all_bytes : All IsOfBytes es
+  all_bytes = in-all IsOfBytes es (λ e h. bytes_by e.rank e (omega arith) h)
+
+certified_bytes : (n : Net) (x : Examined) → IfCertified (IsAccepted n) x
+    → IfCertified (All IsOfBytes) x
+certified_bytes n (Certified entries) accepted = all_bytes n entries.items accepted.is_tree
+certified_bytes n (Found ttl travel) accepted = tt
+
+lists_bytes : (d : DomainValue) (xs : List Examined) → AreExamined d xs
+    → All (All IsOfBytes) (lists_of xs)
+lists_bytes d xs are =
+    each_list (All IsOfBytes) xs (λ k x at. certified_bytes (net_of d k) x
+    (are.each k x at).accepted)
+
+-- ---- the certificate's text
+
+-- a line feed behind a certificate's text changes nothing
+stands_fed : (t : TopologyValue) (text : List ℕ) (lists : List Tree)
+    → length (text ++ 10 ∷ []) ≤ 16777216
+    → CertificateStands t text lists → CertificateStands t (text ++ 10 ∷ []) lists
+stands_fed t text lists few h = record {
+  document = h.document;
+  version = h.version;
+  few = few;
+  utf8 = IsUtf8-append text (10 ∷ []) h.utf8 (IsUtf8-are_ascii (10 ∷ []) refl);
+  reads = read_fed text ∙ h.reads;
+  version_number = h.version_number;
+  keys = h.keys;
+  stands = h.stands;
+}
+
+pub made_stands : (text written : List ℕ) (m : IsMadeText text true written)
+    → length written ≤ 16777216
+    → CertificateStands m.domain.topology written (lists_of m.examined)
+made_stands text written m few =
+    let d = m.domain in
+    let t = d.topology in
+    let lists = lists_of m.examined in
+    let body = certificate_text t lists in
+    let size : length written ≡ length body + 1 =
+    ap (λ (bytes : List ℕ). length bytes) m.spelled ∙ length-append body (10 ∷ []) in
+    let stands = texts_stand t lists m.means.rules.topology
+    (lists_belong d m.examined m.are_examined (sym m.answer))
+    (lists_kept d m.examined m.are_examined)
+    (lists_bytes d m.examined m.are_examined) (omega (arith, size, few)) in
+    subst (λ (bytes : List ℕ). CertificateStands t bytes lists) (sym m.spelled)
+    (stands_fed t body lists (omega (arith, size, few, length-append body (10 ∷ []))) stands)
+
+pub made_reads : (text written : List ℕ) (m : IsMadeText text true written)
+    → length written ≤ 16777216
+    → reading_of m.domain.topology written ≡ Ok (lists_of m.examined)
+made_reads text written m few =
+    reading_again m.domain.topology written (lists_of m.examined) (made_stands text written m few)
+
+-- ---- each list is accepted
+
+list_at : (P : ℕ → Tree → Type 0) (xs : List Examined) → are_certified xs ≡ true
+    → ((k : ℕ) (x : Examined) → slice_get xs k ≡ Some x → IfCertified (P k) x)
+    → (k : ℕ) (es : Tree) → slice_get (lists_of xs) k ≡ Some es → P k es
+list_at P [] all each k es at = absurd cc
+list_at P (Certified entries ∷ xs) all each zero es at =
+    let same : entries.items ≡ es = cc in
+    subst (λ (ys : Tree). P 0 ys) same (each 0 (Certified entries) refl)
+list_at P (Certified entries ∷ xs) all each (suc k) es at =
+    list_at (λ i. P (suc i)) xs all (λ i x here. each (suc i) x here) k es at
+list_at P (Found ttl travel ∷ xs) all each k es at = absurd cc
+
+pub made_accepted : (text written : List ℕ) (m : IsMadeText text true written) (flow : ℕ)
+    (es : Tree)
+    → slice_get (lists_of m.examined) flow ≡ Some es → IsAccepted (net_of m.domain flow) es
+made_accepted text written m =
+    list_at (λ k. IsAccepted (net_of m.domain k)) m.examined (sym m.answer)
+    (λ k x at. (m.are_examined.each k x at).accepted)
+
+-- ---- the bundle with the certificate
+
+tables_more : (rs : List RouterRow) (here : List PartText) (ts : List TablesValue)
+    (rest more : List PartText)
+    → TellTables rs here ts rest → TellTables rs (here ++ more) ts (rest ++ more)
+tables_more [] here [] rest more h = ap (λ (ps : List PartText). ps ++ more) h
+tables_more [] here (t ∷ ts) rest more h = absurd h
+tables_more (r ∷ rs) [] ts rest more h = absurd h
+tables_more (r ∷ rs) (vif ∷ []) ts rest more h = absurd h
+tables_more (r ∷ rs) (vif ∷ cache ∷ here) [] rest more h = absurd h
+tables_more (r ∷ rs) (vif ∷ cache ∷ here) (t ∷ ts) rest more h =
+    (h.0, tables_more rs here ts rest more h.1)
+
+reports_more : (lans : List (List ℕ)) (here : List PartText) (all : List (List Record))
+    (rest more : List PartText) → TellReports lans here all rest
+    → TellReports lans (here ++ more) all (rest ++ more)
+reports_more [] here [] rest more h = ap (λ (ps : List PartText). ps ++ more) h
+reports_more [] here (records ∷ all) rest more h = absurd h
+reports_more (lan ∷ lans) [] all rest more h = absurd h
+reports_more (lan ∷ lans) (part ∷ here) [] rest more h = absurd h
+reports_more (lan ∷ lans) (part ∷ here) (records ∷ all) rest more h =
+    (h.0, reports_more lans here all rest more h.1)
+
+parts_with : (parts : List PartText) (v : InputValue) (text : List ℕ) → PartsStand parts v None
+    → PartsStand (with_certificate parts text) v (Some text)
+parts_with parts v text h =
+    let more : List PartText = with_certificate [] text in
+    record {
+      topology = h.topology;
+      of_routers = h.of_routers ++ more;
+      of_lans = h.of_lans ++ more;
+      last = h.last ++ more;
+      in_order = ap (λ (ps : List PartText). ps ++ more) h.in_order;
+      topology_stands = h.topology_stands;
+      tables = tables_more v.topology.routers h.of_routers v.tables h.of_lans more h.tables;
+      reports = reports_more v.topology.lans h.of_lans v.reports h.last more h.reports;
+      certificate_told = ap (λ (ps : List PartText). ps ++ more) h.certificate_told;
+    }
+
+means_with : (text bundle : List ℕ) (parts : List PartText) (certificate : List ℕ) (d : DomainValue)
+    → MeansDomain text None d → IsBundle text parts
+    → IsBundle bundle (with_certificate parts certificate)
+    → MeansDomain bundle (Some certificate) d
+means_with text bundle parts certificate d means is more = record {
+  input = means.input;
+  parts = record {
+    parts = with_certificate parts certificate;
+    bundle = more;
+    stand = parts_with parts means.input certificate
+        (subst (λ (ps : List PartText). PartsStand ps means.input None)
+        (same_parts text means.parts.parts parts means.parts.bundle is) means.parts.stand);
+  };
+  assembled = means.assembled;
+  rules = means.rules;
+}
+
+-- ---- the verdicts
+
+abbrev yes_of : Tree → Verdict
+yes_of es = Yes (length es)
+
+all_yes : (lists : List Tree) → are_yes (map yes_of lists) ≡ true
+all_yes [] = refl
+all_yes (es ∷ lists) = all_yes lists
+
+are_yes_of : (d : DomainValue) (lists : List Tree) → length lists ≡ length d.topology.flows
+    → ((flow : ℕ) (es : Tree) → slice_get lists flow ≡ Some es → IsAccepted (net_of d flow) es)
+    → AreVerdicts d lists (map yes_of lists)
+are_yes_of d lists count each = record {
+  count = length-map lists yes_of ∙ count;
+  each = λ flow es v listed told.
+      let found : Some (yes_of es) ≡ Some v = sym (slice_get-map_some yes_of lists flow es listed)
+      ∙ told in
+      let same : yes_of es ≡ v = cc in
+      subst (λ (w : Verdict). IsVerdict (length d.topology.lans) (net_of d flow) es w) same
+      (each flow es listed, refl);
+}
+
+last_of : {A : Type 0} (P : A → Type 0) (xs : List A) (x : A) → AllByRecursion P (xs ++ x ∷ [])
+    → P x
+last_of P [] x all = all.0
+last_of P (y ∷ xs) x all = last_of P xs x all.1
+
+certificate_fits : (bundle : List ℕ) (parts : List PartText) (text : List ℕ)
+    → IsBundle bundle (with_certificate parts text) → length text ≤ 16777216
+certificate_fits bundle parts text is =
+    last_of (λ (part : PartText). length part.bytes ≤ max_part) parts _ is.limits.sizes
+
+pub yes_told : (text written bundle : List ℕ) (parts : List PartText) → IsMadeText text true written
+    → IsBundle text parts → IsBundle bundle (with_certificate parts written)
+    → (told : List ℕ) × IsVerdictText bundle true told
+yes_told text written bundle parts m is more =
+    let d = m.domain in
+    let lists = lists_of m.examined in
+    let few = certificate_fits bundle parts written more in
+    let belong = lists_belong d m.examined m.are_examined (sym m.answer) in (
+      check_text d.topology (map yes_of lists),
+      record {
+        domain = d;
+        lists = lists;
+        verdicts = map yes_of lists;
+        means = record {
+          certificate = written;
+          domain = means_with text bundle parts written d m.means is more;
+          lists_stand = made_stands text written m few;
+        };
+        are_verdicts = are_yes_of d lists belong.count (made_accepted text written m);
+        answer = sym (all_yes lists);
+        spelled = refl;
+      },
+    )
+
+-- ---- a bundle means one domain
+
+ok_same : {A E : Type 0} {x y : A} → (let r : Result A E = Ok x in r) ≡ Ok y → x ≡ y
+ok_same e = cc
+
+one_list : (text : List ℕ) (a b : List Record) → IsReportList text a → IsReportList text b → a ≡ b
+one_list text a b p q = ok_same (sym (read_list-again text a p) ∙ read_list-again text b q)
+
+tables_same : (rs : List RouterRow) (parts : List PartText) (ts us : List TablesValue)
+    (rest other : List PartText) → TellTables rs parts ts rest → TellTables rs parts us other
+    → (ts ≡ us) × (rest ≡ other)
+tables_same [] parts [] [] rest other a b = (refl, sym a ∙ b)
+tables_same [] parts [] (u ∷ us) rest other a b = absurd b
+tables_same [] parts (t ∷ ts) us rest other a b = absurd a
+tables_same (r ∷ rs) [] ts us rest other a b = absurd a
+tables_same (r ∷ rs) (vif ∷ []) ts us rest other a b = absurd a
+tables_same (r ∷ rs) (vif ∷ cache ∷ parts) [] us rest other a b = absurd a
+tables_same (r ∷ rs) (vif ∷ cache ∷ parts) (t ∷ ts) [] rest other a b = absurd b
+tables_same (r ∷ rs) (vif ∷ cache ∷ parts) (t ∷ ts) (u ∷ us) rest other a b =
+    let vifs : t.vifs ≡ u.vifs = one_vif_table vif.bytes t.vifs u.vifs a.0.vifs b.0.vifs in
+    let entries : t.cache ≡ u.cache =
+    one_cache r.order cache.bytes t.cache u.cache a.0.entries b.0.entries in
+    let first : t ≡ u = λ i. record { vifs = vifs i; cache = entries i } in
+    let more = tables_same rs parts ts us rest other a.1 b.1 in
+    let all : (t ∷ ts) ≡ (u ∷ us) = λ i. first i ∷ more.0 i in
+    (all, more.1)
+
+reports_same : (lans : List (List ℕ)) (parts : List PartText) (xs ys : List (List Record))
+    (rest other : List PartText) → TellReports lans parts xs rest → TellReports lans parts ys other
+    → (xs ≡ ys) × (rest ≡ other)
+reports_same [] parts [] [] rest other a b = (refl, sym a ∙ b)
+reports_same [] parts [] (y ∷ ys) rest other a b = absurd b
+reports_same [] parts (x ∷ xs) ys rest other a b = absurd a
+reports_same (lan ∷ lans) [] xs ys rest other a b = absurd a
+reports_same (lan ∷ lans) (part ∷ parts) [] ys rest other a b = absurd a
+reports_same (lan ∷ lans) (part ∷ parts) (x ∷ xs) [] rest other a b = absurd b
+reports_same (lan ∷ lans) (part ∷ parts) (x ∷ xs) (y ∷ ys) rest other a b =
+    let first : x ≡ y = one_list part.bytes x y a.0.stands b.0.stands in
+    let more = reports_same lans parts xs ys rest other a.1 b.1 in
+    let all : (x ∷ xs) ≡ (y ∷ ys) = λ i. first i ∷ more.0 i in
+    (all, more.1)
+
+first_text : List PartText → List ℕ
+first_text [] = []
+first_text (part ∷ parts) = part.bytes
+
+others : List PartText → List PartText
+others [] = []
+others (part ∷ parts) = parts
+
+-- the same parts tell one input and one certificate
+record AreTold (v w : InputValue) (a b : List ℕ) : Type 0 where
+  pub value : v ≡ w
+  pub certificate : a ≡ b
+
+parts_same : (parts : List PartText) (v w : InputValue) (a b : List ℕ) → PartsStand parts v (Some a)
+    → PartsStand parts w (Some b) → AreTold v w a b
+unfolding first_text others
+parts_same parts v w a b p q =
+    let order = sym p.in_order ∙ q.in_order in
+    let text : p.topology ≡ q.topology = ap first_text order in
+    let routers : p.of_routers ≡ q.of_routers = ap others order in
+    let topology : v.topology ≡ w.topology =
+    one_topology p.topology v.topology w.topology p.topology_stands
+    (subst (λ (s : List ℕ). TopologyStands s w.topology) (sym text) q.topology_stands) in
+    let tables = tables_same v.topology.routers p.of_routers v.tables w.tables p.of_lans q.of_lans
+    p.tables
+    (subst (λ (ps : List PartText). TellTables v.topology.routers ps w.tables q.of_lans)
+    (sym routers)
+    (subst (λ (t : TopologyValue). TellTables t.routers q.of_routers w.tables q.of_lans)
+    (sym topology)
+    q.tables)) in
+    let reports = reports_same v.topology.lans p.of_lans v.reports w.reports p.last q.last p.reports
+    (subst (λ (ps : List PartText). TellReports v.topology.lans ps w.reports q.last) (sym tables.1)
+    (subst (λ (t : TopologyValue). TellReports t.lans q.of_lans w.reports q.last) (sym topology)
+    q.reports)) in
+    let told = sym p.certificate_told ∙ reports.1 ∙ q.certificate_told in
+    record {
+      value = λ i. record { topology = topology i; tables = tables.0 i; reports = reports.0 i };
+      certificate = ap first_text told;
+    }
+
+lists_same : {A : Type 0} (xs ys : List A) → length xs ≡ length ys
+    → ((k : ℕ) (x y : A) → slice_get xs k ≡ Some x → slice_get ys k ≡ Some y → x ≡ y) → xs ≡ ys
+lists_same [] [] count each = refl
+lists_same [] (y ∷ ys) count each = absurd (omega (arith, count))
+lists_same (x ∷ xs) [] count each = absurd (omega (arith, count))
+lists_same (x ∷ xs) (y ∷ ys) count each =
+    let first : x ≡ y = each 0 x y refl refl in
+    let rest = lists_same xs ys (omega (arith, count)) (λ k a b p q. each (suc k) a b p q) in
+    λ i. first i ∷ rest i
+
+same_answer : (a b : Bool) (W : Type 0) → (IsTrue a ↔ W) → (IsTrue b ↔ W) → a ≡ b
+same_answer true true W p q = refl
+same_answer true false W p q = sym (q.1 (p.0 refl))
+same_answer false true W p q = p.1 (q.0 refl)
+same_answer false false W p q = refl
+
+index_is : {A : Type 0} (xs : List A) (k : ℕ) (x y : A) → slice_get xs k ≡ Some x
+    → slice_index_or xs k y ≡ x
+index_is [] k x y at = absurd cc
+index_is (z ∷ xs) zero x y at = cc
+index_is (z ∷ xs) (suc k) x y at = index_is xs k x y at
+
+wants_is : (d : DomainValue) (lan flow : ℕ) (row : List Bool) (b : Bool)
+    → slice_get d.wants lan ≡ Some row
+    → slice_get row flow ≡ Some b → wants_of d flow lan ≡ b
+wants_is d lan flow row b at here =
+    ap (λ (bs : List Bool). slice_index_or bs flow false) (index_is d.wants lan row [] at)
+    ∙ index_is row flow b false here
+
+reports_count : (lans : List (List ℕ)) (here : List PartText) (all : List (List Record))
+    (rest : List PartText)
+    → TellReports lans here all rest → length all ≡ length lans
+reports_count [] here [] rest h = refl
+reports_count [] here (records ∷ all) rest h = absurd h
+reports_count (lan ∷ lans) [] all rest h = absurd h
+reports_count (lan ∷ lans) (part ∷ here) [] rest h = absurd h
+reports_count (lan ∷ lans) (part ∷ here) (records ∷ all) rest h =
+    ap suc (reports_count lans here all rest h.1)
+
+wants_same : (v : InputValue) (d e : DomainValue) → IsDomain d → IsDomain e
+    → length v.reports ≡ length v.topology.lans → IsAssembled v.topology v.tables v.reports d
+    → IsAssembled v.topology v.tables v.reports e → d.wants ≡ e.wants
+wants_same v d e ok_d ok_e count is_d is_e =
+    let lans_d : length d.wants ≡ length v.topology.lans =
+    ok_d.lans ∙ ap (λ (t : TopologyValue). length t.lans) is_d.topology in
+    let lans_e : length e.wants ≡ length v.topology.lans =
+    ok_e.lans ∙ ap (λ (t : TopologyValue). length t.lans) is_e.topology in
+    lists_same d.wants e.wants (lans_d ∙ sym lans_e) (λ lan row other at at'.
+    let flows_d : length row ≡ length v.topology.flows =
+    ok_d.flows lan row at ∙ ap (λ (t : TopologyValue). length t.flows) is_d.topology in
+    let flows_e : length other ≡ length v.topology.flows =
+    ok_e.flows lan other at' ∙ ap (λ (t : TopologyValue). length t.flows) is_e.topology in
+    let lt = within d.wants lan row at in
+    let records = at_place v.reports lan (omega (arith, lt, lans_d, count)) in
+    lists_same row other (flows_d ∙ sym flows_e) (λ flow a b here here'.
+    let less = within row flow a here in
+    let f = at_place v.topology.flows flow (omega (arith, less, flows_d)) in
+    let W : Type 0 = Wants records.0 f.0.group f.0.source in
+    same_answer a b W
+    (subst (λ (x : Bool). IsTrue x ↔ W) (wants_is d lan flow row a at here)
+    (is_d.wants lan flow records.0 f.0 records.1 f.1))
+    (subst (λ (x : Bool). IsTrue x ↔ W) (wants_is e lan flow other b at' here')
+    (is_e.wants lan flow records.0 f.0 records.1 f.1))))
+
+domain_same : (v : InputValue) (d e : DomainValue) → IsDomain d → IsDomain e
+    → length v.reports ≡ length v.topology.lans → IsAssembled v.topology v.tables v.reports d
+    → IsAssembled v.topology v.tables v.reports e → d ≡ e
+domain_same v d e ok_d ok_e count is_d is_e =
+    let topology : d.topology ≡ e.topology = is_d.topology ∙ sym is_e.topology in
+    let tables : d.tables ≡ e.tables = is_d.tables ∙ sym is_e.tables in
+    let wants : d.wants ≡ e.wants = wants_same v d e ok_d ok_e count is_d is_e in
+    λ i. record { topology = topology i; tables = tables i; wants = wants i }
+
+-- and so one domain
+record AreSame (d e : DomainValue) (a b : List ℕ) : Type 0 where
+  pub domain : d ≡ e
+  pub certificate : a ≡ b
+
+means_same : (text a b : List ℕ) (d e : DomainValue) → MeansDomain text (Some a) d
+    → MeansDomain text (Some b) e → AreSame d e a b
+means_same text a b d e m n =
+    let parts = same_parts text n.parts.parts m.parts.parts n.parts.bundle m.parts.bundle in
+    let other = subst (λ (ps : List PartText). PartsStand ps n.input (Some b)) parts
+    n.parts.stand in
+    let told = parts_same m.parts.parts m.input n.input a b m.parts.stand other in
+    let stand = m.parts.stand in
+    let count = reports_count m.input.topology.lans stand.of_lans m.input.reports stand.last
+    stand.reports in
+    record {
+      domain = domain_same m.input d e m.rules n.rules count m.assembled
+          (subst (λ (v : InputValue). IsAssembled v.topology v.tables v.reports e)
+          (sym told.value) n.assembled);
+      certificate = told.certificate;
+    }
+
+-- ---- so whatever verdict text the bundle has, it says yes
+
+is_said_yes : (d : DomainValue) (flow : ℕ) (es : Tree) (v : Verdict) → IsDomain d
+    → IsAccepted (net_of d flow) es → IsVerdict (length d.topology.lans) (net_of d flow) es v
+    → is_yes v ≡ true
+is_said_yes d flow es (Yes copies) ok accepted is = refl
+is_said_yes d flow es (No reason) ok accepted is =
+    let none = (judged (net_of d flow) (length d.topology.lans) es (net-of_domain d flow ok)
+    (λ l w. wanting-within d flow l ok w)).1 accepted in
+    let never : None ≡ Some (reason_value reason) = sym none ∙ is in
+    absurd cc
+
+each_yes : (vs : List Verdict) → ((k : ℕ) (v : Verdict) → slice_get vs k ≡ Some v → is_yes v ≡ true)
+    → are_yes vs ≡ true
+each_yes [] each = refl
+each_yes (v ∷ vs) each = rw (each 0 v refl) (each_yes vs (λ k w at. each (suc k) w at))
+
+verdicts_yes : (d : DomainValue) (lists : List Tree) (vs : List Verdict) → IsDomain d
+    → length lists ≡ length d.topology.flows → AreVerdicts d lists vs
+    → ((flow : ℕ) (es : Tree) → slice_get lists flow ≡ Some es → IsAccepted (net_of d flow) es)
+    → are_yes vs ≡ true
+verdicts_yes d lists vs ok count are each = each_yes vs (λ k v at.
+    let lt = within vs k v at in
+    let size = are.count in
+    let es = at_place lists k (omega (arith, lt, size, count)) in
+    is_said_yes d k es.0 v ok (each k es.0 es.1) (are.each k es.0 v es.1 at))
+
+record AreOf (d : DomainValue) (certificate : List ℕ) (lists : List Tree)
+    (vs : List Verdict) : Type 0 where
+  pub stand : CertificateStands d.topology certificate lists
+  pub are : AreVerdicts d lists vs
+
+pub only_yes : (text written bundle : List ℕ) (parts : List PartText) (all : Bool) (told : List ℕ)
+    → IsMadeText text true written → IsBundle text parts
+    → IsBundle bundle (with_certificate parts written) → IsVerdictText bundle all told → all ≡ true
+only_yes text written bundle parts all told m is more v =
+    let d = m.domain in
+    let lists = lists_of m.examined in
+    let few = certificate_fits bundle parts written more in
+    let mine = means_with text bundle parts written d m.means is more in
+    let same = means_same bundle v.means.certificate written v.domain d v.means.domain mine in
+    let theirs : AreOf v.domain v.means.certificate v.lists v.verdicts =
+    record { stand = v.means.lists_stand; are = v.are_verdicts } in
+    let here : AreOf d written v.lists v.verdicts =
+    subst (λ (c : List ℕ). AreOf d c v.lists v.verdicts) same.certificate
+    (subst (λ (e : DomainValue). AreOf e v.means.certificate v.lists v.verdicts) same.domain
+    theirs) in
+    let one : v.lists ≡ lists =
+    one_certificate d.topology written v.lists lists here.stand (made_stands text written m few) in
+    let belong = lists_belong d m.examined m.are_examined (sym m.answer) in
+    v.answer ∙ verdicts_yes d lists v.verdicts m.means.rules belong.count
+    (subst (λ (ls : List Tree). AreVerdicts d ls v.verdicts) one here.are)
+    (made_accepted text written m)

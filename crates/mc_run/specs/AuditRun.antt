@@ -1,0 +1,140 @@
+-- What `mcaudit audit` answers and writes, and what its yes is worth.
+use Rattle.std.specs.Prelude.{◌≡◌, ◌↔◌, ℕ, ◌<◌, Bool, true, false, IsTrue, List, [], ◌∷◌, ◌++◌}
+use Rattle.std.specs.Prelude.{flat_map, length, slice_get}
+use Rattle.std.specs.Prelude.{Option, Some, Result, Ok, Err}
+use Rattle.std.specs.Io.KnownBytes.{Appends}
+use Rattle.mc_text.specs.Device.{AppendsPart}
+use Rattle.mc_files.specs.Files.{FileText}
+use Rattle.mc_topology.specs.declared.flow.Flow.{Flow}
+use Rattle.mc_topology.specs.Topology.{TopologyValue}
+use Rattle.mc_theory.specs.Nets.{Net}
+use Rattle.mc_theory.specs.Certificates.{IsRight}
+use Rattle.mc_theory.specs.Headline.{HeadlineHolds}
+use Rattle.mc_forward.specs.Domains.{DomainValue, net_of}
+use Rattle.mc_check.specs.declared.verdict.Verdict.TheVariants.{Yes}
+use Rattle.mc_replay.specs.declared.travel.Travel.{Travel}
+use Rattle.mc_maker.specs.Examined.{IfCertified, is_certified}
+use Rattle.mc_maker.specs.declared.examination.Examined.{Examined}
+use Rattle.mc_maker.specs.declared.examination.Examined.TheVariants.{Certified, Found}
+use Rattle.mc_run.specs.declared.fault.RunFault.{RunFault}
+use Rattle.mc_run.specs.CheckRun.{KeepsHeadline}
+use Rattle.mc_run.specs.FilesMeaning.{MeansFiles, AreRefusedFor}
+use Rattle.mc_run.specs.MakeRun.{AreExamined, IsExamined, are_certified, found_lines, lists_of}
+use Rattle.mc_run.specs.MakeRun.{no_certificate_line}
+use Rattle.mc_run.specs.ReplayRun.{event_lines}
+use Rattle.mc_run.specs.VerdictText.{flow_line, last_line}
+
+-- ---- the text
+
+-- the events of a travel, where travels are to be shown
+abbrev pub events_told : (travels : Bool) → TopologyValue → Travel → List ℕ
+events_told true t travel = event_lines t travel.events.items
+events_told false t travel = []
+
+-- The lines of a flow: the checker's yes to its list, or else that it has none, what is found, and
+-- the events.
+abbrev pub flow_told : (travels : Bool) → TopologyValue → Flow → Examined → List ℕ
+flow_told travels t f (Certified entries) = flow_line t f (Yes (length entries.items))
+flow_told travels t f (Found ttl travel) =
+    found_lines t f ttl travel.finding ++ events_told travels t travel
+
+-- the lines of flows, in order
+abbrev pub flows_told : (travels : Bool) → TopologyValue → List Flow → List Examined → List ℕ
+flows_told travels t (f ∷ fs) (x ∷ xs) = flow_told travels t f x ++ flows_told travels t fs xs
+flows_told travels t _ _ = []
+
+abbrev pub audit_text : (travels : Bool) → TopologyValue → List Examined → List ℕ
+audit_text travels t xs = flows_told travels t t.flows xs ++ last_line (are_certified xs)
+
+-- ---- what is said of a domain
+
+-- What is said of a flow: it is examined, and where it is certified, the checker accepts its list,
+-- so that the headline holds of it, with no more copies than the list has entries.
+pub record IsChecked (d : DomainValue) (flow : ℕ) (x : Examined) : Type 0 where
+  pub examined : IsExamined d flow x
+  pub headline : IfCertified (λ es. HeadlineHolds (net_of d flow) (length es)) x
+
+-- one for each flow of the domain's topology, in order
+pub record AreChecked (d : DomainValue) (xs : List Examined) : Type 0 where
+  pub count : length xs ≡ length d.topology.flows
+  pub each : (flow : ℕ) (x : Examined) → slice_get xs flow ≡ Some x → IsChecked d flow x
+
+-- What is written of a flow of the domain, after what was written before, and whether the flow is
+-- certified.
+pub record IsFlowAudited (d : DomainValue) (flow : ℕ) (travels certified : Bool) (old new : List ℕ)
+    : Type 0 where
+  pub listed : Flow
+  pub examined : Examined
+  pub stands : slice_get d.topology.flows flow ≡ Some listed
+  pub checked : IsChecked d flow examined
+  pub answer : certified ≡ is_certified examined
+  pub spelled : new ≡ old ++ flow_told travels d.topology listed examined
+
+-- What is written of all flows, and whether all are certified.
+pub record IsAudited (d : DomainValue) (travels all : Bool) (written : List ℕ) : Type 0 where
+  pub examined : List Examined
+  pub are_checked : AreChecked d examined
+  pub answer : all ≡ are_certified examined
+  pub spelled : written ≡ audit_text travels d.topology examined
+
+-- ---- answers
+
+-- The files mean a domain, and this is written of it.
+pub record IsAuditText (files : List FileText) (travels all : Bool) (written : List ℕ)
+    : Type 0 where
+  pub domain : DomainValue
+  pub means : MeansFiles files domain
+  pub audited : IsAudited domain travels all written
+
+-- the answer is whether all flows are certified, or the files' first fault
+abbrev pub Answers : List FileText → (travels : Bool) → Result Bool RunFault → Type 0
+Answers files travels (Ok all) = (written : List ℕ) × IsAuditText files travels all written
+Answers files travels (Err fault) = AreRefusedFor files fault
+
+-- the text was written whole
+abbrev pub WritesAudit : List FileText → (travels all : Bool) → Option (List ℕ)
+    → Option (List ℕ) → Type 0
+WritesAudit files travels all old new =
+    (written : List ℕ) × IsAuditText files travels all written × Appends old new written
+
+-- a proper part of it was written, from its front
+abbrev pub WritesPartOfAudit : List FileText → (travels : Bool) → Option (List ℕ)
+    → Option (List ℕ) → Type 0
+WritesPartOfAudit files travels old new =
+    (all : Bool) × (written : List ℕ) × IsAuditText files travels all written
+    × AppendsPart old new written
+
+-- ---- what that says of the flows
+
+-- The lines say of a flow that it has a certificate, with so many copies, where it is right, and
+-- else that it has none.
+pub record SaysIfRight (t : TopologyValue) (f : Flow) (n : Net) (lines : List ℕ) : Type 0 where
+  pub right : IsRight n → (copies : ℕ) × (lines ≡ flow_line t f (Yes copies))
+  pub wrong : ¬ IsRight n → (more : List ℕ) × (lines ≡ no_certificate_line f ++ more)
+
+-- The files mean a domain, and this was written: for each flow lines that say whether it is right,
+-- and last whether all are.
+pub record SaysWhichAreRight (files : List FileText) (all : Bool) (written : List ℕ) : Type 0 where
+  pub domain : DomainValue
+  pub lines : List (List ℕ)
+  pub means : MeansFiles files domain
+  pub count : length lines ≡ length domain.topology.flows
+  pub each : (flow : ℕ) (f : Flow) (ls : List ℕ) → slice_get domain.topology.flows flow ≡ Some f
+      → slice_get lines flow ≡ Some ls → SaysIfRight domain.topology f (net_of domain flow) ls
+  pub spelled : written ≡ flat_map (λ ls. ls) lines ++ last_line all
+  pub answer : IsTrue all
+      ↔ ((flow : ℕ) → flow < length domain.topology.flows → IsRight (net_of domain flow))
+
+-- that was written whole
+abbrev pub WritesWhichAreRight : List FileText → (all : Bool) → Option (List ℕ)
+    → Option (List ℕ) → Type 0
+WritesWhichAreRight files all old new =
+    (written : List ℕ) × SaysWhichAreRight files all written × Appends old new written
+
+-- The files mean a domain, each of whose flows has a list for which the headline holds.
+pub record HeadlineOf (files : List FileText) : Type 0 where
+  pub domain : DomainValue
+  pub examined : List Examined
+  pub means : MeansFiles files domain
+  pub are_examined : AreExamined domain examined
+  pub keeps : KeepsHeadline domain (lists_of examined)

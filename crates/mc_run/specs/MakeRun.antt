@@ -1,0 +1,142 @@
+-- What `mcaudit make` answers and writes.
+use Rattle.std.specs.Prelude.{◌≡◌, ◌↔◌, ℕ, ◌<◌, Bool, true, false, All, IsTrue, List, [], ◌∷◌, ◌++◌}
+use Rattle.std.specs.Prelude.{codes, decimal}
+use Rattle.std.specs.Prelude.{length, map, slice_get, Option, Some, None, Result, Ok, Err}
+use Rattle.std.specs.List.{list_all}
+use Rattle.std.specs.List.Sorted.{IsStrictlyIncreasing}
+use Rattle.std.specs.Io.KnownBytes.{Appends}
+use Rattle.mc_text.specs.Bundle.{PartText}
+use Rattle.mc_text.specs.Device.{AppendsPart}
+use Rattle.mc_topology.specs.declared.flow.Flow.{Flow}
+use Rattle.mc_topology.specs.Topology.{TopologyValue}
+use Rattle.mc_theory.specs.Certificates.{IsAccepted, IsRight}
+use Rattle.mc_forward.specs.Domains.{DomainValue, net_of}
+use Rattle.mc_input.specs.Names.{certificate_name}
+use Rattle.mc_cert.specs.Certificate.{Tree, IsEntryOf, IsList}
+use Rattle.mc_cert.specs.CertificateText.{certificate_text}
+use Rattle.mc_replay.specs.TravelText.{finding_text}
+use Rattle.mc_replay.specs.declared.finding.Finding.{Finding}
+use Rattle.mc_maker.specs.Examined.{FindsFault, IfCertified, IfFound, IsOfTravel, IsTravelOfFirst}
+use Rattle.mc_maker.specs.Examined.{IsTtlOfFault, is_certified}
+use Rattle.mc_maker.specs.declared.examination.Examined.{Examined}
+use Rattle.mc_maker.specs.declared.examination.Examined.TheVariants.{Certified, Found}
+use Rattle.mc_run.specs.declared.fault.RunFault.{RunFault}
+use Rattle.mc_run.specs.BundleMeaning.{MeansDomain, IsRefusedFor}
+use Rattle.mc_run.specs.VerdictText.{flow_words}
+
+-- ---- examinations
+
+-- What an examination says of a flow. Where it certifies the flow: its entries are accepted, by
+-- ascending numbers of their LANs, of the topology, such as a certificate can hold, and those of
+-- the copies that the travel at TTL 255 carried.
+pub record IsExamined (d : DomainValue) (flow : ℕ) (x : Examined) : Type 0 where
+  pub accepted : IfCertified (IsAccepted (net_of d flow)) x
+  pub ascending : IfCertified (λ es. IsStrictlyIncreasing (map (λ e. e.lan) es)) x
+  pub listed : IfCertified (All (IsEntryOf d.topology)) x
+  pub list : IfCertified IsList x
+  pub made : IfCertified (IsOfTravel d flow) x
+  -- Else: the travel at its TTL in which the first waiting copy is handled each time, which finds a
+  -- fault; the TTL is 255 if a fault is found there, and else the flow's.
+  pub travel : IfFound (IsTravelOfFirst d flow) x
+  pub fault : IfFound (λ ttl travel. FindsFault travel) x
+  pub ttl : IfFound (λ ttl travel. IsTtlOfFault d flow ttl) x
+  -- The flow is certified exactly if it is right.
+  pub right : IsTrue (is_certified x) ↔ IsRight (net_of d flow)
+
+-- one for each flow of the domain's topology, in order
+pub record AreExamined (d : DomainValue) (xs : List Examined) : Type 0 where
+  pub count : length xs ≡ length d.topology.flows
+  pub each : (flow : ℕ) (x : Examined) → slice_get xs flow ≡ Some x → IsExamined d flow x
+
+-- ---- the text
+
+-- the lists of the flows that are certified, in order
+abbrev pub lists_of : List Examined → List Tree
+lists_of [] = []
+lists_of (Certified entries ∷ xs) = entries.items ∷ lists_of xs
+lists_of (Found ttl travel ∷ xs) = lists_of xs
+
+-- the two lines of a flow for which something is found
+abbrev pub no_certificate_line : Flow → List ℕ
+no_certificate_line f = flow_words f ++ codes " no certificate\n"
+
+abbrev pub found_line : TopologyValue → ℕ → Finding → List ℕ
+found_line t ttl finding =
+    codes "found ttl " ++ (decimal ttl ++ (codes " " ++ (finding_text t finding ++ codes "\n")))
+
+abbrev pub found_lines : TopologyValue → Flow → ℕ → Finding → List ℕ
+found_lines t f ttl finding = no_certificate_line f ++ found_line t ttl finding
+
+-- the lines of a flow: a certified one has none
+abbrev pub lines_of_flow : TopologyValue → Flow → Examined → List ℕ
+lines_of_flow t f (Certified entries) = []
+lines_of_flow t f (Found ttl travel) = found_lines t f ttl travel.finding
+
+-- the lines of flows, in order
+abbrev pub lines_of : TopologyValue → List Flow → List Examined → List ℕ
+lines_of t (f ∷ fs) (x ∷ xs) = lines_of_flow t f x ++ lines_of t fs xs
+lines_of t _ _ = []
+
+-- whether every flow is certified
+abbrev pub are_certified : List Examined → Bool
+are_certified xs = list_all is_certified xs
+
+-- the certificate with a line feed where every flow is certified, and else the lines
+abbrev pub made_text : (certified : Bool) → TopologyValue → List Examined → List ℕ
+made_text true t xs = certificate_text t (lists_of xs) ++ codes "\n"
+made_text false t xs = lines_of t t.flows xs
+
+-- The lists and the lines of a domain's flows.
+pub record AreMade (d : DomainValue) (lists : List Tree) (lines : List ℕ) : Type 0 where
+  pub examined : List Examined
+  pub are_examined : AreExamined d examined
+  pub lists_are : lists ≡ lists_of examined
+  pub lines_are : lines ≡ lines_of d.topology d.topology.flows examined
+
+-- ---- answers
+
+-- What is written of the examinations of a domain's flows, and whether that is a certificate.
+pub record IsTextOfMade (d : DomainValue) (certified : Bool) (written : List ℕ) : Type 0 where
+  pub examined : List Examined
+  pub are_examined : AreExamined d examined
+  pub answer : certified ≡ are_certified examined
+  pub spelled : written ≡ made_text certified d.topology examined
+
+-- The text means a domain, and this is what is written of its flows' examinations, and whether that
+-- is a certificate.
+pub record IsMadeText (text : List ℕ) (certified : Bool) (written : List ℕ) : Type 0 where
+  pub domain : DomainValue
+  pub examined : List Examined
+  pub means : MeansDomain text None domain
+  pub are_examined : AreExamined domain examined
+  pub answer : certified ≡ are_certified examined
+  pub spelled : written ≡ made_text certified domain.topology examined
+
+-- The text means a domain, and this says whether every flow that its topology lists is right.
+pub record SaysIfRight (text : List ℕ) (certified : Bool) : Type 0 where
+  pub domain : DomainValue
+  pub means : MeansDomain text None domain
+  pub right : IsTrue certified
+      ↔ ((flow : ℕ) → flow < length domain.topology.flows → IsRight (net_of domain flow))
+
+-- the answer is whether a certificate is written, or the text's first fault
+abbrev pub Answers : List ℕ → Result Bool RunFault → Type 0
+Answers text (Ok certified) = (written : List ℕ) × IsMadeText text certified written
+Answers text (Err fault) = IsRefusedFor false text fault
+
+-- the certificate or the lines were written whole
+abbrev pub WritesMade : List ℕ → Bool → Option (List ℕ) → Option (List ℕ) → Type 0
+WritesMade text certified old new =
+    (written : List ℕ) × IsMadeText text certified written × Appends old new written
+
+-- a proper part was written, from its front
+abbrev pub WritesPartOfMade : List ℕ → Option (List ℕ) → Option (List ℕ) → Type 0
+WritesPartOfMade text old new =
+    (certified : Bool) × (written : List ℕ) × IsMadeText text certified written
+    × AppendsPart old new written
+
+-- ---- with the certificate
+
+-- the parts of a bundle, and a certificate as one part more
+abbrev pub with_certificate : List PartText → List ℕ → List PartText
+with_certificate parts text = parts ++ (record { name = certificate_name; bytes = text }) ∷ []

@@ -1,0 +1,54 @@
+-- The faults of what a run calls, as its own.
+use Rattle.mc_text.specs.declared.input_bytes.ReadFault.{ReadFault}
+use Rattle.mc_text.specs.declared.input_bytes.ReadFault.TheVariants as reading
+use Rattle.mc_igmp.specs.declared.fault.ListFault.{ListFault}
+use Rattle.mc_igmp.specs.declared.fault.ListFaultKind.{ListFaultKind}
+use Rattle.mc_igmp.specs.declared.fault.ListFaultKind.TheVariants as list
+use Rattle.mc_cert.specs.declared.fault.CertFault.{CertFault}
+use Rattle.mc_cert.specs.declared.fault.CertFaultKind.{CertFaultKind}
+use Rattle.mc_cert.specs.declared.fault.CertFaultKind.TheVariants as certificate
+use Rattle.mc_input.specs.declared.fault.InputFault.{InputFault}
+use Rattle.mc_input.specs.declared.fault.InputFault.TheVariants as input
+use Rattle.mc_input.specs.declared.files_fault.FilesFault.{FilesFault}
+use Rattle.mc_input.specs.declared.files_fault.FilesFault.TheVariants as files
+use Rattle.mc_text.specs.declared.bundle_fault.BundleFault.TheVariants as bundle
+use Rattle.mc_run.specs.declared.fault.RunFault.{RunFault}
+use Rattle.mc_run.specs.declared.fault.RunFault.TheVariants.{Bundle, Parts, Topology, Vif, Cache}
+use Rattle.mc_run.specs.declared.fault.RunFault.TheVariants.{PartReports, Reports, Certificate}
+use Rattle.mc_run.specs.declared.fault.RunFault.TheVariants.{Read, Memory}
+
+abbrev pub of_reading : ReadFault → RunFault
+of_reading reading.Read = Read
+of_reading reading.Memory = Memory
+
+-- want of memory is the run's own, and every other fault is the list's
+abbrev pub of_list_kind : ListFault → ListFaultKind → RunFault
+of_list_kind fault list.Memory = Memory
+of_list_kind fault _ = Reports fault
+
+abbrev pub of_list : ListFault → RunFault
+of_list fault = of_list_kind fault fault.kind
+
+-- and so with a bundle's faults,
+abbrev pub of_input : InputFault → RunFault
+of_input (input.Bundle fault) = Bundle fault
+of_input (input.Parts place) = Parts place
+of_input (input.Topology fault) = Topology fault
+of_input (input.Vif part fault) = Vif part fault
+of_input (input.Cache part fault) = Cache part fault
+of_input (input.Reports part fault) = PartReports part fault
+of_input input.Memory = Memory
+
+-- with those of a folder's files, of which one that is too large is told of the bundle,
+abbrev pub of_files : FilesFault → RunFault
+of_files (files.Input fault) = of_input fault
+of_files files.TooLarge = Bundle bundle.TooLarge
+of_files files.Read = Read
+
+-- and with those of a certificate
+abbrev pub of_certificate_kind : CertFault → CertFaultKind → RunFault
+of_certificate_kind fault certificate.Memory = Memory
+of_certificate_kind fault _ = Certificate fault
+
+abbrev pub of_certificate : CertFault → RunFault
+of_certificate fault = of_certificate_kind fault fault.kind

@@ -1,0 +1,236 @@
+//! `mcaudit audit`: which flows of the domain of a folder's files are forwarded as they should be,
+//! and what a packet of each other one meets.
+
+ghost use Rattle.std.specs.Prelude.{◌≡◌, ◌≢◌, ◌++◌, ◌<◌, ◌↔◌, All, IfErr, IfOk, IfSome, IsTrue};
+ghost use Rattle.std.specs.Prelude.{OnOk, Err, Some, length, slice_get};
+ghost use Rattle.std.specs.Result.{IsOkAnd};
+ghost use Rattle.std.specs.String.{string_bytes};
+ghost use Rattle.mc_theory.specs.Certificates.{IsAccepted};
+ghost use Rattle.mc_theory.specs.Headline.{HeadlineHolds};
+ghost use Rattle.mc_topology.specs.declared.flow.Flow.{Flow};
+ghost use Rattle.mc_forward.specs.Assembling.{IsAssembled};
+ghost use Rattle.mc_forward.specs.Domains.{IsDomain, net_of};
+ghost use Rattle.mc_check.specs.Verdicts.{is_yes};
+ghost use Rattle.mc_check.specs.declared.verdict.Verdict.TheVariants.{Yes};
+ghost use Rattle.mc_run.specs.AuditRun.{Answers, HeadlineOf, IsAudited, IsAuditText};
+ghost use Rattle.mc_run.specs.AuditRun.{IsFlowAudited, WritesAudit, WritesPartOfAudit};
+ghost use Rattle.mc_run.specs.AuditRun.{WritesWhichAreRight, events_told};
+ghost use Rattle.mc_run.specs.CheckRun.{SaysYes};
+ghost use Rattle.mc_run.specs.Failures.{failed_by, failed_reads, failed_writes};
+ghost use Rattle.mc_run.specs.FilesMeaning.{AreRefusedFor, MeansFiles};
+ghost use Rattle.mc_run.specs.MakeRun.{found_lines};
+ghost use Rattle.mc_run.specs.VerdictText.{flow_line};
+
+use crate::domain_input::assembled;
+use crate::fault::RunFault;
+use crate::found_text::push_found;
+use crate::travel_text::push_events;
+use crate::verdict_text::push_verdict;
+use mc_cert::Reached;
+use mc_check::{Verdict, check_flow};
+use mc_files::FileSource;
+use mc_forward::Domain;
+use mc_input::{FilesInput, read_files};
+use mc_maker::{Examined, examine};
+use mc_replay::Travel;
+use mc_text::{Memory as NoMemory, Output, write_all};
+use mc_topology::{Flow, Topology};
+use std::alloc::Global;
+
+/// The domain of what the files tell.
+fn domain_with(alloc: Global, input: FilesInput) -> Result<Domain, RunFault>
+    ensures assembled { IfOk result
+        (IsAssembled input.topology input.tables.items input.reports.items) }
+    ensures rules { IfOk result IsDomain }
+    ensures memory { IfErr result (λ fault. fault ≡ RunFault.Memory) }
+{
+    let FilesInput {
+        topology,
+        tables,
+        reports,
+    } = input;
+    match assembled(alloc, topology, tables, reports) {
+        Ok(domain) => Ok(domain),
+        Err(_) => Err(RunFault::Memory),
+    }
+}
+
+/// The domain that a folder's files tell.
+fn domain_of<F: FileSource>(alloc: Global, files: &mut F) -> Result<Domain, RunFault>
+    requires { F.failed files.old < u64.MAX }
+    ensures same { F.names files.new ≡ F.names files.old }
+    ensures means { IfOk result (λ domain.
+        IfSome (F.told files.old) (λ told. MeansFiles told domain)) }
+    ensures refused { IfErr result (λ fault.
+        IfSome (F.told files.old) (λ told. AreRefusedFor told fault)) }
+    ensures no_write { IfErr result (λ fault. fault ≢ RunFault.Write) }
+    ensures failures { F.failed files.new ≡ failed_by result (F.failed files.old) }
+{
+    let input = read_files(alloc, files)?;
+    domain_with(alloc, input)
+}
+
+/// Writes what the checker answers of a flow. It answers whether that is yes.
+fn push_answer(
+    text: &mut String,
+    topology: &Topology,
+    flow: &Flow,
+    answer: Result<Verdict, NoMemory>,
+) -> Result<bool, NoMemory>
+    ensures { IfOk result (λ yes. IsOkAnd answer (λ verdict. (yes ≡ is_yes verdict)
+        × (string_bytes text.new
+        ≡ string_bytes text.old ++ flow_line topology.now flow.now verdict))) }
+{
+    match answer {
+        Ok(verdict) => push_verdict(text, topology, flow, verdict),
+        Err(_) => Err(NoMemory),
+    }
+}
+
+/// Checks a list of entries for a flow, and writes the verdict. It answers whether that is yes.
+fn push_checked(
+    alloc: Global,
+    domain: &Domain,
+    flow: u32,
+    entries: &[Reached],
+    text: &mut String,
+) -> Result<bool, NoMemory>
+    requires flow { flow < length domain.now.topology.flows }
+    requires lans { All (λ e. e.lan < length domain.now.topology.lans) entries.now }
+    ensures accepted { IfOk result (λ yes.
+        IsTrue yes ↔ IsAccepted (net_of domain.now flow) entries.now) }
+    ensures headline { IfOk result (λ yes.
+        IsTrue yes → HeadlineHolds (net_of domain.now flow) (length entries.now)) }
+    ensures written { IfOk result (λ yes. IsTrue yes → (listed : Flow) →
+        slice_get domain.now.topology.flows flow ≡ Some listed →
+        string_bytes text.new ≡ string_bytes text.old
+        ++ flow_line domain.now.topology listed (Yes (length entries.now))) }
+{
+    let topology = domain.topology();
+    let answer = check_flow(alloc, domain, flow, entries);
+    push_answer(text, topology, topology.flow(flow), answer)
+}
+
+/// Writes that a flow has no certificate, what a packet with this time to live meets, and where
+/// travels are to be shown the events of its travel.
+fn push_uncertified(
+    topology: &Topology,
+    flow: &Flow,
+    ttl: u8,
+    travel: &Travel,
+    travels: bool,
+    text: &mut String,
+) -> Result<(), NoMemory>
+    ensures { OnOk result (string_bytes text.new ≡ string_bytes text.old
+        ++ (found_lines topology.now flow.now ttl travel.now.finding
+        ++ events_told travels topology.now travel.now)) }
+{
+    push_found(text, topology, flow, ttl, travel.finding)?;
+    if travels {
+        push_events(text, topology, &travel.events)?;
+    }
+    Ok(())
+}
+
+/// Examines a flow of a domain, and writes what is found. It answers whether the flow is certified.
+fn push_flow(
+    alloc: Global,
+    domain: &Domain,
+    flow: u32,
+    travels: bool,
+    text: &mut String,
+) -> Result<bool, NoMemory>
+    requires { flow < length domain.now.topology.flows }
+    ensures { IfOk result (λ certified. IsFlowAudited domain.now flow travels certified
+        (string_bytes text.old) (string_bytes text.new)) }
+{
+    match examine(alloc, domain, flow)? {
+        Examined::Certified(entries) => push_checked(alloc, domain, flow, &entries, text),
+        Examined::Found { ttl, travel } => {
+            let topology = domain.topology();
+            push_uncertified(topology, topology.flow(flow), ttl, &travel, travels, text)?;
+            Ok(false)
+        }
+    }
+}
+
+/// What is written of a domain, and whether all its flows are certified.
+#[derive(Drop)]
+struct Told {
+    text: String,
+    yes: bool,
+}
+
+/// What is written of each flow of a domain, in order, and last of all.
+fn audit_all(alloc: Global, domain: &Domain, travels: bool) -> Result<Told, NoMemory>
+    ensures { IfOk result (λ told. IsAudited domain.now travels told.yes (string_bytes told.text)) }
+{
+    let mut text = String::new(alloc);
+    let mut yes = true;
+    for flow in 0..domain.topology().flows() {
+        yes &= push_flow(alloc, domain, flow, travels, &mut text)?;
+    }
+    let last = if yes { "verdict yes\n" } else { "verdict no\n" };
+    text.push_str(last).map_err(|_| NoMemory)?;
+    Ok(Told { text, yes })
+}
+
+/// What is written of the domain that a folder's files tell.
+fn audit_of<F: FileSource>(alloc: Global, files: &mut F, travels: bool) -> Result<Told, RunFault>
+    requires { F.failed files.old < u64.MAX }
+    ensures same { F.names files.new ≡ F.names files.old }
+    ensures text { IfOk result (λ told. IfSome (F.told files.old) (λ files.
+        IsAuditText files travels told.yes (string_bytes told.text))) }
+    ensures refused { IfErr result (λ fault.
+        IfSome (F.told files.old) (λ files. AreRefusedFor files fault)) }
+    ensures no_write { IfErr result (λ fault. fault ≢ RunFault.Write) }
+    ensures failures { F.failed files.new ≡ failed_by result (F.failed files.old) }
+{
+    let domain = domain_of(alloc, files)?;
+    let told = audit_all(alloc, &domain, travels);
+    drop(domain);
+    match told {
+        Ok(told) => Ok(told),
+        Err(_) => Err(RunFault::Memory),
+    }
+}
+
+/// Reads the files of a domain, each at most 16,777,216 bytes, and judges each before it asks for
+/// the next one. Then it examines each flow of the topology, and checks each list that is made. It
+/// writes for each flow, in order, the checker's yes with the number of copies, or that it has no
+/// certificate and what a packet of it meets, with the events of that packet's travel where
+/// `travels` says that they are to be shown; and last `verdict yes` or `verdict no`. It answers
+/// whether all flows are certified. Files that are refused write nothing.
+pub fn run_audit<F: FileSource, W: Output>(
+    alloc: Global,
+    files: &mut F,
+    travels: bool,
+    output: &mut W,
+) -> Result<bool, RunFault>
+    requires reads { F.failed files.old < u64.MAX }
+    requires writes { W.failed output.old < u64.MAX }
+    ensures files_same { F.names files.new ≡ F.names files.old }
+    ensures output_same { W.names output.new ≡ W.names output.old }
+    // The answer is that of the definition, or the first fault of the files.
+    ensures answer { IfSome (F.told files.old) (λ told. Answers told travels result) }
+    // The text is written whole, or a part of it where the output failed, or else nothing.
+    ensures written { IfOk result (λ all. IfSome (F.told files.old) (λ told.
+        WritesAudit told travels all (W.took output.old) (W.took output.new))) }
+    // Its lines say of a flow that it has no certificate exactly where the flow isn't right, and it
+    // ends with yes exactly where every listed flow is right.
+    ensures right { IfOk result (λ all. IfSome (F.told files.old) (λ told.
+        WritesWhichAreRight told all (W.took output.old) (W.took output.new))) }
+    ensures part { result ≡ Err RunFault.Write → IfSome (F.told files.old) (λ told.
+        WritesPartOfAudit told travels (W.took output.old) (W.took output.new)) }
+    ensures unwritten { IfErr result (λ fault. fault ≢ RunFault.Write → output.new ≡ output.old) }
+    // Read and Write come only where the device's failures rose in the call.
+    ensures read_failures { F.failed files.new ≡ failed_reads result (F.failed files.old) }
+    ensures write_failures { W.failed output.new ≡ failed_writes result (W.failed output.old) }
+    // Where the run says yes, the headline holds of what it read.
+    ensures headline { SaysYes result (W.took output.old) (W.took output.new)
+        → IfSome (F.told files.old) HeadlineOf }
+{
+    let told = audit_of(alloc, files, travels)?;
+    write_all(output, told.text.as_bytes()).map_err(|_| RunFault::Write)?;
+    Ok(told.yes)
+}

@@ -1,0 +1,145 @@
+//! Why a run gives no answer.
+
+ghost use Rattle.std.specs.Prelude.{◌≡◌};
+ghost use Rattle.mc_run.specs.declared.fault.RunFault.TheVariants.{Memory};
+ghost use Rattle.mc_run.specs.PackingRun.{of_packing};
+ghost use Rattle.mc_run.specs.RunFault.{of_certificate, of_files, of_input, of_list, of_reading};
+
+use mc_cert::{CertFault, CertFaultKind};
+use mc_files::PackFault;
+use mc_igmp::{ListFault, ListFaultKind};
+use mc_input::{FilesFault, InputFault};
+use mc_tables::TableFault;
+use mc_text::{BundleFault, Memory as NoMemory, PartName, ReadFault};
+use mc_topology::TopologyFault;
+use thiserror::Error;
+
+/// Why a run gives no answer.
+#[derive(Clone, Copy, Debug, PartialEq, Eq, Error)]
+pub enum RunFault {
+    /// (1) The framing of the bundle is wrong.
+    #[error("refused: bundle: {0}")]
+    Bundle(BundleFault),
+    /// (2) The part at this place, counted from 1, has another name than it should, is missing, or
+    /// is one too many.
+    #[error("refused: parts: {0}")]
+    Parts(u32),
+    /// (3) The topology is refused.
+    #[error("refused: topology: {0}")]
+    Topology(TopologyFault),
+    /// (4) The table of a router's vifs is refused, in the part with this name.
+    #[error("refused: {0}: {1}")]
+    Vif(PartName, TableFault),
+    /// (5) The forwarding cache of a router is refused, in the part with this name.
+    #[error("refused: {0}: {1}")]
+    Cache(PartName, TableFault),
+    /// (6) The report list of a LAN is refused, in the part with this name.
+    #[error("refused: {0}: {1}")]
+    PartReports(PartName, ListFault),
+    /// (6) The report list that is the whole input is refused.
+    #[error("refused: igmp: {0}")]
+    Reports(ListFault),
+    /// (7) The certificate is refused.
+    #[error("refused: certificate: {0}")]
+    Certificate(CertFault),
+    /// (8) The topology lists no flow with this number, counted from 1.
+    #[error("refused: flow: {0}")]
+    NoSuchFlow(u32),
+    /// (9) The input failed.
+    #[error("failed: read")]
+    Read,
+    /// (10) The output failed, or took no byte of a text that has one.
+    #[error("failed: write")]
+    Write,
+    /// (11) Memory ran out.
+    #[error("no memory")]
+    Memory,
+}
+
+/// A bundle is refused. Want of memory is the run's own.
+impl From<InputFault> for RunFault {
+    ghost from_gives = { λ input fault. fault ≡ of_input input };
+
+    fn from(fault: InputFault) -> RunFault {
+        match fault {
+            InputFault::Bundle(fault) => RunFault::Bundle(fault),
+            InputFault::Parts(place) => RunFault::Parts(place),
+            InputFault::Topology(fault) => RunFault::Topology(fault),
+            InputFault::Vif(part, fault) => RunFault::Vif(part, fault),
+            InputFault::Cache(part, fault) => RunFault::Cache(part, fault),
+            InputFault::Reports(part, fault) => RunFault::PartReports(part, fault),
+            InputFault::Memory => RunFault::Memory,
+        }
+    }
+}
+
+/// A folder's files are refused. A file that is too large for a bundle is told of the bundle.
+impl From<FilesFault> for RunFault {
+    ghost from_gives = { λ files fault. fault ≡ of_files files };
+
+    fn from(fault: FilesFault) -> RunFault {
+        match fault {
+            FilesFault::Input(fault) => RunFault::from(fault),
+            FilesFault::TooLarge => RunFault::Bundle(BundleFault::TooLarge),
+            FilesFault::Read => RunFault::Read,
+        }
+    }
+}
+
+/// Nothing is packed. What is too large for a bundle is told of the bundle.
+impl From<PackFault> for RunFault {
+    ghost from_gives = { λ packing fault. fault ≡ of_packing packing };
+
+    fn from(fault: PackFault) -> RunFault {
+        match fault {
+            PackFault::Topology(fault) => RunFault::Topology(fault),
+            PackFault::TooLarge => RunFault::Bundle(BundleFault::TooLarge),
+            PackFault::Read => RunFault::Read,
+            PackFault::Write => RunFault::Write,
+            PackFault::Memory => RunFault::Memory,
+        }
+    }
+}
+
+/// A certificate is refused. Want of memory is the run's own.
+impl From<CertFault> for RunFault {
+    ghost from_gives = { λ certificate fault. fault ≡ of_certificate certificate };
+
+    fn from(fault: CertFault) -> RunFault {
+        match fault.kind {
+            CertFaultKind::Memory => RunFault::Memory,
+            _ => RunFault::Certificate(fault),
+        }
+    }
+}
+
+/// A report list is refused. Want of memory is the run's own.
+impl From<ListFault> for RunFault {
+    ghost from_gives = { λ list fault. fault ≡ of_list list };
+
+    fn from(fault: ListFault) -> RunFault {
+        match fault.kind {
+            ListFaultKind::Memory => RunFault::Memory,
+            _ => RunFault::Reports(fault),
+        }
+    }
+}
+
+impl From<NoMemory> for RunFault {
+    ghost from_gives = { λ _ fault. fault ≡ Memory };
+
+    fn from(_refused: NoMemory) -> RunFault {
+        RunFault::Memory
+    }
+}
+
+impl From<ReadFault> for RunFault {
+    ghost from_gives = { λ read fault. fault ≡ of_reading read };
+
+    fn from(fault: ReadFault) -> RunFault {
+        match fault {
+            ReadFault::Read => RunFault::Read,
+            ReadFault::Memory => RunFault::Memory,
+        }
+    }
+}

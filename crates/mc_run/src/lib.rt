@@ -1,0 +1,27 @@
+//! The runs: what each command does with what it reads, and what it writes and answers.
+#![tactic(auto)]
+
+mod audit;
+mod check;
+mod domain_input;
+mod fault;
+mod found_text;
+mod laws;
+mod make;
+mod pack;
+mod replay;
+mod travel_text;
+mod verdict_text;
+mod wants;
+
+pub use audit::run_audit;
+pub use check::run_check;
+pub use fault::RunFault;
+pub use laws::made_certificates_are_accepted;
+pub use make::run_make;
+pub use pack::run_pack;
+pub use replay::run_replay;
+pub use wants::run_wants;
+
+#[cfg(test)]
+mod tests;

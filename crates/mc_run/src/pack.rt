@@ -1,0 +1,47 @@
+//! `mcaudit pack`: the bundle of a folder's files.
+
+ghost use Rattle.std.specs.Prelude.{◌≡◌, ◌≢◌, ◌<◌, List, Some, IfErr, IfOk, IfSome, Err};
+ghost use Rattle.mc_text.specs.Bundle.{PartText};
+ghost use Rattle.mc_files.specs.Files.{FileText};
+ghost use Rattle.mc_files.specs.Packing.{IsPacked};
+ghost use Rattle.mc_files.specs.PackRun.{WritesPacked, WritesPartOfPacked};
+ghost use Rattle.mc_run.specs.PackingRun.{AnswersPack, IsOfDevices, failed_file_reads};
+ghost use Rattle.mc_run.specs.PackingRun.{failed_pack_writes};
+
+use crate::fault::RunFault;
+use mc_files::FileSource;
+use mc_text::Output;
+use std::alloc::Global;
+
+/// Reads the files of a domain, the certificate among them where one is asked for, each at most
+/// 16,777,216 bytes, and writes the bundle that is packed of them. It judges the topology, before
+/// it asks for the next file, and no other file. Files that make no bundle write nothing.
+pub fn run_pack<F: FileSource, W: Output>(
+    alloc: Global,
+    files: &mut F,
+    certificate: bool,
+    output: &mut W,
+) -> Result<(), RunFault>
+    requires reads { F.failed files.old < u64.MAX }
+    requires writes { W.failed output.old < u64.MAX }
+    ensures files_same { F.names files.new ≡ F.names files.old }
+    ensures output_same { W.names output.new ≡ W.names output.old }
+    ensures kept { F.told files.new ≡ F.told files.old }
+    // There is a bundle of the files, or the answer is the first reason why there is none.
+    ensures answer { IfSome (F.told files.old) (λ told. AnswersPack certificate told result) }
+    // Where there is one, only a device or want of memory keeps it from being written.
+    ensures only { (told : List FileText) (parts : List PartText) → F.told files.old ≡ Some told
+        → IsPacked told certificate parts → IfErr result IsOfDevices }
+    // The bundle is written whole, or a part of it where the output failed, or else nothing.
+    ensures written { IfOk result (λ _. IfSome (F.told files.old) (λ told.
+        WritesPacked certificate told (W.took output.old) (W.took output.new))) }
+    ensures part { result ≡ Err RunFault.Write → IfSome (F.told files.old) (λ told.
+        WritesPartOfPacked certificate told (W.took output.old) (W.took output.new)) }
+    ensures unwritten { IfErr result (λ fault. fault ≢ RunFault.Write → output.new ≡ output.old) }
+    // Read and Write come only where the device's failures rose in the call.
+    ensures read_failures { F.failed files.new ≡ failed_file_reads result (F.failed files.old) }
+    ensures write_failures { W.failed output.new ≡ failed_pack_writes result (W.failed output.old) }
+{
+    mc_files::pack(alloc, files, certificate, output)?;
+    Ok(())
+}

@@ -1,0 +1,117 @@
+//! `mcaudit replay`: the travel of one packet through a domain, event by event, and what it shows.
+
+ghost use Rattle.std.specs.Prelude.{◌≡◌, ◌≢◌, ◌+◌, ◌<◌, ◌⊎◌, IfErr, IfOk, IfSome, Err, length};
+ghost use Rattle.std.specs.String.{string_bytes};
+ghost use Rattle.mc_text.specs.ReadFault.{ConsumesUpTo};
+ghost use Rattle.mc_run.specs.BundleMeaning.{max_input};
+ghost use Rattle.mc_run.specs.Failures.{IsNoDeviceFault, failed_reads, failed_writes};
+ghost use Rattle.mc_run.specs.ReplayRun.{Answers, HasNoTravel, IsReplayRefused, IsTextOfTravel};
+ghost use Rattle.mc_run.specs.ReplayRun.{IsTravelText, WritesPartOfTravel, WritesTravel};
+
+use crate::domain_input::{MAX_INPUT, domain_in};
+use crate::fault::RunFault;
+use crate::travel_text::{is_clean, travel_text};
+use mc_forward::Domain;
+use mc_replay::{Picker, replay};
+use mc_text::{Input, Output, read_to_limit, write_all};
+use std::alloc::Global;
+
+/// The place, from 0, of the flow with this number, counted from 1.
+fn place_of(domain: &Domain, flow: u32) -> Result<u32, RunFault>
+    ensures counted { IfOk result (λ place. flow ≡ place + 1) }
+    ensures listed { IfOk result (λ place. place < length domain.now.topology.flows) }
+    ensures fault { IfErr result (λ fault. fault ≡ RunFault.NoSuchFlow flow) }
+    ensures none { IfErr result (λ _. (flow ≡ 0) ⊎ (length domain.now.topology.flows < flow)) }
+{
+    if flow == 0 || domain.topology().flows() < flow {
+        return Err(RunFault::NoSuchFlow(flow));
+    }
+    Ok(flow - 1)
+}
+
+/// The text of a travel, and whether it is clean.
+#[derive(Drop)]
+struct Told {
+    text: String,
+    clean: bool,
+}
+
+/// The travel of a packet through a domain.
+fn travel_of<P: Picker>(
+    alloc: Global,
+    domain: &Domain,
+    flow: u32,
+    ttl: u8,
+    picker: &mut P,
+) -> Result<Told, RunFault>
+    requires { 0 < ttl }
+    ensures text { IfOk result (λ told. IsTextOfTravel domain.now flow ttl (P.choices picker.old)
+        told.clean (string_bytes told.text)) }
+    ensures none { IfErr result (HasNoTravel domain.now flow) }
+{
+    let place = place_of(domain, flow)?;
+    let travel = replay(alloc, domain, place, ttl, picker)?;
+    let topology = domain.topology();
+    let text = travel_text(alloc, topology, topology.flow(place), ttl, &travel)?;
+    let clean = is_clean(travel.finding);
+    Ok(Told { text, clean })
+}
+
+/// The travel of a packet through the domain that a bundle tells.
+fn travel_in<P: Picker>(
+    alloc: Global,
+    flow: u32,
+    ttl: u8,
+    picker: &mut P,
+    text: &[u8],
+) -> Result<Told, RunFault>
+    requires { 0 < ttl }
+    ensures text { IfOk result (λ told. IsTravelText text.now flow ttl (P.choices picker.old)
+        told.clean (string_bytes told.text)) }
+    ensures refused { IfErr result (IsReplayRefused text.now flow) }
+    ensures no_device { IfErr result IsNoDeviceFault }
+{
+    let input = domain_in(alloc, text, false)?;
+    travel_of(alloc, &input.domain, flow, ttl, picker)
+}
+
+/// Reads a bundle without a certificate from the input, at most 268,435,552 bytes, and writes the
+/// travel of one packet of the flow with this number, counted from 1, sent with this time to live,
+/// 1 to 255, whose copies are handled in the order that the picker chooses: its events, and last
+/// what it shows. It answers whether that is `Clean`. A refused bundle writes nothing.
+pub fn run_replay<P: Picker, R: Input, W: Output>(
+    alloc: Global,
+    flow: u32,
+    ttl: u8,
+    picker: &mut P,
+    input: &mut R,
+    output: &mut W,
+) -> Result<bool, RunFault>
+    requires ttl { 0 < ttl }
+    requires reads { R.failed input.old < u64.MAX }
+    requires writes { W.failed output.old < u64.MAX }
+    ensures input_same { R.names input.new ≡ R.names input.old }
+    ensures output_same { W.names output.new ≡ W.names output.old }
+    // The answer is that of the definition, or the bundle's first fault, or that it lists no such
+    // flow.
+    ensures answer { IfSome (R.told input.old) (λ text.
+        Answers text flow ttl (P.choices picker.old) result) }
+    // No more is read than the greatest bundle and a line, whatever the answer.
+    ensures consumed { ConsumesUpTo max_input (R.told input.old) (R.told input.new) }
+    // The travel's text is written whole, or a part of it where the output failed, or else nothing.
+    ensures written { IfOk result
+        (λ clean. IfSome (R.told input.old) (λ text. WritesTravel text flow ttl
+        (P.choices picker.old) clean (W.took output.old) (W.took output.new))) }
+    ensures part { result ≡ Err RunFault.Write → IfSome (R.told input.old) (λ text.
+        WritesPartOfTravel text flow ttl (P.choices picker.old)
+        (W.took output.old) (W.took output.new)) }
+    ensures unwritten { IfErr result (λ fault. fault ≢ RunFault.Write → output.new ≡ output.old) }
+    // Read and Write come only where the device's failures rose in the call.
+    ensures read_failures { R.failed input.new ≡ failed_reads result (R.failed input.old) }
+    ensures write_failures { W.failed output.new ≡ failed_writes result (W.failed output.old) }
+{
+    let text = read_to_limit(alloc, input, MAX_INPUT)?;
+    let told = travel_in(alloc, flow, ttl, picker, &text)?;
+    write_all(output, told.text.as_bytes()).map_err(|_| RunFault::Write)?;
+    Ok(told.clean)
+}

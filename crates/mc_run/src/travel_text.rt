@@ -1,0 +1,76 @@
+//! A travel as it is written, event by event.
+
+ghost use Rattle.std.specs.Prelude.{◌≡◌, ◌++◌, IfOk, OnOk};
+ghost use Rattle.std.specs.String.{string_bytes};
+ghost use Rattle.mc_run.specs.ReplayRun.{event_line, event_lines, finding_line, is_clean as clean};
+ghost use Rattle.mc_run.specs.ReplayRun.{replay_line, replay_text};
+
+use mc_forward::Event;
+use mc_replay::{Finding, Travel, shown_event};
+use mc_text::Memory as NoMemory;
+use mc_topology::{Flow, Topology};
+use std::alloc::Global;
+
+/// Whether the finding is `Clean`.
+pub(crate) fn is_clean(finding: Finding) -> bool
+    ensures { result ≡ clean finding }
+{
+    matches!(finding, Finding::Clean)
+}
+
+/// The first line.
+fn first_line(alloc: Global, flow: &Flow, ttl: u8) -> Result<String, NoMemory>
+    ensures { IfOk result (λ text. string_bytes text ≡ replay_line flow.now ttl) }
+{
+    format!(in alloc; "replay {} {} ttl {ttl}\n", flow.source, flow.group).map_err(|_| NoMemory)
+}
+
+/// Writes the line of an event.
+fn push_event(text: &mut String, topology: &Topology, event: Event) -> Result<(), NoMemory>
+    ensures { OnOk result (string_bytes text.new ≡
+        string_bytes text.old ++ event_line topology.now event) }
+{
+    let event = shown_event(event, topology);
+    writeln!(text, "event {event}").map_err(|_| NoMemory)
+}
+
+/// Writes the lines of events.
+pub(crate) fn push_events(
+    text: &mut String,
+    topology: &Topology,
+    events: &[Event],
+) -> Result<(), NoMemory>
+    ensures { OnOk result (string_bytes text.new ≡
+        string_bytes text.old ++ event_lines topology.now events.now) }
+{
+    for event in events {
+        push_event(text, topology, *event)?;
+    }
+    Ok(())
+}
+
+/// Writes the line of the finding.
+fn push_finding(text: &mut String, topology: &Topology, finding: Finding) -> Result<(), NoMemory>
+    ensures { OnOk result (string_bytes text.new ≡
+        string_bytes text.old ++ finding_line topology.now finding) }
+{
+    let finding = finding.shown(topology);
+    writeln!(text, "finding {finding}").map_err(|_| NoMemory)
+}
+
+/// The text of a travel of a flow's packet with this time to live.
+pub(crate) fn travel_text(
+    alloc: Global,
+    topology: &Topology,
+    flow: &Flow,
+    ttl: u8,
+    travel: &Travel,
+) -> Result<String, NoMemory>
+    ensures { IfOk result (λ text.
+        string_bytes text ≡ replay_text topology.now flow.now ttl travel.now) }
+{
+    let mut text = first_line(alloc, flow, ttl)?;
+    push_events(&mut text, topology, &travel.events)?;
+    push_finding(&mut text, topology, travel.finding)?;
+    Ok(text)
+}

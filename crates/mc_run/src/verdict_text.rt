@@ -1,0 +1,92 @@
+//! The verdicts on the flows of a topology, as they are written.
+
+ghost use Rattle.std.specs.Prelude.{◌≡◌, ◌++◌, IfOk, OnOk, Some, length};
+ghost use Rattle.std.specs.String.{string_bytes};
+ghost use Rattle.mc_check.specs.Verdicts.{is_yes};
+ghost use Rattle.mc_run.specs.VerdictText.{are_yes as all_yes, check_text as text_of_check};
+ghost use Rattle.mc_run.specs.VerdictText.{flow_words, flow_line};
+
+use mc_check::Verdict;
+use mc_text::Memory as NoMemory;
+use mc_topology::{Flow, Topology};
+use std::alloc::Global;
+use std::fmt;
+
+/// The words that begin a flow's line, as `flow 10.0.0.5 239.1.2.3 ttl 3`.
+#[derive(Clone, Copy, Drop)]
+pub(crate) struct FlowWords<'t> {
+    /// The flow.
+    pub(crate) flow: &'t Flow,
+}
+
+impl<'t> fmt::Display for FlowWords<'t> {
+    ghost output = { λ words. Some (flow_words words.flow.now) };
+
+    fn fmt<W: fmt::Write>(&self, f: &mut fmt::Formatter<W>) -> fmt::Result {
+        let flow = self.flow;
+        write!(f, "flow {} {} ttl {}", flow.source, flow.group, flow.ttl)
+    }
+}
+
+/// Whether every verdict is yes.
+pub(crate) fn are_yes(verdicts: &[Verdict]) -> bool
+    ensures { result ≡ all_yes verdicts.now }
+{
+    verdicts
+        .iter()
+        .all(|verdict| matches!(verdict, Verdict::Yes { .. }))
+}
+
+/// Writes the line of a flow and of its verdict.
+fn push_line(
+    text: &mut String,
+    topology: &Topology,
+    flow: &Flow,
+    verdict: Verdict,
+) -> Result<(), NoMemory>
+    ensures { OnOk result (string_bytes text.new ≡
+        string_bytes text.old ++ flow_line topology.now flow.now verdict) }
+{
+    let words = FlowWords { flow };
+    let verdict = verdict.shown(topology);
+    writeln!(text, "{words} {verdict}").map_err(|_| NoMemory)
+}
+
+/// Writes the line of a flow and of its verdict. It answers whether that is yes.
+pub(crate) fn push_verdict(
+    text: &mut String,
+    topology: &Topology,
+    flow: &Flow,
+    verdict: Verdict,
+) -> Result<bool, NoMemory>
+    ensures line { OnOk result (string_bytes text.new ≡
+        string_bytes text.old ++ flow_line topology.now flow.now verdict) }
+    ensures yes { IfOk result (λ yes. yes ≡ is_yes verdict) }
+{
+    let yes = matches!(verdict, Verdict::Yes { .. });
+    push_line(text, topology, flow, verdict)?;
+    Ok(yes)
+}
+
+/// A line for each flow of the topology, and the verdict on all.
+pub(crate) fn check_text(
+    alloc: Global,
+    topology: &Topology,
+    verdicts: &[Verdict],
+) -> Result<String, NoMemory>
+    requires { length verdicts.now ≡ length topology.now.flows }
+    ensures { IfOk result (λ text. string_bytes text ≡ text_of_check topology.now verdicts.now) }
+{
+    let mut text = String::new(alloc);
+    for flow in 0..topology.flows() {
+        let verdict = verdicts[flow as usize];
+        push_line(&mut text, topology, topology.flow(flow), verdict)?;
+    }
+    let last = if are_yes(verdicts) {
+        "verdict yes\n"
+    } else {
+        "verdict no\n"
+    };
+    text.push_str(last).map_err(|_| NoMemory)?;
+    Ok(text)
+}

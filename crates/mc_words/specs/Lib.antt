@@ -1,0 +1,2 @@
+pub mod Task
+pub use Rattle.mc_text.specs.Addr

@@ -1,0 +1,185 @@
+//! What the program's words ask for.
+
+ghost use Rattle.std.specs.Prelude.{◌≡◌, ◌≤◌, ℕ, IfOk, IfSome, Ok, Some};
+ghost use Rattle.mc_text.specs.Addr.{IsForwardedGroup, IsSource, dotted};
+ghost use Rattle.mc_text.specs.Number.{IsDecimal};
+ghost use Rattle.mc_words.specs.Task.{AreWords, IsAllowed};
+
+use crate::command::{program, replay_command, wants_command};
+use crate::fault::{WordsFault, refusal, wrong_words};
+use clap::ArgMatches;
+use clap::error::ErrorKind;
+use mc_text::{Addr, decimal};
+use std::alloc::Global;
+
+/// What the words ask for.
+#[derive(Clone, Copy, Debug, PartialEq, Eq)]
+pub enum Task<'a> {
+    /// Whether the LAN whose reports are read wants what the source sends to the group.
+    Wants {
+        /// 224.0.1.0 to 239.255.255.255.
+        group: Addr,
+        /// An address whose first octet is 1 to 223 and not 127.
+        source: Addr,
+    },
+    /// Whether a bundle's certificate proves that its domain forwards every listed flow as it
+    /// should.
+    Check,
+    /// The certificate of a bundle's domain, or what a packet meets of each flow that has none.
+    Make,
+    /// The travel of one packet through a bundle's domain.
+    Replay {
+        /// The number of the packet's flow, 1 to 4,096.
+        flow: u32,
+        /// The packet's time to live, 1 to 255.
+        ttl: u8,
+        /// Whether the last of the waiting copies is always handled next, and not the first.
+        last: bool,
+    },
+    /// The bundle of a folder's files.
+    Pack {
+        /// The folder's path, which is empty for the present directory.
+        folder: &'a str,
+        /// Whether the certificate is to be in the bundle.
+        certificate: bool,
+    },
+    /// Which flows of the domain of a folder's files have a certificate, and what a packet meets of
+    /// each other one.
+    Audit {
+        /// The folder's path, which is empty for the present directory.
+        folder: &'a str,
+        /// Whether the travel of that packet is shown too.
+        travels: bool,
+    },
+}
+
+const GROUP_RULE: &str = "<group> is an address from 224.0.1.0 to 239.255.255.255, as 239.1.2.3";
+
+const FLOW_RULE: &str = "<flow> is a number from 1 to 4096";
+
+const TTL_RULE: &str = "<ttl> is a number from 1 to 255";
+
+const ORDER_RULE: &str = "--order is first or last";
+
+const SOURCE_RULE: &str =
+    "<source> is an address whose first number is 1 to 223 and not 127, as 10.0.0.5";
+
+/// The group that the word writes, if routers forward it.
+fn group_of(word: &str) -> Option<Addr>
+    ensures found { IfSome result (λ group. IsForwardedGroup group × (word.now ≡ dotted group)) }
+    ensures only { (group : ℕ) → IsForwardedGroup group → word.now ≡ dotted group
+        → result ≡ Some group }
+{
+    let group = Addr::parse_dotted(word.as_bytes())?;
+    group.is_forwarded_group().then_some(group)
+}
+
+/// The source that the word writes, if a host may send from it.
+fn source_of(word: &str) -> Option<Addr>
+    ensures found { IfSome result (λ source. IsSource source × (word.now ≡ dotted source)) }
+    ensures only { (source : ℕ) → IsSource source → word.now ≡ dotted source
+        → result ≡ Some source }
+{
+    let source = Addr::parse_dotted(word.as_bytes())?;
+    source.is_source().then_some(source)
+}
+
+/// The number from 1 to the greatest that the word writes in decimal.
+fn number_of(word: &str, greatest: u64) -> Option<u64>
+    ensures range { IfSome result (λ number. (1 ≤ number) × (number ≤ greatest)) }
+    ensures found { IfSome result (IsDecimal word.now) }
+{
+    let number = decimal(word.as_bytes(), greatest)?;
+    (number >= 1).then_some(number)
+}
+
+/// Whether the word asks for the last of the waiting copies, `last`, or for the first, `first`.
+fn is_last(word: &str) -> Option<bool> {
+    match word {
+        "first" => Some(false),
+        "last" => Some(true),
+        _ => None,
+    }
+}
+
+/// The task of the words after `replay`.
+fn replay_task(
+    alloc: Global,
+    flow: &str,
+    ttl: &str,
+    order: &str,
+) -> Result<Task<'static>, WordsFault>
+    ensures allowed { IfOk result IsAllowed }
+{
+    let Some(flow) = number_of(flow, 4_096) else {
+        return Err(wrong_words(alloc, replay_command(alloc), FLOW_RULE));
+    };
+    let Some(ttl) = number_of(ttl, 255) else {
+        return Err(wrong_words(alloc, replay_command(alloc), TTL_RULE));
+    };
+    let Some(last) = is_last(order) else {
+        return Err(wrong_words(alloc, replay_command(alloc), ORDER_RULE));
+    };
+    let flow = flow as u32;
+    let ttl = ttl as u8;
+    Ok(Task::Replay { flow, ttl, last })
+}
+
+/// The task of the words after `wants`.
+fn wants_task(alloc: Global, group: &str, source: &str) -> Result<Task<'static>, WordsFault>
+    ensures allowed { IfOk result IsAllowed }
+    ensures found { IfOk result (AreWords group.now source.now) }
+    ensures only { (g s : ℕ) → IsForwardedGroup g → IsSource s → group.now ≡ dotted g
+        → source.now ≡ dotted s
+        → result ≡ Ok (Task.Wants g s) }
+{
+    let Some(group) = group_of(group) else {
+        return Err(wrong_words(alloc, wants_command(alloc), GROUP_RULE));
+    };
+    let Some(source) = source_of(source) else {
+        return Err(wrong_words(alloc, wants_command(alloc), SOURCE_RULE));
+    };
+    Ok(Task::Wants { group, source })
+}
+
+/// The word of a required argument.
+fn word_of<'a>(matches: &ArgMatches<'a>, argument: &str) -> &'a str {
+    matches.get_str(argument).unwrap_or("")
+}
+
+/// The task that the program's words ask for. The first word is the program's own name.
+pub fn command_of<'a>(alloc: Global, words: &'a [&'a str]) -> Result<Task<'a>, WordsFault>
+    // A task is given only with a group that routers forward and an address that a host may send
+    // from, and with a flow's number from 1 to 4,096 and a time to live from 1.
+    ensures allowed { IfOk result IsAllowed }
+{
+    let matches = match program(alloc)?.try_get_matches_from(words) {
+        Ok(matches) => matches,
+        Err(error) if error.kind() == ErrorKind::OutOfMemory => return Err(WordsFault::Memory),
+        Err(error) => return Err(refusal(alloc, &error)),
+    };
+    match matches.subcommand() {
+        Some(("audit", words)) => Ok(Task::Audit {
+            folder: word_of(words, "folder"),
+            travels: words.get_flag("travel"),
+        }),
+        Some(("check", _)) => Ok(Task::Check),
+        Some(("make", _)) => Ok(Task::Make),
+        Some(("pack", words)) => Ok(Task::Pack {
+            folder: word_of(words, "folder"),
+            certificate: words.get_flag("certificate"),
+        }),
+        Some(("replay", words)) => replay_task(
+            alloc,
+            word_of(words, "flow"),
+            word_of(words, "ttl"),
+            word_of(words, "order"),
+        ),
+        Some(("wants", words)) => wants_task(
+            alloc,
+            word_of(words, "group"),
+            word_of(words, "source"),
+        ),
+        _ => Err(wrong_words(alloc, program(alloc), "no command is given")),
+    }
+}

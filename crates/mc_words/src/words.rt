@@ -1,0 +1,29 @@
+//! The program's words, as the system hands them over.
+
+ghost use Rattle.std.specs.Prelude.{◌≡◌, map, IfOk};
+ghost use Rattle.std.specs.String.{string_bytes};
+
+use crate::command::program;
+use crate::fault::{WordsFault, wrong_words};
+use std::alloc::Global;
+use std::env::{self, Env};
+use std::io;
+
+/// The program's words, its own name first.
+pub fn words_of(rt: &(impl Env + AllocGlobal)) -> Result<Vec<String>, WordsFault> {
+    match env::args(rt) {
+        Ok(words) => Ok(words.collect(rt.alloc())?),
+        Err(error) if error.kind() == io::ErrorKind::OutOfMemory => Err(WordsFault::Memory),
+        Err(_) => {
+            let alloc = rt.alloc();
+            Err(wrong_words(alloc, program(alloc), "a word is no text (UTF-8)"))
+        }
+    }
+}
+
+/// The words, borrowed.
+pub fn borrowed(alloc: Global, words: &[String]) -> Result<Vec<&str>, WordsFault>
+    ensures { IfOk result (λ all. map (λ word. word.now) all.items ≡ map string_bytes words.now) }
+{
+    Ok(words.iter().map(|word| word.as_str()).collect(alloc)?)
+}

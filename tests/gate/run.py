@@ -1,0 +1,175 @@
+#!/usr/bin/env python3
+"""The gate: every proof from nothing, the tests, the programs, the edits that must fail, and the cases.
+
+  python3 tests/gate/run.py [REPORT]
+
+It works on a copy of the repository, in steps:
+
+  proofs    `rt ci` proves each crate and its tests from nothing, runs the tests, and builds and runs the program
+  edits     tests/edits/try.py tries the wrong bodies of crates/*/must-fail, many in one check: the prover must
+            refuse each. (The copy that `rt ci` sees has none of them: it would try each in a check of its own.)
+  cases     tests/cli on the program that was built, and tests/tools on the shell tools
+
+What only `make bench` needs, the crate `measure`, is left out. At the end stands what each step and each crate
+took in processor time; with REPORT, a path, the same as a page in Markdown. The last line counts everything,
+`N passed, M failed`, and the status is 0 if nothing failed.
+"""
+import os
+import re
+import resource
+import shutil
+import subprocess
+import sys
+import tempfile
+import threading
+import time
+
+LEFT_OUT = {"measure"}
+TICK = os.sysconf("SC_CLK_TCK")
+COUNTS = re.compile(r"(\d+) passed, (\d+) failed")
+
+
+class Prover:
+    """What the prover took for each crate, seen by looking at its processes every half second."""
+
+    def __init__(self):
+        self.used = {}
+        self.is_over = False
+        self.watch = threading.Thread(target=self.look_often, daemon=True)
+        self.watch.start()
+
+    def look_often(self):
+        while not self.is_over:
+            for process in os.listdir("/proc"):
+                if process.isdigit():
+                    self.look_at(process)
+            time.sleep(0.5)
+
+    def look_at(self, process):
+        try:
+            with open(f"/proc/{process}/cmdline", "rb") as file:
+                words = file.read().decode(errors="replace").split("\0")
+            if os.path.basename(words[0]) != "rattle" or "--crate-name" not in words:
+                return
+            with open(f"/proc/{process}/stat", encoding="utf-8") as file:
+                fields = file.read().rpartition(")")[2].split()
+        except OSError:
+            return
+        crate = words[words.index("--crate-name") + 1]
+        part = "edits" if "--only" in words else "tests" if "--test" in words else "proof"
+        self.used[process, fields[19]] = crate, part, (int(fields[11]) + int(fields[12])) / TICK
+
+    def by_crate(self):
+        """Returns for each crate what its proof, its edits and its tests took, in seconds."""
+        self.is_over = True
+        self.watch.join()
+        found = {}
+        for crate, part, seconds in self.used.values():
+            parts = found.setdefault(crate, {"proof": 0.0, "edits": 0.0, "tests": 0.0})
+            parts[part] += seconds
+        return found
+
+
+def processor_time():
+    used = resource.getrusage(resource.RUSAGE_CHILDREN)
+    return used.ru_utime + used.ru_stime
+
+
+class Gate:
+    """The steps, what each took, and how many things passed and failed in them."""
+
+    def __init__(self, room):
+        self.room, self.steps, self.passed, self.failed = room, [], 0, 0
+
+    def step(self, name, *words):
+        """Runs a command in the copy. Its last line that counts is added up; without one, it counts as one thing."""
+        print(f"== {name}: {' '.join(words)}", flush=True)
+        before, begun, counts = processor_time(), time.monotonic(), None
+        running = subprocess.Popen(words, cwd=self.room, stdin=subprocess.DEVNULL, stdout=subprocess.PIPE, text=True, errors="replace")
+        for line in running.stdout:
+            counts = COUNTS.fullmatch(line.strip()) or counts
+            print(line, end="", flush=True)
+        is_well = running.wait() == 0
+        passed, failed = (int(counts[1]), int(counts[2])) if counts else (int(is_well), 0)
+        self.passed += passed
+        self.failed += failed or (0 if is_well else 1)
+        self.steps.append((name, processor_time() - before, time.monotonic() - begun))
+
+
+def copy_repository(root, room):
+    """Copies what git tracks or would track. Returns the folders of must-fail edits, which it leaves out."""
+    words = ["git", "ls-files", "-z", "--cached", "--others", "--exclude-standard"]
+    listed = subprocess.run(words, cwd=root, stdout=subprocess.PIPE, check=True).stdout.decode().split("\0")
+    edits = []
+    for path in sorted(set(filter(None, listed))):
+        parts = path.split("/")
+        if not os.path.lexists(f"{root}/{path}") or parts[0] == "crates" and parts[1] in LEFT_OUT:
+            continue
+        if parts[0] == "crates" and parts[2] == "must-fail":
+            edits.append(path)
+            continue
+        copy_file(root, room, path)
+    with open(f"{room}/crates.txt", encoding="utf-8") as file:
+        lines = [line for line in file if line.partition(":")[0] not in LEFT_OUT]
+    with open(f"{room}/crates.txt", "w", encoding="utf-8") as file:
+        file.writelines(lines)
+    return edits
+
+
+def copy_file(root, room, path):
+    os.makedirs(os.path.dirname(f"{room}/{path}") or room, exist_ok=True)
+    shutil.copy2(f"{root}/{path}", f"{room}/{path}", follow_symlinks=False)
+
+
+def keep_program(root, room, begun):
+    """Leaves the program that was built and proved where `make` would, as old as the copy that it was built of."""
+    there = f"{room}/crates/mcaudit/out/mcaudit"
+    if os.path.isfile(there):
+        os.makedirs(f"{root}/crates/mcaudit/out", exist_ok=True)
+        shutil.copyfile(there, f"{root}/crates/mcaudit/out/mcaudit")
+        os.chmod(f"{root}/crates/mcaudit/out/mcaudit", 0o755)
+        os.utime(f"{root}/crates/mcaudit/out/mcaudit", (begun, begun))
+
+
+def report(gate, crates, begun):
+    """Returns what was measured, as a page in Markdown."""
+    sum_of_steps = sum(it[1] for it in gate.steps)
+    wall = sum(it[2] for it in gate.steps)
+    lines = ["# What the gate takes", ""]
+    day = time.strftime("%Y-%m-%d", time.gmtime(begun))
+    lines += [f"`make test` on {day}, {len(os.sched_getaffinity(0))} cores: {sum_of_steps:,.0f} processor-seconds in {wall / 60:.0f} minutes.", ""]
+    lines += ["| Step | processor-seconds | minutes |", "|---|---|---|"]
+    lines += [f"| {name} | {seconds:,.0f} | {minutes / 60:.1f} |" for name, seconds, minutes in gate.steps]
+    lines += ["", "Of these the prover, by crate, in processor-seconds:", "", "| Crate | proof | edits | tests |", "|---|---|---|---|"]
+    rows = [(it, *(crates[it][part] for part in ("proof", "edits", "tests"))) for it in sorted(crates)]
+    rows.append(("all", *(sum(row[at] for row in rows) for at in (1, 2, 3))))
+    lines += [f"| {name} | {proof:,.0f} | {edits:,.0f} | {tests:,.0f} |" for name, proof, edits, tests in rows]
+    return "\n".join(lines) + "\n"
+
+
+def main():
+    root = os.path.dirname(os.path.dirname(os.path.dirname(os.path.abspath(__file__))))
+    begun, prover = time.time(), Prover()
+    with tempfile.TemporaryDirectory(prefix="mcaudit-gate-") as room:
+        os.chmod(room, 0o755)
+        edits = copy_repository(root, room)
+        gate = Gate(room)
+        gate.step("proofs, tests and programs", "rt", "ci")
+        for path in edits:
+            copy_file(root, room, path)
+        gate.step("the script for the edits", sys.executable, "tests/edits/try.py", "--selftest")
+        gate.step("edits", sys.executable, "tests/edits/try.py")
+        gate.step("cases of the program", "sh", "tests/cli/run.sh", "crates/mcaudit/out/mcaudit")
+        gate.step("cases of the tools", "sh", "tests/tools/run.sh")
+        keep_program(root, room, begun)
+    page = report(gate, prover.by_crate(), begun)
+    print(page, end="")
+    if len(sys.argv) > 1:
+        with open(sys.argv[1], "w", encoding="utf-8") as file:
+            file.write(page)
+    print(f"{gate.passed} passed, {gate.failed} failed")
+    return 1 if gate.failed or not gate.passed else 0
+
+
+if __name__ == "__main__":
+    sys.exit(main())

@@ -36,88 +36,113 @@ fn with_command<'a>(
     command.subcommand(below?)
 }
 
+/// An argument that has to be there.
+fn required<'a>(alloc: Global, name: &'a str, help: &'a str) -> Arg<'a> {
+    Arg::new(alloc, name).required(true).help(help)
+}
+
+/// An argument `--name` that is there or not.
+fn flag<'a>(alloc: Global, name: &'a str, help: &'a str) -> Arg<'a> {
+    Arg::new(alloc, name)
+        .long(name)
+        .action(ArgAction::SetTrue)
+        .help(help)
+}
+
+/// An argument `--name` with a value, and the value that it has where it isn't there.
+fn option<'a>(alloc: Global, name: &'a str, value: &'a str, help: &'a str) -> Arg<'a> {
+    Arg::new(alloc, name)
+        .long(name)
+        .default_value(value)
+        .help(help)
+}
+
+/// A command that has no arguments yet.
+fn bare_command<'a>(alloc: Global, name: &'a str, about: &'a str, usage: &'a str) -> Command<'a> {
+    Command::new(alloc, name).about(about).override_usage(usage)
+}
+
+const FOLDER: &str =
+    "The folder with the files topology, vif-<router>, cache-<router> and igmp-<lan>";
+
 /// The command `wants` and its arguments.
 pub fn wants_command<'a>(alloc: Global) -> Result<Command<'a>, AllocError> {
-    let group = Arg::new(alloc, "group")
-        .required(true)
-        .help("The group, 224.0.1.0 to 239.255.255.255");
-    let source = Arg::new(alloc, "source")
-        .required(true)
-        .help("The source's address");
-    let command = Command::new(alloc, "wants")
-        .about("Tells from a LAN's IGMP reports whether it wants what a source sends to a group")
-        .override_usage("mcaudit wants <group> <source>")
-        .arg(group);
-    with_argument(command, source)
+    let command = bare_command(
+        alloc,
+        "wants",
+        "Tells from a LAN's IGMP reports whether it wants what a source sends to a group",
+        "mcaudit wants <group> <source>",
+    );
+    let group = required(alloc, "group", "The group, 224.0.1.0 to 239.255.255.255");
+    with_argument(
+        command.arg(group),
+        required(alloc, "source", "The source's address"),
+    )
 }
 
 /// The command `audit` and its arguments.
 fn audit_command<'a>(alloc: Global) -> Result<Command<'a>, AllocError> {
-    let folder = Arg::new(alloc, "folder").required(true).help(
-        "The folder with the files topology, vif-<router>, cache-<router> and igmp-<lan>",
+    let command = bare_command(
+        alloc,
+        "audit",
+        "Judges each flow of a folder's files, and shows what is wrong with each that has no certificate",
+        "mcaudit audit <folder> [--travel]",
     );
-    let travel = Arg::new(alloc, "travel")
-        .long("travel")
-        .action(ArgAction::SetTrue)
-        .help("Shows of each flow without a certificate what its packet does, event by event");
-    let command = Command::new(alloc, "audit")
-        .about(
-            "Judges each flow of a folder's files, and shows what is wrong with each that has no certificate",
-        )
-        .override_usage("mcaudit audit <folder> [--travel]")
-        .arg(folder);
-    with_argument(command, travel)
+    let travel = "Shows of each flow without a certificate what its packet does, event by event";
+    with_argument(
+        command.arg(required(alloc, "folder", FOLDER)),
+        flag(alloc, "travel", travel),
+    )
 }
 
 /// The command `check`, which has no arguments.
 fn check_command<'a>(alloc: Global) -> Command<'a> {
-    Command::new(alloc, "check")
-        .about("Judges each flow of a bundle by its certificate, and all of them")
-        .override_usage("mcaudit check")
+    bare_command(
+        alloc,
+        "check",
+        "Judges each flow of a bundle by its certificate, and all of them",
+        "mcaudit check",
+    )
 }
 
 /// The command `make`, which has no arguments.
 fn make_command<'a>(alloc: Global) -> Command<'a> {
-    Command::new(alloc, "make")
-        .about(
-            "Makes the certificate of a bundle, or shows what is wrong with each flow that has none",
-        )
-        .override_usage("mcaudit make")
+    bare_command(
+        alloc,
+        "make",
+        "Makes the certificate of a bundle, or shows what is wrong with each flow that has none",
+        "mcaudit make",
+    )
 }
 
 /// The command `pack` and its arguments.
 fn pack_command<'a>(alloc: Global) -> Result<Command<'a>, AllocError> {
-    let folder = Arg::new(alloc, "folder").required(true).help(
-        "The folder with the files topology, vif-<router>, cache-<router> and igmp-<lan>",
+    let command = bare_command(
+        alloc,
+        "pack",
+        "Packs the files of a folder into a bundle",
+        "mcaudit pack <folder> [--certificate]",
     );
-    let certificate = Arg::new(alloc, "certificate")
-        .long("certificate")
-        .action(ArgAction::SetTrue)
-        .help("Packs the file certificate too");
-    let command = Command::new(alloc, "pack")
-        .about("Packs the files of a folder into a bundle")
-        .override_usage("mcaudit pack <folder> [--certificate]")
-        .arg(folder);
-    with_argument(command, certificate)
+    with_argument(
+        command.arg(required(alloc, "folder", FOLDER)),
+        flag(alloc, "certificate", "Packs the file certificate too"),
+    )
 }
 
 /// The command `replay` and its arguments.
 pub fn replay_command<'a>(alloc: Global) -> Result<Command<'a>, AllocError> {
-    let flow = Arg::new(alloc, "flow")
-        .required(true)
-        .help("The flow's number in the topology, counted from 1");
-    let ttl = Arg::new(alloc, "ttl")
-        .required(true)
-        .help("The packet's time to live, 1 to 255");
-    let order = Arg::new(alloc, "order")
-        .long("order")
-        .default_value("first")
-        .help("Which of the waiting copies is handled next: first or last");
-    let command = Command::new(alloc, "replay")
-        .about("Shows one packet's travel, event by event, and what is found")
-        .override_usage("mcaudit replay <flow> <ttl> [--order first|last]")
-        .arg(flow);
-    with_argument(with_argument(command, ttl), order)
+    let command = bare_command(
+        alloc,
+        "replay",
+        "Shows one packet's travel, event by event, and what is found",
+        "mcaudit replay <flow> <ttl> [--order first|last]",
+    );
+    let flow = "The flow's number in the topology, counted from 1";
+    let ttl = "The packet's time to live, 1 to 255";
+    let order = "Which of the waiting copies is handled next: first or last";
+    let command = command.arg(required(alloc, "flow", flow));
+    let command = with_argument(command, required(alloc, "ttl", ttl));
+    with_argument(command, option(alloc, "order", "first", order))
 }
 
 /// The commands and the help.

@@ -147,17 +147,10 @@ fn word_of<'a>(matches: &ArgMatches<'a>, argument: &str) -> &'a str {
     matches.get_str(argument).unwrap_or("")
 }
 
-/// The task that the program's words ask for. The first word is the program's own name.
-pub fn command_of<'a>(alloc: Global, words: &'a [&'a str]) -> Result<Task<'a>, WordsFault>
-    // A task is given only with a group that routers forward and an address that a host may send
-    // from, and with a flow's number from 1 to 4,096 and a time to live from 1.
+/// The task of a command and the words after it.
+fn task_of<'a>(alloc: Global, matches: &ArgMatches<'a>) -> Result<Task<'a>, WordsFault>
     ensures allowed { IfOk result IsAllowed }
 {
-    let matches = match program(alloc)?.try_get_matches_from(words) {
-        Ok(matches) => matches,
-        Err(error) if error.kind() == ErrorKind::OutOfMemory => return Err(WordsFault::Memory),
-        Err(error) => return Err(refusal(alloc, &error)),
-    };
     match matches.subcommand() {
         Some(("audit", words)) => Ok(Task::Audit {
             folder: word_of(words, "folder"),
@@ -181,5 +174,18 @@ pub fn command_of<'a>(alloc: Global, words: &'a [&'a str]) -> Result<Task<'a>, W
             word_of(words, "source"),
         ),
         _ => Err(wrong_words(alloc, program(alloc), "no command is given")),
+    }
+}
+
+/// The task that the program's words ask for. The first word is the program's own name.
+pub fn command_of<'a>(alloc: Global, words: &'a [&'a str]) -> Result<Task<'a>, WordsFault>
+    // A task is given only with a group that routers forward and an address that a host may send
+    // from, and with a flow's number from 1 to 4,096 and a time to live from 1.
+    ensures allowed { IfOk result IsAllowed }
+{
+    match program(alloc)?.try_get_matches_from(words) {
+        Ok(matches) => task_of(alloc, &matches),
+        Err(error) if error.kind() == ErrorKind::OutOfMemory => Err(WordsFault::Memory),
+        Err(error) => Err(refusal(alloc, &error)),
     }
 }

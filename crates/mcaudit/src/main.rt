@@ -1,51 +1,115 @@
 //! mcaudit: an auditor of the multicast forwarding state of a domain of Linux routers.
 #![tactic(auto)]
 
+ghost use Rattle.std.specs.Prelude.{◌<◌};
+ghost use Rattle.mc_words.specs.Task.{IsAllowed};
+
 mod failure;
 
 use failure::Failure;
 use mc_files::Folder;
-use mc_replay::{First, Last};
-use mc_run::{run_audit, run_check, run_make, run_pack, run_replay, run_wants};
-use mc_text::{FromReader, ToWriter};
+use mc_replay::{First, Last, Picker};
+use mc_run::{RunFault, run_audit, run_check, run_make, run_pack, run_replay, run_wants};
+use mc_text::{Addr, FromReader, ToWriter};
 use mc_words::{Task, borrowed, command_of, words_of};
 use std::env::Env;
 use std::io::{self, Input};
 use std::process::ExitCode;
 use std::rt::Files;
 
-fn try_main(rt: &(impl Env + AllocGlobal + Files + Input + Print)) -> Result<bool, Failure> {
-    let words = words_of(rt)?;
-    let words = borrowed(rt.alloc(), &words)?;
+/// `mcaudit wants`, over the standard streams.
+fn wants(
+    rt: &(impl AllocGlobal + Input + Print),
+    group: Addr,
+    source: Addr,
+) -> Result<bool, RunFault> {
     let mut input = FromReader::new(rt.reader());
     let mut output = ToWriter::new(io::writer(rt));
-    match command_of(rt.alloc(), &words)? {
-        Task::Wants { group, source } => {
-            Ok(run_wants(rt.alloc(), group, source, &mut input, &mut output)?)
-        }
-        Task::Replay { flow, ttl, last } => {
-            let alloc = rt.alloc();
-            Ok(if last {
-                run_replay(alloc, flow, ttl, &mut Last, &mut input, &mut output)?
-            } else {
-                run_replay(alloc, flow, ttl, &mut First, &mut input, &mut output)?
-            })
-        }
-        Task::Check => Ok(run_check(rt.alloc(), &mut input, &mut output)?),
-        Task::Make => Ok(run_make(rt.alloc(), &mut input, &mut output)?),
+    run_wants(rt.alloc(), group, source, &mut input, &mut output)
+}
+
+/// `mcaudit check`, over the standard streams.
+fn check(rt: &(impl AllocGlobal + Input + Print)) -> Result<bool, RunFault> {
+    let mut input = FromReader::new(rt.reader());
+    let mut output = ToWriter::new(io::writer(rt));
+    run_check(rt.alloc(), &mut input, &mut output)
+}
+
+/// `mcaudit make`, over the standard streams.
+fn make(rt: &(impl AllocGlobal + Input + Print)) -> Result<bool, RunFault> {
+    let mut input = FromReader::new(rt.reader());
+    let mut output = ToWriter::new(io::writer(rt));
+    run_make(rt.alloc(), &mut input, &mut output)
+}
+
+/// `mcaudit replay`, over the standard streams.
+fn replay(
+    rt: &(impl AllocGlobal + Input + Print),
+    flow: u32,
+    ttl: u8,
+    picker: &mut impl Picker,
+) -> Result<bool, RunFault>
+    requires { 0 < ttl }
+{
+    let mut input = FromReader::new(rt.reader());
+    let mut output = ToWriter::new(io::writer(rt));
+    run_replay(rt.alloc(), flow, ttl, picker, &mut input, &mut output)
+}
+
+/// `mcaudit pack`, of a folder of the file system to the standard output.
+fn pack(
+    rt: &(impl AllocGlobal + Files + Print),
+    folder: &str,
+    certificate: bool,
+) -> Result<bool, RunFault> {
+    let mut files = Folder::new(rt, folder);
+    let mut output = ToWriter::new(io::writer(rt));
+    run_pack(rt.alloc(), &mut files, certificate, &mut output)?;
+    Ok(true)
+}
+
+/// `mcaudit audit`, of a folder of the file system to the standard output.
+fn audit(
+    rt: &(impl AllocGlobal + Files + Print),
+    folder: &str,
+    travels: bool,
+) -> Result<bool, RunFault> {
+    let mut files = Folder::new(rt, folder);
+    let mut output = ToWriter::new(io::writer(rt));
+    run_audit(rt.alloc(), &mut files, travels, &mut output)
+}
+
+/// Does the task.
+fn run(rt: &(impl AllocGlobal + Files + Input + Print), task: Task<'_>) -> Result<bool, RunFault>
+    requires { IsAllowed task }
+{
+    match task {
+        Task::Wants { group, source } => wants(rt, group, source),
+        Task::Replay { flow, ttl, last } if last => replay(rt, flow, ttl, &mut Last),
+        Task::Replay { flow, ttl, .. } => replay(rt, flow, ttl, &mut First),
+        Task::Check => check(rt),
+        Task::Make => make(rt),
         Task::Pack {
             folder,
             certificate,
-        } => {
-            let mut files = Folder::new(rt, folder);
-            run_pack(rt.alloc(), &mut files, certificate, &mut output)?;
-            Ok(true)
-        }
-        Task::Audit { folder, travels } => {
-            let mut files = Folder::new(rt, folder);
-            Ok(run_audit(rt.alloc(), &mut files, travels, &mut output)?)
-        }
+        } => pack(rt, folder, certificate),
+        Task::Audit { folder, travels } => audit(rt, folder, travels),
     }
+}
+
+/// Does the task that the words ask for.
+fn run_words(
+    rt: &(impl Env + AllocGlobal + Files + Input + Print),
+    words: &[&str],
+) -> Result<bool, Failure> {
+    let task = command_of(rt.alloc(), words)?;
+    Ok(run(rt, task)?)
+}
+
+fn try_main(rt: &(impl Env + AllocGlobal + Files + Input + Print)) -> Result<bool, Failure> {
+    let words = words_of(rt)?;
+    let words = borrowed(rt.alloc(), &words)?;
+    run_words(rt, &words)
 }
 
 fn main(rt: HostRuntime) -> ExitCode {

@@ -1,0 +1,360 @@
+#!/usr/bin/env python3
+"""Tries the wrong bodies in crates/*/must-fail, which the prover must refuse, many in one check.
+
+  python3 tests/edits/try.py [NAME..]     tries the edits of these crates, or of all
+  python3 tests/edits/try.py --selftest   holds this script to edits of its own
+
+It runs at the top of the repository, over what `rt check` and `rt lib` left there, or `rt ci`.
+
+An edit has the form that `rt` reads (`rt doc`). It changes the body of one function, and counts as
+refused only where a goal of this function is not proved. A check goes on past a refused function
+and holds its callers to its contract, so edits of different functions are tried in one copy of
+the crate. One that the check says nothing of is tried alone. Two lines more can stand in an edit:
+
+  fn: PATH       the function, where the edit changes text outside of bodies (such an edit is tried
+                 alone), or where the prover names the function otherwise than its place does
+  clause: NAME   a clause of the contract: a goal that the prover names after it must be refused
+
+The last line is 'N passed, M failed'. The status is 0 only if none failed and one was tried.
+"""
+import argparse
+import collections
+import importlib.machinery
+import importlib.util
+import os
+import re
+import shutil
+import signal
+import subprocess
+import sys
+import tempfile
+import types
+from concurrent.futures import ThreadPoolExecutor
+
+sys.dont_write_bytecode = True
+MEMORY_OF_CHECK = 3_000_000_000
+HOUSE = "mc_filter"  # the crate whose functions the edits of the selftest change
+
+
+def load_rt():
+    """Returns the script `rt` as a module: it reads edits, and knows the words of a check."""
+    file = shutil.which("rt") or sys.exit("try.py: there is no rt")
+    loader = importlib.machinery.SourceFileLoader("rt", os.path.realpath(file))
+    module = importlib.util.module_from_spec(importlib.util.spec_from_loader("rt", loader))
+    loader.exec_module(module)
+    return module
+
+
+rt = load_rt()
+
+
+def text_of(file):
+    with open(file, encoding="utf-8") as opened:
+        return opened.read()
+
+
+# --- Which function an edit changes, by the layout that `rt fmt` gives ---
+
+HEAD = re.compile(r"^( *)(?:pub(?:\([^)]*\))? )?(?:const )?fn (\w+)", re.M)
+OWNER = re.compile(r"^( *)(?:impl|(?:pub )?trait)\b(.*)", re.M)
+
+
+def owner_name(head):
+    """Returns the prover's name for an impl: <R: Input> Input for &mut R is RefMutInput."""
+    head = re.sub(r"^<(?:[^<>]|<[^<>]*>)*>", "", head.rstrip(" {"))
+    head = re.sub(r"'\w+|\w+::", "", head)
+    trait, _, owner = head.rpartition(" for ")
+    kind = "RefMut" if owner.startswith("&mut") else re.search(r"\w+", owner)[0]
+    return kind + "".join(re.findall(r"\w+", trait))
+
+
+def function_around(path, text, first, last):
+    """Returns the function in whose body all of a part of a file stands, or None."""
+    found = None
+    heads = list(HEAD.finditer(text))
+    for head, before in zip(heads, [*(it.start() for it in heads[1:]), len(text)]):
+        depth = head[1]
+        opening = re.compile(rf"^{depth}(?:\S.*)?{{$", re.M).search(text, head.start(), before)
+        if opening:
+            end = text.find(f"\n{depth}}}", opening.end())
+            found = head if opening.end() <= first and last <= end else found
+    if not found:
+        return None
+    names = [it for it in path[4:-3].split("/") if it not in ("lib", "main")]
+    if found[1]:
+        owners = [it for it in OWNER.finditer(text, 0, found.start()) if len(it[1]) < len(found[1])]
+        names.append(owner_name(owners[-1][2]))
+    return "::".join([*names, found[2]])
+
+
+def changed_functions(folder, texts):
+    """Returns the functions that an edit changes, with None where it changes other text."""
+    found = set()
+    for path, new in texts.items():
+        old = text_of(f"{folder}/{path}")
+        if old != new:
+            same = len(os.path.commonprefix([old, new]))
+            after = len(os.path.commonprefix([old[same:][::-1], new[same:][::-1]]))
+            found.add(function_around(path, old, same, len(old) - after))
+    return found
+
+
+class Edit:
+    """An edit of a crate, and what is asked of it."""
+
+    def __init__(self, crate, file):
+        self.file, self.name = file, os.path.basename(file)
+        texts, self.fault = rt.read_edit(file, crate.folder)
+        lines = [it.partition(": ") for it in text_of(file).split("\n")]
+        said = {key: value.strip() for key, _, value in lines if key in ("fn", "clause")}
+        hit = changed_functions(crate.folder, texts) if texts else {""}
+        self.clause, self.is_alone = said.get("clause"), None in hit or len(hit) > 1
+        self.function = f"{crate.name}::{said.get('fn') or next(iter(hit), None)}"
+        if not hit:
+            self.fault = "it changes nothing"
+        elif self.is_alone and "fn" not in said:
+            self.fault = "it changes not one body alone: name the function in a line 'fn: PATH'"
+
+
+# --- What a check says ---
+
+# A text that names what is no longer there shows nothing of a contract.
+GONE = re.compile(r"is not in scope|has no (?:field|`)|is no name|was not (?:admitted|checked)")
+ERROR = re.compile(r"(?:\./)?(proofs/\S+):\d+:\d+: error(?:\[[\w-]+\])?: `([^`]*)`: (.*)")
+
+
+class Said:
+    """What a check said of the functions that its edits change."""
+
+    def __init__(self, status, text):
+        lines = text.rstrip("\n").split("\n")
+        self.is_proved = status == 0 and lines[-1].startswith(("logic=proved ", "only="))
+        is_refused = status == 1 and lines[-1].startswith(("logic=not-proved", "only="))
+        self.reached_prover = self.is_proved or is_refused
+        self.first_fault = next((it for it in lines if "error" in it), lines[-1])[:200]
+        self.functions = dict(re.findall(r"^fn (\S+): (.*)", text, re.M))
+        # a long error goes on in the next line
+        self.errors = [
+            (found[1], found[2], found[3] + (after if after.startswith("  ") else ""))
+            for found, after in zip(map(ERROR.match, lines), [*lines[1:], ""])
+            if found
+        ]
+
+    def refused_goals(self, function):
+        """Returns the goals of a function, or of a closure in it, that were not proved."""
+        goals = []
+        for name, said in self.functions.items():
+            if is_within(name, function):
+                found = re.search(r"`search` did not prove ([^;]*)", said)
+                goals += re.findall(r"`([^`]*)`", found[1]) if found else []
+        for path, goal, why in self.errors:
+            name = "::".join([function.partition("::")[0], *path.split("/")[1:-1]])
+            if is_within(name, function) and not GONE.search(re.sub(r"`[^`]*`", "``", why)):
+                goals.append(goal)
+        return goals
+
+    def refusal(self, edit):
+        """Returns the goals that refuse an edit as it asks, in a few words, or nothing."""
+        goals = self.refused_goals(edit.function)
+        if edit.clause:
+            goals = [it for it in goals if re.search(rf"clause-{edit.clause}(?!\w)", it)]
+        return ", ".join(dict.fromkeys(goals))[:150]
+
+    def why_not(self, edit):
+        """Says why an edit that was tried alone is not refused."""
+        own = [said for name, said in self.functions.items() if is_within(name, edit.function)]
+        if self.is_proved:
+            return f"IT PROVES: {edit.function} is proved with it"
+        if goals := self.refused_goals(edit.function):
+            return f"ANOTHER CLAUSE REFUSES IT than {edit.clause}: {', '.join(goals)[:150]}"
+        if any(it.startswith("no") for it in own):
+            return f"NO GOAL REFUSES IT, only a proof script that names what is gone: {own[0][:200]}"
+        return f"ITS FUNCTION IS NOT REFUSED: {edit.function}"
+
+
+def is_within(name, function):
+    """Returns whether a name is a function's, or that of a closure in it, m::fn::T::f::map."""
+    module, _, inside = name.partition("::fn::")
+    whole = f"{module}::{inside}" if inside else name
+    return whole == function or whole.startswith((f"{function}+", f"{function}::" if inside else f"{function}+"))
+
+
+# --- Checks ---
+
+class Crate:
+    """A crate with the edits to try on it, and the work that its checks keep."""
+
+    def __init__(self, made, home, room):
+        self.made, self.name, self.folder = made, made.name, made.folder
+        self.kept, self.cost = f"{room}/{made.name}", 0.0
+        files, strange = rt.edits_of(types.SimpleNamespace(folder=home))
+        self.edits = [Edit(made, it) for it in files]
+        self.strange = [os.path.basename(it) for it in strange]
+
+    def prepare(self):
+        """Takes over kept work, and returns why the crate's edits can't be tried, if they can't."""
+        if os.path.isdir(f"{self.folder}/out/incremental"):
+            shutil.copytree(f"{self.folder}/out/incremental", self.kept)
+        os.makedirs(self.kept, exist_ok=True)
+        for below in self.made.below():
+            if not is_proved(below):
+                return f"there is no library {below.name} of its text: run rt lib there, or rt ci"
+        if not is_proved(self.made) and not self.check([]).is_proved:
+            return "the crate itself is not proved"
+        return None
+
+    def check(self, edits):
+        """Checks a copy of the crate with these edits, over a copy of what is kept."""
+        with tempfile.TemporaryDirectory(dir=os.path.dirname(self.kept)) as room:
+            shutil.copytree(self.kept, f"{room}/out")
+            for part in rt.rtlib.PARTS:
+                if os.path.isdir(f"{self.folder}/{part}"):
+                    shutil.copytree(f"{self.folder}/{part}", f"{room}/{part}")
+            for edit in edits:
+                # (one that doesn't fit beside the others is then tried alone)
+                for path, text in (rt.read_edit(edit.file, room)[0] or {}).items():
+                    with open(f"{room}/{path}", "w", encoding="utf-8") as opened:
+                        opened.write(text)
+            functions = sorted(it.function for it in edits)
+            said = self.run(room, [it for name in functions for it in ("--only", name)])
+            self.keep(f"{room}/out", functions)
+        return said
+
+    def run(self, room, words):
+        """Runs the prover, and counts its processor time."""
+        own = self.made.words(["--jobs", "1", "--incremental", f"{room}/out"], keeps=False)
+        whole = [*rt.rtlib.guarded(), rt.rtlib.RATTLE, "check", *own, *words]
+        with tempfile.TemporaryFile("w+", errors="replace") as out:
+            how = {"stdin": subprocess.DEVNULL, "stdout": out, "stderr": subprocess.STDOUT}
+            ran = subprocess.Popen(whole, cwd=room, **how)
+            _, status, used = os.wait4(ran.pid, 0)
+            ran.returncode = os.waitstatus_to_exitcode(status)
+            out.seek(0)
+            text = out.read()
+        cost = used.ru_utime + used.ru_stime
+        self.cost += cost
+        print(f"{self.name}: {len(words) // 2} functions in a check, {cost:.0f} s", flush=True)
+        if LOGS:
+            with open(f"{LOGS}/{self.name}-{len(os.listdir(LOGS)):03}.log", "w") as opened:
+                opened.write(text)
+        return Said(ran.returncode, text)
+
+    def keep(self, made, functions):
+        """Keeps what a check made, but not of the functions that its edits changed."""
+        paths = [".".join(it.split("::")[1:]) for it in functions]
+        edited = tuple(f"Rattle-{self.name}-proofs.{it}{end}" for it in paths for end in ".+")
+        for folder, _, names in os.walk(made):
+            to = self.kept + folder[len(made):]
+            os.makedirs(to, exist_ok=True)
+            for name in names:
+                if not os.path.exists(f"{to}/{name}") and not name.replace(".fn.", ".").startswith(edited):
+                    os.rename(f"{folder}/{name}", f"{to}/{name}")
+
+    def judge(self, edits):
+        """Tries edits in one check. Returns each with whether it is refused, and by what."""
+        if not edits:
+            return []
+        said = self.check(edits)
+        if not said.reached_prover:
+            if len(edits) == 1:
+                return [(edits[0], False, f"IT DID NOT REACH THE PROVER: {said.first_fault}")]
+            half = len(edits) // 2
+            return self.judge(edits[:half]) + self.judge(edits[half:])
+        found = []
+        for edit in edits:
+            if goals := said.refusal(edit):
+                found.append((edit, True, goals))
+            elif len(edits) > 1:
+                found += self.judge([edit])
+            else:
+                found.append((edit, False, said.why_not(edit)))
+        return found
+
+    def try_edits(self):
+        """Tries all edits. Returns a line for each: its name, whether it is refused, and why."""
+        found = [(it, False, "its name doesn't end in .edit") for it in self.strange]
+        found += [(it.name, False, f"BAD EDIT: {it.fault}") for it in self.edits if it.fault]
+        good = [it for it in self.edits if not it.fault]
+        if good and (why := self.prepare()):
+            return [*found, *((it.name, False, f"NOT TRIED: {why}") for it in good)]
+        for group in groups_of(good):
+            found += [(edit.name, refused, why) for edit, refused, why in self.judge(group)]
+        shutil.rmtree(self.kept, ignore_errors=True)
+        return found
+
+
+def is_proved(made):
+    """Returns whether `rt` built a crate, which it does of a proved one, since its text changed."""
+    if os.path.isfile(f"{made.folder}/out/rlib/stamp"):
+        return made.is_built()
+    built = f"{made.folder}/out/{made.name}" if made.is_program else made.rlib
+    files = [file for it in [made, *made.below()] for file in rt.rtlib.files_of(it.folder)]
+    return os.path.exists(built) and os.path.getmtime(built) >= max(map(os.path.getmtime, files))
+
+
+def groups_of(edits):
+    """Returns edits in groups, in each of which no two change the same function."""
+    groups = collections.defaultdict(list)
+    met = collections.Counter()
+    for edit in edits:
+        if edit.is_alone:
+            groups[edit.name].append(edit)
+        else:
+            groups[met[edit.function]].append(edit)
+            met[edit.function] += 1
+    return list(groups.values())
+
+
+# --- The whole ---
+
+def try_all(names, jobs, home):
+    """Tries the edits of crates, several crates beside each other, the longest first."""
+    made = [it for it in rt.rtlib.crates_below(os.getcwd()) if not names or it.name in names]
+    if unknown := {*names} - {it.name for it in made}:
+        sys.exit(f"try.py: there is no crate {min(unknown)}")
+    made.sort(key=lambda it: -it.count(rb"\n"))
+    with ROOM, ThreadPoolExecutor(jobs) as pool:
+        crates = [Crate(it, home or it.folder, ROOM.name) for it in made]
+        found = list(zip(crates, pool.map(Crate.try_edits, crates)))
+    for crate in crates:
+        if crate.edits:
+            print(f"{crate.name}: {len(crate.edits)} edits, {crate.cost:.0f} s of a processor")
+    print(f"{sum(it.cost for it in crates):.0f} s of a processor")
+    return [(f"{crate.name}/{name}", *rest) for crate, tried in found for name, *rest in tried]
+
+
+SAMPLES = """
+"""
+
+
+def main():
+    words = argparse.ArgumentParser(usage=__doc__)
+    words.add_argument("names", nargs="*")
+    words.add_argument("--selftest", action="store_true")
+    words.add_argument("--jobs", type=int)
+    given = words.parse_args()
+    rt.rtlib.guarded()  # (from here on all that is started ends with this script)
+    for number in (signal.SIGTERM, signal.SIGHUP, signal.SIGINT):
+        signal.signal(number, ended)
+    jobs = given.jobs or max(1, min(rt.processors(), rt.free() // MEMORY_OF_CHECK))
+    if given.selftest:
+        return selftest(jobs)
+    found = try_all(given.names, jobs, None)
+    for name, refused, why in found:
+        print(f"{'refused' if refused else 'ERROR'} {name}: {why}")
+    failed = sum(not it[1] for it in found)
+    print(f"{len(found) - failed} passed, {failed} failed")
+    return 1 if failed or not found else 0
+
+
+def ended(number, _):
+    """Leaves no copies behind where the script is stopped."""
+    ROOM.cleanup()
+    os._exit(128 + number)
+
+
+LOGS = os.environ.get("LOGS")
+ROOM = tempfile.TemporaryDirectory(prefix="try-")
+
+if __name__ == "__main__":
+    sys.exit(main())

@@ -173,10 +173,10 @@ class Said:
 
 
 def is_within(name, function):
-    """Returns whether a name is a function's, or that of a closure in it, m::fn::T::f::map."""
-    module, _, inside = name.partition("::fn::")
-    whole = f"{module}::{inside}" if inside else name
-    return whole == function or whole.startswith((f"{function}+", f"{function}::" if inside else f"{function}+"))
+    """Returns whether a name is a function's, or that of a closure in it: m::fn::f::map in m::f."""
+    whole = name.replace("::fn::", "::")
+    inside = (f"{function}+",) if whole == name else (f"{function}+", f"{function}::")
+    return whole == function or whole.startswith(inside)
 
 
 # --- Checks ---
@@ -323,12 +323,70 @@ def try_all(names, jobs, home):
     return [(f"{crate.name}/{name}", *rest) for crate, tried in found for name, *rest in tried]
 
 
+# Edits that this script must judge rightly, each with what it must say of it.
 SAMPLES = """
+== callee_wrong: refused
+file: src/filter.rt
+old:             mode: Mode::Include,
+new:             mode: Mode::Exclude,
+== caller_unharmed: IT PROVES
+file: src/gathered.rt
+old: filter: Filter::none(alloc),
+new: filter: { Filter::none(alloc) },
+== clause_of_another: ANOTHER CLAUSE REFUSES IT
+clause: ascending
+file: src/filter.rt
+old:         &self.sources
+new:         &self.sources[..0]
+== local_renamed: NO GOAL REFUSES IT
+file: src/addresses.rt
+old: for source in sources.iter() {
+new: for one in sources.iter() {
+old: addresses.push(source)?;
+new: addresses.push(one)?;
+== type_wrong: IT DID NOT REACH THE PROVER
+file: src/filter.rt
+old:         self.mode
+new:         self.sources
+== nothing_changed: BAD EDIT: it changes nothing
+file: src/filter.rt
+old:         self.mode
+new:         self.mode
+== text_gone: BAD EDIT: an 'old:' text is in src/filter.rt 0 times
+file: src/filter.rt
+old: no_such_text
+new: another
+== no_body_changed: BAD EDIT: it changes not one body alone
+file: src/filter.rt
+old: use mc_text::{Addr, Memory};
+new: use mc_text::{Memory, Addr};
 """
 
 
+def selftest(jobs):
+    """Tries the samples, and returns 0 if each is judged as it must be."""
+    with tempfile.TemporaryDirectory() as home:
+        os.mkdir(f"{home}/must-fail")
+        wanted = {}
+        for sample in SAMPLES.split("\n== ")[1:]:
+            head, _, text = sample.partition("\n")
+            name, _, what = head.partition(": ")
+            wanted[f"{HOUSE}/{name}.edit"] = what
+            with open(f"{home}/must-fail/{name}.edit", "w", encoding="utf-8") as opened:
+                opened.write(text)
+        found = try_all([HOUSE], jobs, home)
+    right = 0
+    for name, refused, why in found:
+        is_right = ("refused" if refused else why).startswith(wanted[name])
+        print(f"{'judged rightly' if is_right else 'WRONGLY JUDGED'}: {name}: {why}")
+        right += is_right
+    print(f"{right} passed, {len(wanted) - right} failed")
+    return 0 if right == len(wanted) else 1
+
+
 def main():
-    words = argparse.ArgumentParser(usage=__doc__)
+    how = argparse.RawDescriptionHelpFormatter
+    words = argparse.ArgumentParser(description=__doc__, formatter_class=how)
     words.add_argument("names", nargs="*")
     words.add_argument("--selftest", action="store_true")
     words.add_argument("--jobs", type=int)

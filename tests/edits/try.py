@@ -112,6 +112,8 @@ class Edit:
         self.function = f"{crate.name}::{said.get('fn') or next(iter(hit), None)}"
         if not hit:
             self.fault = "it changes nothing"
+        elif any(not path.startswith("src/") for path in texts or ()):
+            self.fault = "it changes a file outside of src/"
         elif self.is_alone and "fn" not in said:
             self.fault = "it changes not one body alone: name the function in a line 'fn: PATH'"
 
@@ -168,8 +170,8 @@ class Said:
         if goals := self.refused_goals(edit.function):
             return f"ANOTHER CLAUSE REFUSES IT than {edit.clause}: {', '.join(goals)[:150]}"
         if any(it.startswith("no") for it in own):
-            return f"NO GOAL REFUSES IT, only a proof script that names what is gone: {own[0][:200]}"
-        return f"ITS FUNCTION IS NOT REFUSED: {edit.function}"
+            return "NO GOAL REFUSES IT, only a proof script that names what is gone"
+        return f"THE CHECK SAYS NOTHING of {edit.function}"
 
 
 def is_within(name, function):
@@ -247,13 +249,12 @@ class Crate:
             to = self.kept + folder[len(made):]
             os.makedirs(to, exist_ok=True)
             for name in names:
-                if not os.path.exists(f"{to}/{name}") and not name.replace(".fn.", ".").startswith(edited):
+                is_edited = name.replace(".fn.", ".").startswith(edited)
+                if not is_edited and not os.path.exists(f"{to}/{name}"):
                     os.rename(f"{folder}/{name}", f"{to}/{name}")
 
     def judge(self, edits):
         """Tries edits in one check. Returns each with whether it is refused, and by what."""
-        if not edits:
-            return []
         said = self.check(edits)
         if not said.reached_prover:
             if len(edits) == 1:
@@ -412,7 +413,7 @@ def ended(number, _):
 
 
 LOGS = os.environ.get("LOGS")
-ROOM = tempfile.TemporaryDirectory(prefix="try-")
+ROOM = tempfile.TemporaryDirectory(prefix="try-", ignore_cleanup_errors=True)
 
 if __name__ == "__main__":
     sys.exit(main())

@@ -24,6 +24,3 @@ pub use laws::{
 };
 pub use lists::Lists;
 pub use reached::{FlowCert, Reached};
-
-#[cfg(test)]
-mod tests;

@@ -11,6 +11,3 @@ mod wants;
 pub use filter::{Filter, Mode};
 pub use laws::{merged_filter_admits_what_is_wanted, order_of_records_does_not_matter};
 pub use wants::{wants_of, wants_of_groups};
-
-#[cfg(test)]
-mod tests;

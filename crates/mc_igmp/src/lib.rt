@@ -17,6 +17,3 @@ pub use list::{ListRecords, ReportList};
 pub use message::{Message, MessageFault};
 pub use record::{Kind, Record, Sources};
 pub use records::Records;
-
-#[cfg(test)]
-mod tests;

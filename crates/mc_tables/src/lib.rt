@@ -26,6 +26,3 @@ pub use laws::{
 };
 pub use vif::Vif;
 pub use vif_table::VifTable;
-
-#[cfg(test)]
-mod tests;

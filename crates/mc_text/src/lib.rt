@@ -51,6 +51,3 @@ pub use part::Part;
 pub use part_name::PartName;
 pub use to_writer::ToWriter;
 pub use words::Words;
-
-#[cfg(test)]
-mod tests;

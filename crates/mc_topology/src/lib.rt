@@ -27,6 +27,3 @@ pub use laws::{
 };
 pub use number::{LanNo, RouterNo};
 pub use topology::Topology;
-
-#[cfg(test)]
-mod tests;

@@ -1,0 +1,371 @@
+//! Texts of `/proc/net/ip_mr_cache`.
+
+use mc_tables::{CacheTable, Oif, Oifs, TableFault, TableFaultKind};
+use mc_text::{Addr, Order};
+use std::alloc::{AllocError, Global};
+use std::process::Abort;
+use std::test::Fail;
+
+const SOURCE: [u8; 4] = [10, 0, 0, 5];
+
+const GROUP: [u8; 4] = [239, 1, 2, 3];
+
+/// A line as a kernel pads it.
+const PADDED: &[u8] = b"Group    Origin   Iif     Pkts    Bytes    Wrong Oifs
+030201EF 0500000A 0         12     1200        0  1:1  
+";
+
+/// The same of a big-endian router, in small letters and with leading zeros.
+const BIG: &[u8] = b"Group
+ef010203 0a000005 000 12 1200 0 0001:001
+";
+
+/// Whether the table has an entry for 10.0.0.5 and a group, with this incoming vif and these
+/// outgoing ones.
+fn has_entry(table: &CacheTable, group: [u8; 4], iif: u8, oifs: &[Oif]) -> bool {
+    match table.exact(Addr::from_octets(SOURCE), Addr::from_octets(group)) {
+        Some(entry) => entry.iif == iif && entry.oifs.as_slice() == oifs,
+        None => false,
+    }
+}
+
+/// Whether the table has no entry for 10.0.0.5 and a group.
+fn has_none(table: &CacheTable, group: [u8; 4]) -> bool {
+    table
+        .exact(Addr::from_octets(SOURCE), Addr::from_octets(group))
+        .is_none()
+}
+
+/// Whether the table has a row of a group for every source.
+fn is_wildcard(table: &CacheTable, group: [u8; 4]) -> bool {
+    table.wildcard(Addr::from_octets(group))
+}
+
+/// An outgoing vif.
+const fn oif(vif: u8, threshold: u8) -> Oif {
+    Oif { vif, threshold }
+}
+
+/// What the table of one row answers.
+fn check_row(rt: &impl Abort, table: &CacheTable) {
+    assert!(rt; has_entry(table, GROUP, 0, &[oif(1, 1)]));
+    let (source, group) = (Addr::from_octets(SOURCE), Addr::from_octets(GROUP));
+    assert!(rt; table.exact(group, source).is_none());
+    assert!(rt; !table.wildcard(group));
+}
+
+#[test]
+fn reads_a_row(rt: HostRuntime) -> Result<(), Fail> {
+    for (text, order) in [(PADDED, Order::Little), (BIG, Order::Big)] {
+        let table = CacheTable::read(rt.alloc(), text, order)?;
+        check_row(&rt, &table);
+    }
+    Ok(())
+}
+
+/// Rows for one source, for every source, and unresolved ones, in an order and with a count of -1
+/// that no kernel prints.
+const MIXED: &[u8] = b"Group    Origin   Iif     Pkts    Bytes    Wrong Oifs
+030201EF 0500000A 31         0 -1 18446744073709551615 31:254 0:1    7:3  
+040201EF 0500000A 0 -1 0 0
+050201EF 00000000 0          0        0        0  1:1  
+050201EF 00000000 1          0        0        0  0:1  
+060201EF 00000000 -1         0        0        0
+3C0008EF 0500000A -1         0        0        0
+3C0008EF 0500000A -1         0        0        0
+";
+
+/// What the table of those rows answers.
+fn check_mixed(rt: &impl Abort, table: &CacheTable) {
+    let ascending = [oif(0, 1), oif(7, 3), oif(31, 254)];
+    assert!(rt; has_entry(table, GROUP, 31, &ascending));
+    assert!(rt; has_entry(table, [239, 1, 2, 4], 0, &[]));
+    assert!(rt; has_none(table, [239, 8, 0, 60]), "unresolved");
+    let (unspecified, group) = (
+        Addr::from_octets([0, 0, 0, 0]),
+        Addr::from_octets([239, 1, 2, 5]),
+    );
+    assert!(rt; table.exact(unspecified, group).is_none());
+    assert!(rt; table.wildcard(group));
+    assert!(rt; !is_wildcard(table, [239, 1, 2, 6]), "unresolved");
+    assert!(rt; !is_wildcard(table, GROUP));
+}
+
+#[test]
+fn answers_by_source_and_group(rt: HostRuntime) -> Result<(), Fail> {
+    let table = CacheTable::read(rt.alloc(), MIXED, Order::Little)?;
+    check_mixed(&rt, &table);
+    Ok(())
+}
+
+#[test]
+fn row_for_every_group(rt: HostRuntime) -> Result<(), Fail> {
+    let any = b"Group\n00000000 00000000 0 0 0 0 1:1\n";
+    let table = CacheTable::read(rt.alloc(), any, Order::Little)?;
+    assert!(rt; is_wildcard(&table, GROUP));
+    Ok(())
+}
+
+#[test]
+fn refuses_caches(rt: HostRuntime) {
+    let faults: [(&[u8], u32, TableFaultKind); 28] = [
+        (b"", 1, TableFaultKind::NoHeader),
+        (b"Interface\n", 1, TableFaultKind::NoHeader),
+        (b"Group", 1, TableFaultKind::Unended),
+        (b"Interface", 1, TableFaultKind::Unended),
+        (b"Group\nx", 2, TableFaultKind::Unended),
+        (
+            b"Group\nx\n030201EF 0500000A 32 0 0 0\n",
+            2,
+            TableFaultKind::WordCount,
+        ),
+        (
+            b"Group\n030201EF 0500000A 0 0 0 0 1:1",
+            2,
+            TableFaultKind::Unended,
+        ),
+        (b"Group\n\n", 2, TableFaultKind::WordCount),
+        (
+            b"Group\n030201EF 0500000A 0 0 0\n",
+            2,
+            TableFaultKind::WordCount,
+        ),
+        (
+            b"Group\n030201E 0500000A 0 0 0 0\n",
+            2,
+            TableFaultKind::BadAddress,
+        ),
+        (
+            b"Group\n030201EF 0500000AA 32 0 0 0\n",
+            2,
+            TableFaultKind::BadAddress,
+        ),
+        (
+            b"Group\n030201EF 0500000A 32 0 0 0\n",
+            2,
+            TableFaultKind::BadIif,
+        ),
+        (
+            b"Group\n030201EF 0500000A -2 0 0 0\n",
+            2,
+            TableFaultKind::BadIif,
+        ),
+        (
+            b"Group\n030201EF 0500000A 0 0 + 0 1:1 1:1\n",
+            2,
+            TableFaultKind::BadCounter,
+        ),
+        (
+            b"Group\n030201EF 0500000A -1 0 0 0 1:1\n",
+            2,
+            TableFaultKind::BadOif,
+        ),
+        (
+            b"Group\n030201EF 0500000A 0 0 0 0 32:1\n",
+            2,
+            TableFaultKind::BadOif,
+        ),
+        (
+            b"Group\n030201EF 0500000A 0 0 0 0 1\n",
+            2,
+            TableFaultKind::BadOif,
+        ),
+        (
+            b"Group\n030201EF 0500000A 0 0 0 0 1:1:1\n",
+            2,
+            TableFaultKind::BadOif,
+        ),
+        (
+            b"Group\n030201EF 0500000A 0 0 0 0 :0\n",
+            2,
+            TableFaultKind::BadOif,
+        ),
+        (
+            b"Group\n030201EF 0500000A 0 0 0 0 1:0\n",
+            2,
+            TableFaultKind::BadThreshold,
+        ),
+        (
+            b"Group\n030201EF 0500000A 0 0 0 0 1:255\n",
+            2,
+            TableFaultKind::BadThreshold,
+        ),
+        (
+            b"Group\n030201EF 0500000A 0 0 0 0 1:\n",
+            2,
+            TableFaultKind::BadThreshold,
+        ),
+        (
+            b"Group\n030201EF 0500000A 0 0 0 0 1:1 1:2\n",
+            2,
+            TableFaultKind::RepeatedOif,
+        ),
+        (
+            b"Group\n030201EF 0500000A 0 0 0 0 1:1 1:2 x\n",
+            2,
+            TableFaultKind::RepeatedOif,
+        ),
+        (
+            b"Group\n030201EF 0500000A 0 0 0 0 1:1 1:0\n",
+            2,
+            TableFaultKind::BadThreshold,
+        ),
+        (
+            b"Group\n030201EF 0500000A 0 0 0 0 1:1\n030201EF 0500000A 0 0 0 0 1:1\n",
+            3,
+            TableFaultKind::RepeatedEntry,
+        ),
+        (RESOLVED_TWICE, 4, TableFaultKind::RepeatedEntry),
+        (ENTRY_TWICE, 3, TableFaultKind::RepeatedEntry),
+    ];
+    for (text, line, kind) in faults {
+        let read = CacheTable::read(rt.alloc(), text, Order::Little);
+        assert_eq!(rt; read.err(), Some(TableFault { line, kind }));
+    }
+}
+
+/// An unresolved row and two resolved ones of one source and group.
+const RESOLVED_TWICE: &[u8] = b"Group
+030201EF 0500000A -1 0 0 0
+030201EF 0500000A 0 0 0 0
+030201EF 0500000A 1 0 0 0
+";
+
+/// A kernel's cache after an entry was added with two incoming vifs.
+const ENTRY_TWICE: &[u8] = b"Group    Origin   Iif     Pkts    Bytes    Wrong Oifs
+030201EF 0500000A 0          0        0        0  1:1  
+030201EF 0500000A 1          0        0        0  0:1  
+040201EF 0500000A 1          0        0        0  0:1  
+040201EF 0500000A 0          0        0        0  1:1  
+";
+
+#[test]
+fn has_limits(rt: HostRuntime) -> Result<(), Fail> {
+    let mut text = Vec::new(rt.alloc());
+    text.extend_from_slice(b"Group\n")?;
+    for _ in 0..65_536 {
+        text.extend_from_slice(b"030201EF 00000000 0 0 0 0\n")?;
+    }
+    assert!(rt; CacheTable::read(rt.alloc(), text.as_slice(), Order::Little).is_ok());
+    text.extend_from_slice(b"one row more")?;
+    let read = CacheTable::read(rt.alloc(), text.as_slice(), Order::Little);
+    assert_eq!(rt;
+        read.err(),
+        Some(TableFault {
+            line: 65_538,
+            kind: TableFaultKind::Unended
+        })
+    );
+    text.push(b'\n')?;
+    let read = CacheTable::read(rt.alloc(), text.as_slice(), Order::Little);
+    let too_large = TableFaultKind::TooLarge;
+    assert_eq!(rt;
+        read.err(),
+        Some(TableFault {
+            line: 65_538,
+            kind: too_large
+        })
+    );
+    let long = vec![in rt.alloc(); b'\n'; 16_777_217]?;
+    let read = CacheTable::read(rt.alloc(), long.as_slice(), Order::Little);
+    assert_eq!(rt;
+        read.err(),
+        Some(TableFault {
+            line: 0,
+            kind: too_large
+        })
+    );
+    let read = CacheTable::read(rt.alloc(), &long[1..], Order::Little);
+    assert_eq!(rt;
+        read.err(),
+        Some(TableFault {
+            line: 1,
+            kind: TableFaultKind::NoHeader
+        })
+    );
+    Ok(())
+}
+
+/// As many rows as there may be, for one source and the groups 239.1.0.0 to 239.1.255.255.
+fn most_rows(alloc: Global) -> Result<Vec<u8>, AllocError> {
+    let mut text = Vec::new(alloc);
+    text.extend_from_slice(b"Group\n")?;
+    for group in 0..65_536u32 {
+        let [_, _, third, last] = group.to_be_bytes();
+        let row = format!(in alloc; "{last:02X}{third:02X}01EF 0500000A 0 0 0 0 1:1\n")?;
+        text.extend_from_slice(row.as_bytes())?;
+    }
+    Ok(text)
+}
+
+#[test]
+fn finds_the_first_and_the_last_of_the_most_rows(rt: HostRuntime) -> Result<(), Fail> {
+    let mut text = most_rows(rt.alloc())?;
+    let table = CacheTable::read(rt.alloc(), text.as_slice(), Order::Little)?;
+    let source = Addr::from_octets(SOURCE);
+    for (group, found) in [
+        ([239, 1, 0, 0], true),
+        ([239, 1, 255, 255], true),
+        ([239, 0, 255, 255], false),
+        ([239, 2, 0, 0], false),
+    ] {
+        let entry = table.exact(source, Addr::from_octets(group));
+        assert_eq!(rt; entry.is_some(), found);
+    }
+    text.extend_from_slice(b"one row more\n")?;
+    let read = CacheTable::read(rt.alloc(), text.as_slice(), Order::Little);
+    let kind = TableFaultKind::TooLarge;
+    assert_eq!(rt; read.err(), Some(TableFault { line: 65_538, kind }));
+    Ok(())
+}
+
+#[test]
+fn gives_vectors_back(rt: HostRuntime) -> Result<(), Fail> {
+    let oif = Oif {
+        vif: 2,
+        threshold: 9,
+    };
+    let oifs = Oifs::from_vec(vec![in rt.alloc(); oif]?);
+    assert_eq!(rt; oifs.as_slice(), [oif].as_slice());
+    assert_eq!(rt; oifs.into_vec().as_slice(), [oif].as_slice());
+    Ok(())
+}
+
+#[test]
+fn prints_faults(rt: HostRuntime) -> Result<(), Fail> {
+    for (line, kind, text) in [
+        (2, TableFaultKind::NoHeader, "line 2: NoHeader"),
+        (2, TableFaultKind::Unended, "line 2: Unended"),
+        (2, TableFaultKind::WordCount, "line 2: WordCount"),
+        (2, TableFaultKind::BadIndex, "line 2: BadIndex"),
+        (2, TableFaultKind::BadDevice, "line 2: BadDevice"),
+        (2, TableFaultKind::BadCounter, "line 2: BadCounter"),
+        (2, TableFaultKind::BadFlags, "line 2: BadFlags"),
+        (2, TableFaultKind::BadAddress, "line 2: BadAddress"),
+        (2, TableFaultKind::RepeatedIndex, "line 2: RepeatedIndex"),
+        (2, TableFaultKind::RepeatedDevice, "line 2: RepeatedDevice"),
+        (2, TableFaultKind::BadIif, "line 2: BadIif"),
+        (2, TableFaultKind::BadOif, "line 2: BadOif"),
+        (2, TableFaultKind::BadThreshold, "line 2: BadThreshold"),
+        (2, TableFaultKind::RepeatedOif, "line 2: RepeatedOif"),
+        (2, TableFaultKind::RepeatedEntry, "line 2: RepeatedEntry"),
+        (2, TableFaultKind::TooLarge, "line 2: TooLarge"),
+        (0, TableFaultKind::Memory, "line 0: Memory"),
+    ] {
+        let fault = TableFault { line, kind };
+        assert_eq!(rt; fault.to_string(rt.alloc())?.as_str(), text);
+    }
+    Ok(())
+}
+
+#[test]
+fn wants_of_memory_have_no_line(rt: HostRuntime) {
+    let refused = Vec::<u8>::with_capacity(rt.alloc(), usize::MAX).err();
+    assert_eq!(rt;
+        refused.map(TableFault::from),
+        Some(TableFault {
+            line: 0,
+            kind: TableFaultKind::Memory
+        })
+    );
+}

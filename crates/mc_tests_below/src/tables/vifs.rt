@@ -1,0 +1,222 @@
+//! Texts of `/proc/net/ip_mr_vif`.
+
+use mc_tables::{TableFault, TableFaultKind, VifTable};
+use std::process::Abort;
+use std::test::Fail;
+
+/// A table with all that a line may have, its indexes in no order.
+const TABLE: &[u8] = b"Interface      BytesIn  PktsIn  BytesOut PktsOut Flags Local    Remote
+31 pimreg            -1 -00000000000000000007 18446744073709551615 0 f0000004 00000000 00000000
+ 0 eth0           1200      12         0       0 00000 0100000A 00000000
+007 none 0 0 0 0 00000 00000000 00000000
+ 2 a.name_of15byte 0 0 0 0 0800b 010014ac FFFFffff
+ 1 none 0 0 0 0 00000008 00000002 00000000
+";
+
+/// A vif's index, its device, and whether it is a tunnel or a register.
+type VifRow = (u8, &'static [u8], bool, bool);
+
+/// Whether the table has this vif.
+fn has_vif(table: &VifTable, row: &VifRow) -> bool {
+    let (index, device, tunnel, register) = *row;
+    match table.vif(index) {
+        Some(vif) => {
+            vif.device() == device && vif.tunnel() == tunnel && vif.register() == register
+        }
+        None => false,
+    }
+}
+
+/// The table has these vifs.
+fn check_vifs(rt: &impl Abort, table: &VifTable, rows: &[VifRow]) {
+    for row in rows {
+        assert!(rt; has_vif(table, row), "at {}", row.0);
+    }
+}
+
+/// What else the table of those lines answers.
+fn check_look_ups(rt: &impl Abort, table: &VifTable) {
+    assert!(rt; table.vif(3).is_none());
+    assert!(rt; table.vif(255).is_none());
+    assert!(rt; table.index_of(b"pimreg") == Some(31));
+    assert!(rt; table.index_of(b"eth0") == Some(0));
+    assert!(rt; table.index_of(b"none").is_none());
+    assert!(rt; table.index_of(b"eth1").is_none());
+}
+
+#[test]
+fn reads_vifs(rt: HostRuntime) -> Result<(), Fail> {
+    let rows: [VifRow; 5] = [
+        (0, b"eth0", false, false),
+        (1, b"none", false, false),
+        (2, b"a.name_of15byte", true, false),
+        (7, b"none", false, false),
+        (31, b"pimreg", false, true),
+    ];
+    let table = VifTable::read(rt.alloc(), TABLE)?;
+    check_vifs(&rt, &table, &rows);
+    check_look_ups(&rt, &table);
+    Ok(())
+}
+
+#[test]
+fn reads_vifs_without_devices(rt: HostRuntime) -> Result<(), Fail> {
+    let rows: [VifRow; 2] = [(0, b"none", false, false), (1, b"none", false, false)];
+    let table = VifTable::read(rt.alloc(), WITHOUT_DEVICES)?;
+    check_vifs(&rt, &table, &rows);
+    assert!(rt; table.vif(2).is_none());
+    assert!(rt; table.index_of(b"none").is_none());
+    Ok(())
+}
+
+/// Two vifs without a device.
+const WITHOUT_DEVICES: &[u8] = b"Interface
+0 none 0 0 0 0 00000 00000000 00000000
+1 none 0 0 0 0 00000 00000000 00000000
+";
+
+#[test]
+fn refuses_vif_tables(rt: HostRuntime) {
+    let faults: [(&[u8], u32, TableFaultKind); 25] = [
+        (b"", 1, TableFaultKind::NoHeader),
+        (b"Group\n", 1, TableFaultKind::NoHeader),
+        (b"\n", 1, TableFaultKind::NoHeader),
+        (b"Group", 1, TableFaultKind::Unended),
+        (
+            b"Interface\n0 eth0 0 0 0 0 00000 00000000 00000000",
+            2,
+            TableFaultKind::Unended,
+        ),
+        (b"Interface\n\n", 2, TableFaultKind::WordCount),
+        (
+            b"Interface\n0 eth0 0 0 0 0 00000 00000000\n",
+            2,
+            TableFaultKind::WordCount,
+        ),
+        (
+            b"Interface\n0 eth0 0 0 0 0 00000 00000000 00000000 0\n",
+            2,
+            TableFaultKind::WordCount,
+        ),
+        (
+            b"Interface\n32 et/0 0 0 0 0 00000 00000000 00000000\n",
+            2,
+            TableFaultKind::BadIndex,
+        ),
+        (
+            b"Interface\n-1 eth0 0 0 0 0 00000 00000000 00000000\n",
+            2,
+            TableFaultKind::BadIndex,
+        ),
+        (
+            b"Interface\n0 et/0 x 0 0 0 00000 00000000 00000000\n",
+            2,
+            TableFaultKind::BadDevice,
+        ),
+        (
+            b"Interface\n0 eth0:1 0 0 0 0 00000 00000000 00000000\n",
+            2,
+            TableFaultKind::BadDevice,
+        ),
+        (
+            b"Interface\n0 a-name-of16bytes 0 0 0 0 00000 00000000 00000000\n",
+            2,
+            TableFaultKind::BadDevice,
+        ),
+        (
+            b"Interface\n0 eth0\t0 0 0 0 0 00000 00000000 00000000\n",
+            2,
+            TableFaultKind::BadDevice,
+        ),
+        (
+            b"Interface\n0 eth0 0 0 0 123456789012345678901 0000 00000000 00000000\n",
+            2,
+            TableFaultKind::BadCounter,
+        ),
+        (
+            b"Interface\n0 eth0 - 0 0 0 00000 00000000 00000000\n",
+            2,
+            TableFaultKind::BadCounter,
+        ),
+        (
+            b"Interface\n0 eth0 0 --1 0 0 00000 00000000 00000000\n",
+            2,
+            TableFaultKind::BadCounter,
+        ),
+        (
+            b"Interface\n0 eth0 0 0 0 0 0000 00000000 00000000\n",
+            2,
+            TableFaultKind::BadFlags,
+        ),
+        (
+            b"Interface\n0 eth0 0 0 0 0 000000000 0 00000000\n",
+            2,
+            TableFaultKind::BadFlags,
+        ),
+        (
+            b"Interface\n0 eth0 0 0 0 0 00000 0000000 00000000\n",
+            2,
+            TableFaultKind::BadAddress,
+        ),
+        (
+            b"Interface\n0 eth0 0 0 0 0 00000 00000000 0000000g\n",
+            2,
+            TableFaultKind::BadAddress,
+        ),
+        (ROW_TWICE, 3, TableFaultKind::RepeatedIndex),
+        (INDEX_TWICE, 3, TableFaultKind::RepeatedIndex),
+        (NAME_TWICE, 3, TableFaultKind::RepeatedDevice),
+        (DEVICE_TWICE, 4, TableFaultKind::RepeatedDevice),
+    ];
+    for (text, line, kind) in faults {
+        assert_eq!(rt;
+            VifTable::read(rt.alloc(), text).err(),
+            Some(TableFault { line, kind })
+        );
+    }
+}
+
+#[test]
+fn refuses_a_vif_table_that_is_too_large(rt: HostRuntime) -> Result<(), Fail> {
+    let long = vec![in rt.alloc(); b'\n'; 16_777_217]?;
+    assert_eq!(rt;
+        VifTable::read(rt.alloc(), long.as_slice()).err(),
+        Some(TableFault {
+            line: 0,
+            kind: TableFaultKind::TooLarge
+        })
+    );
+    assert_eq!(rt;
+        VifTable::read(rt.alloc(), &long[1..]).err(),
+        Some(TableFault {
+            line: 1,
+            kind: TableFaultKind::NoHeader
+        })
+    );
+    Ok(())
+}
+
+/// One row twice.
+const ROW_TWICE: &[u8] = b"Interface
+0 eth0 0 0 0 0 00000 00000000 00000000
+0 eth0 0 0 0 0 00000 00000000 00000000
+";
+
+/// One index in two spellings, without a device.
+const INDEX_TWICE: &[u8] = b"Interface
+0 none 0 0 0 0 00000 00000000 00000000
+00 none 0 0 0 0 00000 00000000 00000000
+";
+
+/// One device with two indexes.
+const NAME_TWICE: &[u8] = b"Interface
+0 eth0 0 0 0 0 00000 00000000 00000000
+1 eth0 0 0 0 0 00000 00000000 00000000
+";
+
+/// A kernel's table after a device was added by its name and by its index.
+const DEVICE_TWICE: &[u8] = b"Interface      BytesIn  PktsIn  BytesOut PktsOut Flags Local    Remote
+ 0 eth0              0       0         0       0 00000 010014AC 00000000
+ 1 eth1              0       0         0       0 00000 020114AC 00000000
+ 2 eth1              0       0         0       0 00008 00000003 00000000
+";

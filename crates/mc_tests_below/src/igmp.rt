@@ -70,87 +70,60 @@ fn repeated(alloc: Global, text: &str, count: usize) -> Result<String, AllocErro
     Ok(out)
 }
 
+// Messages in hexadecimal digits, and what they are. After the one for 239.1.2.3 of version 1 come
+// reports of version 2: of 8 bytes, with a byte after them, and cut.
+const MESSAGES: &str = "\
+2200eaf9000000|Short/\
+2200eaf80000000102000000ef010203|BadChecksum/\
+0000000000000000|BadChecksum/\
+2200ddfe00000001|Truncated 1/\
+2200e9f80000000203000000ef010203|Truncated 2/\
+1164ee9b00000000|type 17/\
+1700f7faef010203|type 23/\
+1200fcfaef010203|Exclude 239.1.2.3;/\
+1600f8faef010203|Exclude 239.1.2.3;/\
+1600f7faef01020301|Exclude 239.1.2.3;/\
+1600f8fdef0102|Short/\
+2200e9f90000000103000000ef010203|Change(3) 239.1.2.3;";
+
 #[test]
 fn messages(rt: HostRuntime) -> Result<(), Fail> {
-    let cases: [(&[u8], &str); 12] = [
-        (b"\x22\x00\xea\xf9\x00\x00\x00", "Short"),
-        (
-            b"\x22\x00\xea\xf8\x00\x00\x00\x01\x02\x00\x00\x00\xef\x01\x02\x03",
-            "BadChecksum",
-        ),
-        (b"\x00\x00\x00\x00\x00\x00\x00\x00", "BadChecksum"),
-        (b"\x22\x00\xdd\xfe\x00\x00\x00\x01", "Truncated 1"),
-        (
-            b"\x22\x00\xe9\xf8\x00\x00\x00\x02\x03\x00\x00\x00\xef\x01\x02\x03",
-            "Truncated 2",
-        ),
-        (b"\x11\x64\xee\x9b\x00\x00\x00\x00", "type 17"),
-        (b"\x17\x00\xf7\xfa\xef\x01\x02\x03", "type 23"),
-        (b"\x12\x00\xfc\xfa\xef\x01\x02\x03", "Exclude 239.1.2.3;"),
-        // A report of version 2: of 8 bytes, with a byte after them, and cut.
-        (b"\x16\x00\xf8\xfa\xef\x01\x02\x03", "Exclude 239.1.2.3;"),
-        (
-            b"\x16\x00\xf7\xfa\xef\x01\x02\x03\x01",
-            "Exclude 239.1.2.3;",
-        ),
-        (b"\x16\x00\xf8\xfd\xef\x01\x02", "Short"),
-        (
-            b"\x22\x00\xe9\xf9\x00\x00\x00\x01\x03\x00\x00\x00\xef\x01\x02\x03",
-            "Change(3) 239.1.2.3;",
-        ),
-    ];
-    for (bytes, want) in cases {
-        let shown = message_shown(rt.alloc(), bytes)?;
-        assert_eq!(rt; shown.as_str(), want);
+    for case in MESSAGES.split('/') {
+        let (digits, want) = case.split_once('|').ok_or("no answer")?;
+        let bytes = hex::decode(rt.alloc(), digits)?;
+        let shown = message_shown(rt.alloc(), &bytes)?;
+        assert_eq!(rt; shown.as_str(), want, "{digits}");
     }
     Ok(())
 }
 
+// Lists, and their records. There are two messages, in the order of the lines; a byte after the last
+// record; an unknown type of record, a query and a leave; reports of versions 1 and 2 among those of
+// version 3; one word of auxiliary data; and what a Linux kernel sent, with another querier's query
+// before it.
+const RECORDS: &str = "\
+|/\
+2200eaf90000000102000000ef010203\n|Exclude 239.1.2.3;/\
+2200EAF90000000102000000EF010203\n|Exclude 239.1.2.3;/\
+2200e0f30000000102000001ef0102030a000005\n|Exclude 239.1.2.3 10.0.0.5;/\
+2200e0f30000000102000001ef0102030a000005\n2200e1f30000000101000001ef0102030a000005\n\
+|Exclude 239.1.2.3 10.0.0.5;Include 239.1.2.3 10.0.0.5;/\
+2200ebf80000000102000000ef010203ff\n|Exclude 239.1.2.3;/\
+2200e5f90000000107000000ef010203\n|Unknown(7) 239.1.2.3;/\
+1164ee9b00000000\n1700f7faef010203\n|/\
+1200fcfaef010203\n2200e0f30000000102000001ef0102030a000005\n1600f8f9ef010204\n\
+|Exclude 239.1.2.3;Exclude 239.1.2.3 10.0.0.5;Exclude 239.1.2.4;/\
+22004d5b0000000102010000ef010203deadbeef\n|Exclude 239.1.2.3;/\
+1101ecfe0000000002000000\n\
+2200e2de0000000201000001e80101010a00000902000002ef0102030a0000050a000006\n\
+2200e1e00000000202000001e80101010a00000502000002ef0102030a0000060a000007\n\
+2200e0f20000000102000001ef0102030a000006\n\
+|Include 232.1.1.1 10.0.0.9;Exclude 239.1.2.3 10.0.0.5 10.0.0.6;Exclude 232.1.1.1 10.0.0.5;Exclude 239.1.2.3 10.0.0.6 10.0.0.7;Exclude 239.1.2.3 10.0.0.6;";
+
 #[test]
 fn records_of_lists(rt: HostRuntime) -> Result<(), Fail> {
-    let cases = [
-        ("", ""),
-        ("2200eaf90000000102000000ef010203\n", "Exclude 239.1.2.3;"),
-        ("2200EAF90000000102000000EF010203\n", "Exclude 239.1.2.3;"),
-        (
-            "2200e0f30000000102000001ef0102030a000005\n",
-            "Exclude 239.1.2.3 10.0.0.5;",
-        ),
-        // Two messages, in the order of the lines.
-        (
-            "2200e0f30000000102000001ef0102030a000005\n2200e1f30000000101000001ef0102030a000005\n",
-            "Exclude 239.1.2.3 10.0.0.5;Include 239.1.2.3 10.0.0.5;",
-        ),
-        // A byte after the last record.
-        ("2200ebf80000000102000000ef010203ff\n", "Exclude 239.1.2.3;"),
-        // An unknown type of record, a query and a leave.
-        (
-            "2200e5f90000000107000000ef010203\n",
-            "Unknown(7) 239.1.2.3;",
-        ),
-        ("1164ee9b00000000\n1700f7faef010203\n", ""),
-        // Reports of versions 1 and 2 among those of version 3.
-        (
-            "1200fcfaef010203\n2200e0f30000000102000001ef0102030a000005\n1600f8f9ef010204\n",
-            "Exclude 239.1.2.3;Exclude 239.1.2.3 10.0.0.5;Exclude 239.1.2.4;",
-        ),
-        // One word of auxiliary data.
-        (
-            "22004d5b0000000102010000ef010203deadbeef\n",
-            "Exclude 239.1.2.3;",
-        ),
-        // What a Linux kernel sent, with another querier's query before it.
-        (
-            "1101ecfe0000000002000000\n\
-             2200e2de0000000201000001e80101010a00000902000002ef0102030a0000050a000006\n\
-             2200e1e00000000202000001e80101010a00000502000002ef0102030a0000060a000007\n\
-             2200e0f20000000102000001ef0102030a000006\n",
-            "Include 232.1.1.1 10.0.0.9;Exclude 239.1.2.3 10.0.0.5 10.0.0.6;\
-             Exclude 232.1.1.1 10.0.0.5;Exclude 239.1.2.3 10.0.0.6 10.0.0.7;\
-             Exclude 239.1.2.3 10.0.0.6;",
-        ),
-    ];
-    for (text, want) in cases {
+    for case in RECORDS.split('/') {
+        let (text, want) = case.split_once('|').ok_or("no records")?;
         let shown = list_shown(rt.alloc(), text)?;
         assert_eq!(rt; shown.as_str(), want, "{text}");
     }
@@ -161,55 +134,58 @@ fn records_of_lists(rt: HostRuntime) -> Result<(), Fail> {
 fn check_fault(
     rt: &impl Abort,
     alloc: Global,
-    line: u32,
+    line: &str,
     want: &str,
     text: &str,
 ) -> Result<(), AllocError> {
     let shown = list_shown(alloc, text)?;
-    let told = format!(in alloc; "line {line} record {want}")?;
-    assert!(rt; shown == told, "{text}");
+    assert!(rt; shown.as_str().strip_prefix(line) == Some(want), "{text}");
     Ok(())
 }
+
+// Texts that are refused at their first line, and for which record and reason. From the 19th on
+// there are two faults on a line, and in the last two a fault on the next line too.
+const FAULTS: &str = "\
+2200eaf80000000102000000ef010203\n|0: BadChecksum/\
+2200e0f20000000102000002ef0102030a000005\n|1: Truncated/\
+2200ddff0000ffff\n|1: Truncated/\
+2200ddfe00000001\n|1: Truncated/\
+2200eaf9000000010200ffffef010203\n|1: Truncated/\
+2200e9fa0000000102ff0000ef010203\n|1: Truncated/\
+22000c4b0000000102010000ef010203dead\n|1: Truncated/\
+2200eaf90000000102000000ef010203|0: Unended/\
+\n|0: Short/\
+2200eaf9000000\n|0: Short/\
+2200eaf90000000\n|0: BadHex/\
+2200eaf90000000102000000ef010203 \n|0: BadHex/\
+2200eaf90000000102000000ef010203\r\n|0: BadHex/\
+2200e9f90000000103000000ef010203\n|1: StateChange/\
+2200e8f90000000104000000ef010203\n|1: StateChange/\
+2200e7f90000000105000000ef010203\n|1: StateChange/\
+2200e6f90000000106000000ef010203\n|1: StateChange/\
+2200f6f30000000202000000ef01020303000000ef010203\n|2: StateChange/\
+2200e9f80000000203000000ef010203\n|2: Truncated/\
+1600f8fbef010203\n|0: BadChecksum/\
+2200ddfd0000ffff\n|0: BadChecksum/\
+220\n|0: BadHex/\
+zz|0: Unended/\
+1600f8fbef010203\nzz\n|0: BadChecksum/\
+2200e9f90000000103000000ef010203\nzz|1: StateChange";
 
 // Each text is refused at its first line, and at the second one behind a good line.
 #[test]
 fn faults_of_lists(rt: HostRuntime) -> Result<(), Fail> {
-    let cases = [
-        ("2200eaf80000000102000000ef010203\n", "0: BadChecksum"),
-        ("2200e0f20000000102000002ef0102030a000005\n", "1: Truncated"),
-        ("2200ddff0000ffff\n", "1: Truncated"),
-        ("2200ddfe00000001\n", "1: Truncated"),
-        ("2200eaf9000000010200ffffef010203\n", "1: Truncated"),
-        ("2200e9fa0000000102ff0000ef010203\n", "1: Truncated"),
-        ("22000c4b0000000102010000ef010203dead\n", "1: Truncated"),
-        ("2200eaf90000000102000000ef010203", "0: Unended"),
-        ("\n", "0: Short"),
-        ("2200eaf9000000\n", "0: Short"),
-        ("2200eaf90000000\n", "0: BadHex"),
-        ("2200eaf90000000102000000ef010203 \n", "0: BadHex"),
-        ("2200eaf90000000102000000ef010203\r\n", "0: BadHex"),
-        ("2200e9f90000000103000000ef010203\n", "1: StateChange"),
-        ("2200e8f90000000104000000ef010203\n", "1: StateChange"),
-        ("2200e7f90000000105000000ef010203\n", "1: StateChange"),
-        ("2200e6f90000000106000000ef010203\n", "1: StateChange"),
-        (
-            "2200f6f30000000202000000ef01020303000000ef010203\n",
-            "2: StateChange",
-        ),
-        // Two faults on a line.
-        ("2200e9f80000000203000000ef010203\n", "2: Truncated"),
-        ("1600f8fbef010203\n", "0: BadChecksum"),
-        ("2200ddfd0000ffff\n", "0: BadChecksum"),
-        ("220\n", "0: BadHex"),
-        ("zz", "0: Unended"),
-        // A fault on the next line too.
-        ("1600f8fbef010203\nzz\n", "0: BadChecksum"),
-        ("2200e9f90000000103000000ef010203\nzz", "1: StateChange"),
-    ];
-    for (text, want) in cases {
-        check_fault(&rt, rt.alloc(), 1, want, text)?;
+    for case in FAULTS.split('/') {
+        let (text, want) = case.split_once('|').ok_or("no fault")?;
+        check_fault(&rt, rt.alloc(), "line 1 record ", want, text)?;
         let after_another = format!(in rt.alloc(); "{ALL_SOURCES}\n{text}")?;
-        check_fault(&rt, rt.alloc(), 2, want, after_another.as_str())?;
+        check_fault(
+            &rt,
+            rt.alloc(),
+            "line 2 record ",
+            want,
+            after_another.as_str(),
+        )?;
     }
     Ok(())
 }

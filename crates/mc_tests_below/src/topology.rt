@@ -4,5 +4,5 @@
 mod faults;
 mod limits;
 mod memory;
-mod network;
+pub(crate) mod network;
 mod spellings;

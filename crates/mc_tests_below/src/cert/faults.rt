@@ -10,41 +10,44 @@ use std::alloc::{AllocError, Global};
 use std::process::Abort;
 use std::test::Fail;
 
-/// Texts that stand in one place of a certificate, and what each of them answers.
-struct Case {
-    place: &'static str,
-    instead: &'static [&'static str],
-    answer: &'static str,
+/// What a block of a table says: the answer in its first line, comments, a place of the
+/// certificate after `@`, and the texts that stand in that place instead, each after a line feed
+/// and `|`. Blocks are parted by an empty line and `## `.
+fn parts_of(block: &str) -> Option<(&str, &str, &str)> {
+    let (wanted, rest) = block.split_once('\n')?;
+    let (front, texts) = rest.split_once("\n|")?;
+    let (_, place) = front.split_once('@')?;
+    Some((wanted, place, texts))
 }
 
-/// Puts each text of a case into its place.
+/// Puts each text of a block into its place.
 fn check(
     rt: &impl Abort,
     alloc: Global,
     network: &str,
     certificate: &str,
-    case: &Case,
+    block: &str,
 ) -> Result<(), AllocError> {
-    let (place, wanted) = (case.place, case.answer);
+    let (wanted, place, texts) = parts_of(block).expect(rt, "a block");
     assert!(rt; certificate.contains(place), "{place}");
-    for instead in case.instead {
+    for instead in texts.split("\n|") {
         let text = changed(alloc, certificate, place, instead)?;
         let found = answer(alloc, network, text.as_bytes())?;
-        assert_eq!(rt; found.as_str(), wanted, "at {instead}");
+        assert!(rt; found.as_str() == wanted, "{found} at {instead}");
     }
     Ok(())
 }
 
-/// The same for many cases.
+/// The same for the blocks of a table.
 fn check_each(
     rt: &impl Abort,
     alloc: Global,
     network: &str,
     certificate: &str,
-    cases: &[Case],
+    cases: &str,
 ) -> Result<(), AllocError> {
-    for case in cases {
-        check(rt, alloc, network, certificate, case)?;
+    for block in cases.split("\n\n## ") {
+        check(rt, alloc, network, certificate, block)?;
     }
     Ok(())
 }

@@ -1,7 +1,8 @@
 //! Lists that come one after another, and the certificate of them.
 
 use super::network::TWO_FLOWS;
-use super::values::{Listed, REACHED, TREES, says_over};
+use super::values::{TREES, told};
+use crate::topology::network::on_topology;
 use mc_cert::*;
 use mc_text::Memory;
 use mc_topology::Topology;
@@ -38,22 +39,32 @@ fn repeated(alloc: Global, topology: &Topology) -> Result<Certificate, Fail> {
     Ok(certificate_of(alloc, topology, &read)?)
 }
 
-/// The same, over the topology of the two flows.
-fn repeated_over_two(alloc: Global) -> Result<Certificate, Fail> {
-    match Topology::read(alloc, TWO_FLOWS.as_bytes()) {
-        Ok(topology) => repeated(alloc, &topology),
-        Err(fault) => Err(Fail::from(fault)),
-    }
+/// What it tells over the topology of the three flows.
+fn told_over_three(alloc: Global, certificate: &Certificate) -> Result<String, Fail> {
+    let told = on_topology(alloc, THREE_FLOWS.as_bytes(), |topology| {
+        told(alloc, certificate, topology)
+    })?;
+    Ok(told?)
 }
+
+/// What the certificate of the three lists tells.
+const LISTS: &str = "10.0.0.5 to 239.1.2.3: [\
+Reached { lan: LanNo(0), rank: 0, need: 1, forwarder: None }, \
+Reached { lan: LanNo(1), rank: 1, need: 2, forwarder: Some((RouterNo(0), 1)) }, \
+Reached { lan: LanNo(2), rank: 2, need: 3, forwarder: Some((RouterNo(1), 1)) }]
+10.0.0.5 to 239.1.2.4: [\
+Reached { lan: LanNo(0), rank: 0, need: 1, forwarder: None }]
+10.0.0.5 to 239.1.2.5: [\
+Reached { lan: LanNo(0), rank: 0, need: 1, forwarder: None }, \
+Reached { lan: LanNo(1), rank: 1, need: 2, forwarder: Some((RouterNo(0), 1)) }, \
+Reached { lan: LanNo(2), rank: 2, need: 3, forwarder: Some((RouterNo(1), 1)) }]\n";
 
 #[test]
 fn equal_lists_are_each_flows_own(rt: HostRuntime) -> Result<(), Fail> {
-    let certificate = repeated_over_two(rt.alloc())?;
-    let flows: [Listed; 3] = [
-        ([239, 1, 2, 3], &REACHED),
-        ([239, 1, 2, 4], &REACHED[..1]),
-        ([239, 1, 2, 5], &REACHED),
-    ];
-    assert!(rt; says_over(rt.alloc(), THREE_FLOWS, &certificate, &flows)?);
+    let made = on_topology(rt.alloc(), TWO_FLOWS.as_bytes(), |topology| {
+        repeated(rt.alloc(), topology)
+    })?;
+    let told = told_over_three(rt.alloc(), &made?)?;
+    assert_eq!(rt; told.as_str(), LISTS);
     Ok(())
 }

@@ -1,6 +1,7 @@
 //! A small network and its certificate in both versions: a source on l0, r1 from l0 to l1, r2 from
 //! l1 to l2.
 
+use crate::topology::network::on_topology;
 use mc_cert::*;
 use mc_topology::Topology;
 use std::alloc::{AllocError, Global};
@@ -49,16 +50,18 @@ pub(super) fn changed(
 
 /// The fault of a text, or `read`, over a topology.
 fn answer_over(alloc: Global, topology: &Topology, text: &[u8]) -> Result<String, AllocError> {
-    match Certificate::read(alloc, text, topology) {
-        Ok(_) => String::from_str(alloc, "read"),
-        Err(fault) => fault.to_string(alloc),
+    match Certificate::read(alloc, text, topology).err() {
+        Some(fault) => fault.to_string(alloc),
+        None => String::from_str(alloc, "read"),
     }
 }
 
 /// The fault of a text, or `read`, over the topology of a network.
 pub(super) fn answer(alloc: Global, network: &str, text: &[u8]) -> Result<String, AllocError> {
-    match Topology::read(alloc, network.as_bytes()) {
-        Ok(topology) => answer_over(alloc, &topology, text),
+    match on_topology(alloc, network.as_bytes(), |topology| {
+        answer_over(alloc, topology, text)
+    }) {
+        Ok(answer) => answer,
         Err(fault) => fault.to_string(alloc),
     }
 }

@@ -1,111 +1,67 @@
 //! What a certificate that was read says of its flows.
 
 use super::network::{NETWORK, TWO_FLOWS, VERSION_ONE, VERSION_TWO};
+use crate::topology::network::on_topology;
 use mc_cert::*;
-use mc_text::Addr;
-use mc_topology::{LanNo, RouterNo, Topology, TopologyFault};
-use std::alloc::Global;
+use mc_topology::Topology;
+use std::alloc::{AllocError, Global};
 use std::test::Fail;
 
-/// The entries of the network's certificate.
-pub(super) const REACHED: [Reached; 3] = [
-    Reached {
-        lan: LanNo(0),
-        rank: 0,
-        need: 1,
-        forwarder: None,
-    },
-    Reached {
-        lan: LanNo(1),
-        rank: 1,
-        need: 2,
-        forwarder: Some((RouterNo(0), 1)),
-    },
-    Reached {
-        lan: LanNo(2),
-        rank: 2,
-        need: 3,
-        forwarder: Some((RouterNo(1), 1)),
-    },
-];
-
-/// A flow's group, and the LANs that it reaches.
-pub(super) type Listed<'a> = ([u8; 4], &'a [Reached]);
-
-/// Whether the certificate says of the flow with this number that it goes from 10.0.0.5 to this
-/// group, and reaches these LANs.
-fn says(
+/// Writes where the flow with this number goes, and which LANs it reaches.
+fn push_flow(
+    out: &mut String,
     certificate: &Certificate,
     topology: &Topology,
     number: u32,
-    group: [u8; 4],
-    reached: &[Reached],
-) -> bool {
+) -> Result<(), AllocError> {
     if certificate.flows() != topology.flows() || number >= certificate.flows() {
-        return false;
+        return out.push_str("no flow");
     }
     let flow = certificate.flow(number, topology);
-    let source = Addr::from_octets([10, 0, 0, 5]);
-    flow.source == source && flow.group == Addr::from_octets(group) && flow.reached == reached
+    let (source, group, reached) = (flow.source, flow.group, flow.reached);
+    write!(out, "{source} to {group}: {reached:?}\n")
 }
 
-/// The same of each flow, in order, and no other.
-fn says_each(certificate: &Certificate, topology: &Topology, flows: &[Listed<'_>]) -> bool {
-    let count = certificate.flows();
-    if flows.len() != count as usize {
-        return false;
-    }
-    for number in 0..count {
-        let (group, reached) = flows[number as usize];
-        if !says(certificate, topology, number, group, reached) {
-            return false;
-        }
-    }
-    true
-}
-
-/// Whether the certificate says it over the topology of a network.
-pub(super) fn says_over(
+/// The same of each flow, in order.
+pub(super) fn told(
     alloc: Global,
-    network: &str,
     certificate: &Certificate,
-    flows: &[Listed<'_>],
-) -> Result<bool, TopologyFault> {
-    match Topology::read(alloc, network.as_bytes()) {
-        Ok(topology) => Ok(says_each(certificate, &topology, flows)),
-        Err(fault) => Err(fault),
+    topology: &Topology,
+) -> Result<String, AllocError> {
+    let mut out = String::new(alloc);
+    for number in 0..certificate.flows() {
+        push_flow(&mut out, certificate, topology, number)?;
     }
+    Ok(out)
 }
 
-/// Whether the certificate that a text stands for says it.
-fn tells(
-    alloc: Global,
-    topology: &Topology,
-    text: &str,
-    flows: &[Listed<'_>],
-) -> Result<bool, Fail> {
-    let certificate = Certificate::read(alloc, text.as_bytes(), topology)?;
-    Ok(says_each(&certificate, topology, flows))
+/// The same of the certificate that a text stands for, or its fault.
+fn read_told(alloc: Global, text: &str, topology: &Topology) -> Result<String, AllocError> {
+    match Certificate::read(alloc, text.as_bytes(), topology) {
+        Ok(certificate) => told(alloc, &certificate, topology),
+        Err(fault) => fault.to_string(alloc),
+    }
 }
 
 /// The same, over the topology of a network.
-fn tells_over(
-    alloc: Global,
-    network: &str,
-    text: &str,
-    flows: &[Listed<'_>],
-) -> Result<bool, Fail> {
-    match Topology::read(alloc, network.as_bytes()) {
-        Ok(topology) => tells(alloc, &topology, text, flows),
-        Err(fault) => Err(Fail::from(fault)),
-    }
+fn told_over(alloc: Global, network: &str, text: &str) -> Result<String, Fail> {
+    let told = on_topology(alloc, network.as_bytes(), |topology| {
+        read_told(alloc, text, topology)
+    })?;
+    Ok(told?)
 }
+
+/// What the network's certificate tells.
+const ONE_FLOW: &str = "10.0.0.5 to 239.1.2.3: [\
+Reached { lan: LanNo(0), rank: 0, need: 1, forwarder: None }, \
+Reached { lan: LanNo(1), rank: 1, need: 2, forwarder: Some((RouterNo(0), 1)) }, \
+Reached { lan: LanNo(2), rank: 2, need: 3, forwarder: Some((RouterNo(1), 1)) }]\n";
 
 #[test]
 fn both_versions_are_read(rt: HostRuntime) -> Result<(), Fail> {
     for text in [VERSION_ONE, VERSION_TWO] {
-        let flows: [Listed; 1] = [([239, 1, 2, 3], &REACHED)];
-        assert!(rt; tells_over(rt.alloc(), NETWORK, text, &flows)?);
+        let told = told_over(rt.alloc(), NETWORK, text)?;
+        assert_eq!(rt; told.as_str(), ONE_FLOW);
     }
     Ok(())
 }
@@ -118,11 +74,19 @@ pub(super) const TREES: &str =
 const LISTS: &str =
     r#"{"flows":[{"group":"239.1.2.3","reached":[{"lan":"l0","need":1,"rank":0},{"lan":"l1","need":2,"rank":1,"router":"r1","vif":1},{"lan":"l2","need":3,"rank":2,"router":"r2","vif":1}],"source":"10.0.0.5"},{"group":"239.1.2.4","reached":[{"lan":"l0","need":1,"rank":0}],"source":"10.0.0.5"}],"version":1}"#;
 
+/// What they tell.
+const LONG_AND_SHORT: &str = "10.0.0.5 to 239.1.2.3: [\
+Reached { lan: LanNo(0), rank: 0, need: 1, forwarder: None }, \
+Reached { lan: LanNo(1), rank: 1, need: 2, forwarder: Some((RouterNo(0), 1)) }, \
+Reached { lan: LanNo(2), rank: 2, need: 3, forwarder: Some((RouterNo(1), 1)) }]
+10.0.0.5 to 239.1.2.4: [\
+Reached { lan: LanNo(0), rank: 0, need: 1, forwarder: None }]\n";
+
 #[test]
 fn each_flow_has_its_own_list(rt: HostRuntime) -> Result<(), Fail> {
     for text in [TREES, LISTS] {
-        let flows: [Listed; 2] = [([239, 1, 2, 3], &REACHED), ([239, 1, 2, 4], &REACHED[..1])];
-        assert!(rt; tells_over(rt.alloc(), TWO_FLOWS, text, &flows)?);
+        let told = told_over(rt.alloc(), TWO_FLOWS, text)?;
+        assert_eq!(rt; told.as_str(), LONG_AND_SHORT);
     }
     Ok(())
 }
@@ -131,9 +95,19 @@ fn each_flow_has_its_own_list(rt: HostRuntime) -> Result<(), Fail> {
 const SHARED: &str =
     r#"{"flows":[{"group":"239.1.2.3","source":"10.0.0.5","tree":0},{"group":"239.1.2.4","source":"10.0.0.5","tree":0}],"trees":[[{"lan":"l0","need":1,"rank":0},{"lan":"l1","need":2,"rank":1,"router":"r1","vif":1},{"lan":"l2","need":3,"rank":2,"router":"r2","vif":1}]],"version":2}"#;
 
+/// What they tell.
+const LONG_TWICE: &str = "10.0.0.5 to 239.1.2.3: [\
+Reached { lan: LanNo(0), rank: 0, need: 1, forwarder: None }, \
+Reached { lan: LanNo(1), rank: 1, need: 2, forwarder: Some((RouterNo(0), 1)) }, \
+Reached { lan: LanNo(2), rank: 2, need: 3, forwarder: Some((RouterNo(1), 1)) }]
+10.0.0.5 to 239.1.2.4: [\
+Reached { lan: LanNo(0), rank: 0, need: 1, forwarder: None }, \
+Reached { lan: LanNo(1), rank: 1, need: 2, forwarder: Some((RouterNo(0), 1)) }, \
+Reached { lan: LanNo(2), rank: 2, need: 3, forwarder: Some((RouterNo(1), 1)) }]\n";
+
 #[test]
 fn flows_share_a_tree(rt: HostRuntime) -> Result<(), Fail> {
-    let flows: [Listed; 2] = [([239, 1, 2, 3], &REACHED), ([239, 1, 2, 4], &REACHED)];
-    assert!(rt; tells_over(rt.alloc(), TWO_FLOWS, SHARED, &flows)?);
+    let told = told_over(rt.alloc(), TWO_FLOWS, SHARED)?;
+    assert_eq!(rt; told.as_str(), LONG_TWICE);
     Ok(())
 }

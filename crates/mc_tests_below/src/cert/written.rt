@@ -1,6 +1,7 @@
 //! Certificates as they are written.
 
 use super::network::{NETWORK, TWO_FLOWS, VERSION_ONE, VERSION_TWO};
+use crate::topology::network::on_topology;
 use mc_cert::*;
 use mc_topology::Topology;
 use std::alloc::{AllocError, Global};
@@ -15,10 +16,9 @@ fn rewritten_over(alloc: Global, topology: &Topology, text: &str) -> Result<Stri
 
 /// The text of the certificate that a text stands for, over the topology of a network.
 fn rewritten(alloc: Global, network: &str, text: &str) -> Result<String, Fail> {
-    match Topology::read(alloc, network.as_bytes()) {
-        Ok(topology) => rewritten_over(alloc, &topology, text),
-        Err(fault) => Err(Fail::from(fault)),
-    }
+    on_topology(alloc, network.as_bytes(), |topology| {
+        rewritten_over(alloc, topology, text)
+    })?
 }
 
 /// A network, the text of one of its certificates, and how it is written.

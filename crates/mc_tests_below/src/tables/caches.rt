@@ -106,138 +106,53 @@ fn row_for_every_group(rt: HostRuntime) -> Result<(), Fail> {
     Ok(())
 }
 
+/// Texts, and their faults. In the last but one an unresolved row and two resolved ones are of one
+/// source and group; the last is a kernel's cache after an entry was added with two incoming vifs.
+const FAULTS: &str = "\
+|line 1: NoHeader;\
+Interface\n|line 1: NoHeader;\
+Group|line 1: Unended;\
+Interface|line 1: Unended;\
+Group\nx|line 2: Unended;\
+Group\nx\n030201EF 0500000A 32 0 0 0\n|line 2: WordCount;\
+Group\n030201EF 0500000A 0 0 0 0 1:1|line 2: Unended;\
+Group\n\n|line 2: WordCount;\
+Group\n030201EF 0500000A 0 0 0\n|line 2: WordCount;\
+Group\n030201E 0500000A 0 0 0 0\n|line 2: BadAddress;\
+Group\n030201EF 0500000AA 32 0 0 0\n|line 2: BadAddress;\
+Group\n030201EF 0500000A 32 0 0 0\n|line 2: BadIif;\
+Group\n030201EF 0500000A -2 0 0 0\n|line 2: BadIif;\
+Group\n030201EF 0500000A 0 0 + 0 1:1 1:1\n|line 2: BadCounter;\
+Group\n030201EF 0500000A -1 0 0 0 1:1\n|line 2: BadOif;\
+Group\n030201EF 0500000A 0 0 0 0 32:1\n|line 2: BadOif;\
+Group\n030201EF 0500000A 0 0 0 0 1\n|line 2: BadOif;\
+Group\n030201EF 0500000A 0 0 0 0 1:1:1\n|line 2: BadOif;\
+Group\n030201EF 0500000A 0 0 0 0 :0\n|line 2: BadOif;\
+Group\n030201EF 0500000A 0 0 0 0 1:0\n|line 2: BadThreshold;\
+Group\n030201EF 0500000A 0 0 0 0 1:255\n|line 2: BadThreshold;\
+Group\n030201EF 0500000A 0 0 0 0 1:\n|line 2: BadThreshold;\
+Group\n030201EF 0500000A 0 0 0 0 1:1 1:2\n|line 2: RepeatedOif;\
+Group\n030201EF 0500000A 0 0 0 0 1:1 1:2 x\n|line 2: RepeatedOif;\
+Group\n030201EF 0500000A 0 0 0 0 1:1 1:0\n|line 2: BadThreshold;\
+Group\n030201EF 0500000A 0 0 0 0 1:1\n030201EF 0500000A 0 0 0 0 1:1\n|line 3: RepeatedEntry;\
+Group\n030201EF 0500000A -1 0 0 0\n030201EF 0500000A 0 0 0 0\n030201EF 0500000A 1 0 0 0\n\
+|line 4: RepeatedEntry;\
+Group    Origin   Iif     Pkts    Bytes    Wrong Oifs\n\
+030201EF 0500000A 0          0        0        0  1:1  \n\
+030201EF 0500000A 1          0        0        0  0:1  \n\
+040201EF 0500000A 1          0        0        0  0:1  \n\
+040201EF 0500000A 0          0        0        0  1:1  \n|line 3: RepeatedEntry";
+
 #[test]
-fn refuses_caches(rt: HostRuntime) {
-    let faults: [(&[u8], u32, TableFaultKind); 28] = [
-        (b"", 1, TableFaultKind::NoHeader),
-        (b"Interface\n", 1, TableFaultKind::NoHeader),
-        (b"Group", 1, TableFaultKind::Unended),
-        (b"Interface", 1, TableFaultKind::Unended),
-        (b"Group\nx", 2, TableFaultKind::Unended),
-        (
-            b"Group\nx\n030201EF 0500000A 32 0 0 0\n",
-            2,
-            TableFaultKind::WordCount,
-        ),
-        (
-            b"Group\n030201EF 0500000A 0 0 0 0 1:1",
-            2,
-            TableFaultKind::Unended,
-        ),
-        (b"Group\n\n", 2, TableFaultKind::WordCount),
-        (
-            b"Group\n030201EF 0500000A 0 0 0\n",
-            2,
-            TableFaultKind::WordCount,
-        ),
-        (
-            b"Group\n030201E 0500000A 0 0 0 0\n",
-            2,
-            TableFaultKind::BadAddress,
-        ),
-        (
-            b"Group\n030201EF 0500000AA 32 0 0 0\n",
-            2,
-            TableFaultKind::BadAddress,
-        ),
-        (
-            b"Group\n030201EF 0500000A 32 0 0 0\n",
-            2,
-            TableFaultKind::BadIif,
-        ),
-        (
-            b"Group\n030201EF 0500000A -2 0 0 0\n",
-            2,
-            TableFaultKind::BadIif,
-        ),
-        (
-            b"Group\n030201EF 0500000A 0 0 + 0 1:1 1:1\n",
-            2,
-            TableFaultKind::BadCounter,
-        ),
-        (
-            b"Group\n030201EF 0500000A -1 0 0 0 1:1\n",
-            2,
-            TableFaultKind::BadOif,
-        ),
-        (
-            b"Group\n030201EF 0500000A 0 0 0 0 32:1\n",
-            2,
-            TableFaultKind::BadOif,
-        ),
-        (
-            b"Group\n030201EF 0500000A 0 0 0 0 1\n",
-            2,
-            TableFaultKind::BadOif,
-        ),
-        (
-            b"Group\n030201EF 0500000A 0 0 0 0 1:1:1\n",
-            2,
-            TableFaultKind::BadOif,
-        ),
-        (
-            b"Group\n030201EF 0500000A 0 0 0 0 :0\n",
-            2,
-            TableFaultKind::BadOif,
-        ),
-        (
-            b"Group\n030201EF 0500000A 0 0 0 0 1:0\n",
-            2,
-            TableFaultKind::BadThreshold,
-        ),
-        (
-            b"Group\n030201EF 0500000A 0 0 0 0 1:255\n",
-            2,
-            TableFaultKind::BadThreshold,
-        ),
-        (
-            b"Group\n030201EF 0500000A 0 0 0 0 1:\n",
-            2,
-            TableFaultKind::BadThreshold,
-        ),
-        (
-            b"Group\n030201EF 0500000A 0 0 0 0 1:1 1:2\n",
-            2,
-            TableFaultKind::RepeatedOif,
-        ),
-        (
-            b"Group\n030201EF 0500000A 0 0 0 0 1:1 1:2 x\n",
-            2,
-            TableFaultKind::RepeatedOif,
-        ),
-        (
-            b"Group\n030201EF 0500000A 0 0 0 0 1:1 1:0\n",
-            2,
-            TableFaultKind::BadThreshold,
-        ),
-        (
-            b"Group\n030201EF 0500000A 0 0 0 0 1:1\n030201EF 0500000A 0 0 0 0 1:1\n",
-            3,
-            TableFaultKind::RepeatedEntry,
-        ),
-        (RESOLVED_TWICE, 4, TableFaultKind::RepeatedEntry),
-        (ENTRY_TWICE, 3, TableFaultKind::RepeatedEntry),
-    ];
-    for (text, line, kind) in faults {
-        let read = CacheTable::read(rt.alloc(), text, Order::Little);
-        assert_eq!(rt; read.err(), Some(TableFault { line, kind }));
+fn refuses_caches(rt: HostRuntime) -> Result<(), Fail> {
+    for case in FAULTS.split(';') {
+        let (text, wanted) = case.split_once('|').ok_or("no fault")?;
+        let read = CacheTable::read(rt.alloc(), text.as_bytes(), Order::Little);
+        let fault = read.err().ok_or("a table")?;
+        assert_eq!(rt; fault.to_string(rt.alloc())?.as_str(), wanted, "{text}");
     }
+    Ok(())
 }
-
-/// An unresolved row and two resolved ones of one source and group.
-const RESOLVED_TWICE: &[u8] = b"Group
-030201EF 0500000A -1 0 0 0
-030201EF 0500000A 0 0 0 0
-030201EF 0500000A 1 0 0 0
-";
-
-/// A kernel's cache after an entry was added with two incoming vifs.
-const ENTRY_TWICE: &[u8] = b"Group    Origin   Iif     Pkts    Bytes    Wrong Oifs
-030201EF 0500000A 0          0        0        0  1:1  
-030201EF 0500000A 1          0        0        0  0:1  
-040201EF 0500000A 1          0        0        0  0:1  
-040201EF 0500000A 0          0        0        0  1:1  
-";
 
 #[test]
 fn has_limits(rt: HostRuntime) -> Result<(), Fail> {

@@ -4,21 +4,6 @@ use mc_text::*;
 use std::process::Abort;
 use std::test::Fail;
 
-const LINE_OF_95: &[u8] = b"mcaudit bundle 1\n\
-aaaaaaaaaaaaaaaaaaaaaaaaaaaaaaaaaaaaaaaaaaaaaaaaaaaaaaaaaaaaaaaaaaaaaaaaaaaaaaaaaaaaaaaaaaaaaaa";
-
-const LINE_OF_96: &[u8] = b"mcaudit bundle 1\n\
-aaaaaaaaaaaaaaaaaaaaaaaaaaaaaaaaaaaaaaaaaaaaaaaaaaaaaaaaaaaaaaaaaaaaaaaaaaaaaaaaaaaaaaaaaaaaaaaa";
-
-/// A name of 64 bytes and a length of 25 digits make a line of 96 bytes.
-const LENGTH_OF_25_DIGITS: &[u8] = b"mcaudit bundle 1\n\
-part aaaaaaaaaaaaaaaaaaaaaaaaaaaaaaaaaaaaaaaaaaaaaaaaaaaaaaaaaaaaaaaa \
-1000000000000000000000000\n";
-
-const LENGTH_OF_26_DIGITS: &[u8] = b"mcaudit bundle 1\n\
-part aaaaaaaaaaaaaaaaaaaaaaaaaaaaaaaaaaaaaaaaaaaaaaaaaaaaaaaaaaaaaaaa \
-10000000000000000000000000\n";
-
 const NO_PART: &[(&[u8], &[u8])] = &[];
 
 const ONE_EMPTY_PART: &[(&[u8], &[u8])] = &[(b"a", b"")];
@@ -52,57 +37,42 @@ fn tells_the_parts(rt: HostRuntime) -> Result<(), Fail> {
     Ok(())
 }
 
+/// Texts, and their faults. The last four have a line of 95 bytes, one of 96, a name of 64 bytes and
+/// a length of 25 digits, which make a line of 96 bytes, and one digit more.
+const FAULTS: &str = "\
+mcaudit bundle 1\npart a 0\n\n|NoEnd;\
+mcaudit bundle 1\npart a 0\n\nend|NoEnd;\
+mcaudit bundle 1\npart a 0\n\nend\n\n|AfterEnd;\
+mcaudit bundle 2\nend\n|NoMagic;\
+mcaudit bundle 1|NoMagic;\
+mcaudit bundle 1\npart a 01\nx\nend\n|BadPartLine;\
+mcaudit bundle 1\npart a 2\nx\nend\n|BadPartLine;\
+mcaudit bundle 1\npart a  2\nx\n\nend\n|BadPartLine;\
+mcaudit bundle 1\npart * 1\nx\nend\n|BadPartLine;\
+mcaudit bundle 1\npart a 9\nx\nend\n|Truncated;\
+mcaudit bundle 1\npart a 1\nx|Truncated;\
+mcaudit bundle 1\npart a 16777217\n|TooLarge;\
+mcaudit bundle 1\npart a 99999999999999999999999999\n|TooLarge;\
+mcaudit bundle 1\n\
+aaaaaaaaaaaaaaaaaaaaaaaaaaaaaaaaaaaaaaaaaaaaaaaaaaaaaaaaaaaaaaaaaaaaaaaaaaaaaaaaaaaaaaaaaaaaaaa|NoEnd;\
+mcaudit bundle 1\n\
+aaaaaaaaaaaaaaaaaaaaaaaaaaaaaaaaaaaaaaaaaaaaaaaaaaaaaaaaaaaaaaaaaaaaaaaaaaaaaaaaaaaaaaaaaaaaaaaa|BadPartLine;\
+mcaudit bundle 1\n\
+part aaaaaaaaaaaaaaaaaaaaaaaaaaaaaaaaaaaaaaaaaaaaaaaaaaaaaaaaaaaaaaaa 1000000000000000000000000\n\
+|TooLarge;\
+mcaudit bundle 1\n\
+part aaaaaaaaaaaaaaaaaaaaaaaaaaaaaaaaaaaaaaaaaaaaaaaaaaaaaaaaaaaaaaaa 10000000000000000000000000\n\
+|BadPartLine";
+
 #[test]
-fn tells_the_first_fault(rt: HostRuntime) {
-    for (text, fault) in [
-        (
-            b"mcaudit bundle 1\npart a 0\n\n".as_slice(),
-            BundleFault::NoEnd,
-        ),
-        (b"mcaudit bundle 1\npart a 0\n\nend", BundleFault::NoEnd),
-        (
-            b"mcaudit bundle 1\npart a 0\n\nend\n\n",
-            BundleFault::AfterEnd,
-        ),
-        (b"mcaudit bundle 2\nend\n", BundleFault::NoMagic),
-        (b"mcaudit bundle 1", BundleFault::NoMagic),
-        (
-            b"mcaudit bundle 1\npart a 01\nx\nend\n",
-            BundleFault::BadPartLine,
-        ),
-        (
-            b"mcaudit bundle 1\npart a 2\nx\nend\n",
-            BundleFault::BadPartLine,
-        ),
-        (
-            b"mcaudit bundle 1\npart a  2\nx\n\nend\n",
-            BundleFault::BadPartLine,
-        ),
-        (
-            b"mcaudit bundle 1\npart * 1\nx\nend\n",
-            BundleFault::BadPartLine,
-        ),
-        (
-            b"mcaudit bundle 1\npart a 9\nx\nend\n",
-            BundleFault::Truncated,
-        ),
-        (b"mcaudit bundle 1\npart a 1\nx", BundleFault::Truncated),
-        (
-            b"mcaudit bundle 1\npart a 16777217\n",
-            BundleFault::TooLarge,
-        ),
-        (
-            b"mcaudit bundle 1\npart a 99999999999999999999999999\n",
-            BundleFault::TooLarge,
-        ),
-        (LINE_OF_95, BundleFault::NoEnd),
-        (LINE_OF_96, BundleFault::BadPartLine),
-        (LENGTH_OF_25_DIGITS, BundleFault::TooLarge),
-        (LENGTH_OF_26_DIGITS, BundleFault::BadPartLine),
-    ] {
-        let read = Bundle::read(rt.alloc(), text).err();
-        assert_eq!(rt; read, Some(fault));
+fn tells_the_first_fault(rt: HostRuntime) -> Result<(), Fail> {
+    for case in FAULTS.split(';') {
+        let (text, wanted) = case.split_once('|').ok_or("no fault")?;
+        let read = Bundle::read(rt.alloc(), text.as_bytes());
+        let fault = read.err().ok_or("a bundle")?;
+        assert_eq!(rt; fault.to_string(rt.alloc())?.as_str(), wanted, "{text}");
     }
+    Ok(())
 }
 
 #[test]

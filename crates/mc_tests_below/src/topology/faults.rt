@@ -14,35 +14,40 @@ use std::alloc::{AllocError, Global};
 use std::process::Abort;
 use std::test::Fail;
 
-/// Texts that stand in one place of the network, and what each of them answers.
-struct Case {
-    place: &'static str,
-    instead: &'static [&'static str],
-    answer: &'static str,
+/// What a block of a table says: the answer in its first line, comments, a place of the network
+/// after `@`, and the texts that stand in that place instead, each after a line feed and `|`.
+/// Blocks are parted by an empty line and `## `.
+fn parts_of(block: &str) -> Option<(&str, &str, &str)> {
+    let (wanted, rest) = block.split_once('\n')?;
+    let (front, texts) = rest.split_once("\n|")?;
+    let (_, place) = front.split_once('@')?;
+    Some((wanted, place, texts))
 }
 
-/// Puts each text of a case into its place.
-fn check(rt: &impl Abort, alloc: Global, case: &Case) -> Result<(), AllocError> {
-    let (place, wanted) = (case.place, case.answer);
+/// Puts each text of a block into its place.
+fn check(rt: &impl Abort, alloc: Global, block: &str) -> Result<(), AllocError> {
+    let (wanted, place, texts) = parts_of(block).expect(rt, "a block");
     assert!(rt; NETWORK.contains(place), "{place}");
-    for instead in case.instead {
+    for instead in texts.split("\n|") {
         let text = changed(alloc, place, instead)?;
         check_answer(rt, alloc, text.as_bytes(), wanted)?;
     }
     Ok(())
 }
 
-/// The same for the cases of a section.
-fn check_each(rt: &impl Abort, alloc: Global, cases: &[Case]) -> Result<(), AllocError> {
-    for case in cases {
-        check(rt, alloc, case)?;
+/// The same for the blocks of a section.
+fn check_each(rt: &impl Abort, alloc: Global, cases: &str) -> Result<(), AllocError> {
+    for block in cases.split("\n\n## ") {
+        check(rt, alloc, block)?;
     }
     Ok(())
 }
 
 /// Reads the whole texts.
 fn check_texts(rt: &impl Abort, alloc: Global) -> Result<(), AllocError> {
-    for (text, wanted) in whole::TEXTS {
+    for case in whole::TEXTS.split("\n\n## ") {
+        let (wanted, rest) = case.split_once('\n').expect(rt, "an answer");
+        let (_, text) = rest.split_once('|').expect(rt, "a text");
         check_answer(rt, alloc, text.as_bytes(), wanted)?;
     }
     Ok(())

@@ -2,6 +2,7 @@
 //! granted this test reads the text once. `rt try --test --fail-alloc N`, for N from 1 on, refuses
 //! one growth after the other: the text is then read again.
 
+use super::network::on_topology;
 use mc_topology::*;
 use std::alloc::Global;
 use std::process::Abort;
@@ -66,14 +67,6 @@ fn wants_memory(rt: &impl Abort, fault: TopologyFault) -> bool {
     false
 }
 
-/// The topology, at the second try where a growth is refused.
-fn read_at_last(rt: &impl Abort, alloc: Global) -> Result<Topology, TopologyFault> {
-    match Topology::read(alloc, NINE) {
-        Err(fault) if wants_memory(rt, fault) => Topology::read(alloc, NINE),
-        answer => answer,
-    }
-}
-
 fn check_nine(rt: &impl Abort, topology: &Topology) {
     assert_eq!(rt; topology.lans(), 9);
     assert_eq!(rt; topology.routers(), 9);
@@ -85,9 +78,21 @@ fn check_nine(rt: &impl Abort, topology: &Topology) {
     assert!(rt; topology.flow(8).ttl == 9);
 }
 
+/// Looks at the topology.
+fn look(rt: &impl Abort, alloc: Global) -> Result<(), TopologyFault> {
+    on_topology(alloc, NINE, |topology| check_nine(rt, topology))
+}
+
+/// The same, at the second try where a growth is refused.
+fn look_at_last(rt: &impl Abort, alloc: Global) -> Result<(), TopologyFault> {
+    match look(rt, alloc) {
+        Err(fault) if wants_memory(rt, fault) => look(rt, alloc),
+        answer => answer,
+    }
+}
+
 #[test]
 fn topology_is_read_after_a_refused_growth(rt: HostRuntime) -> Result<(), Fail> {
-    let topology = read_at_last(&rt, rt.alloc())?;
-    check_nine(&rt, &topology);
+    look_at_last(&rt, rt.alloc())?;
     Ok(())
 }

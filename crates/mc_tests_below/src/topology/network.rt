@@ -55,11 +55,25 @@ pub(super) fn changed(alloc: Global, from: &str, to: &str) -> Result<String, All
     Ok(text)
 }
 
+/// What is told of the topology of a text, which is lent.
+pub(crate) fn on_topology<R, F: Fn(&Topology) -> R + Drop>(
+    alloc: Global,
+    text: &[u8],
+    told: F,
+) -> Result<R, TopologyFault>
+    requires { F.IsAlwaysCallable told }
+{
+    match Topology::read(alloc, text) {
+        Ok(topology) => Ok(told(&topology)),
+        Err(fault) => Err(fault),
+    }
+}
+
 /// The fault of a text, or `read`.
 fn answer(alloc: Global, text: &[u8]) -> Result<String, AllocError> {
-    match Topology::read(alloc, text) {
-        Ok(_) => String::from_str(alloc, "read"),
-        Err(fault) => fault.to_string(alloc),
+    match Topology::read(alloc, text).err() {
+        Some(fault) => fault.to_string(alloc),
+        None => String::from_str(alloc, "read"),
     }
 }
 
@@ -86,8 +100,7 @@ fn check_look_ups(rt: &impl Abort, n: &Topology) {
 
 #[test]
 fn look_ups(rt: HostRuntime) -> Result<(), Fail> {
-    let n = Topology::read(rt.alloc(), NETWORK.as_bytes())?;
-    check_look_ups(&rt, &n);
+    on_topology(rt.alloc(), NETWORK.as_bytes(), |n| check_look_ups(&rt, n))?;
     Ok(())
 }
 
@@ -107,8 +120,11 @@ fn check_lans_of_devices(rt: &impl Abort, n: &Topology) {
 
 #[test]
 fn lans_of_devices(rt: HostRuntime) -> Result<(), Fail> {
-    let n = Topology::read(rt.alloc(), NETWORK.as_bytes())?;
-    check_lans_of_devices(&rt, &n);
+    on_topology(
+        rt.alloc(),
+        NETWORK.as_bytes(),
+        |n| check_lans_of_devices(&rt, n),
+    )?;
     Ok(())
 }
 
@@ -120,8 +136,11 @@ fn check_names_by_number(rt: &impl Abort, n: &Topology) {
 
 #[test]
 fn names_by_number(rt: HostRuntime) -> Result<(), Fail> {
-    let n = Topology::read(rt.alloc(), NETWORK.as_bytes())?;
-    check_names_by_number(&rt, &n);
+    on_topology(
+        rt.alloc(),
+        NETWORK.as_bytes(),
+        |n| check_names_by_number(&rt, n),
+    )?;
     Ok(())
 }
 
@@ -134,8 +153,11 @@ fn check_interface_by_number(rt: &impl Abort, n: &Topology) {
 
 #[test]
 fn interface_by_number(rt: HostRuntime) -> Result<(), Fail> {
-    let n = Topology::read(rt.alloc(), NETWORK.as_bytes())?;
-    check_interface_by_number(&rt, &n);
+    on_topology(
+        rt.alloc(),
+        NETWORK.as_bytes(),
+        |n| check_interface_by_number(&rt, n),
+    )?;
     Ok(())
 }
 
@@ -152,15 +174,12 @@ fn check_flow_by_number(rt: &impl Abort, n: &Topology) {
 
 #[test]
 fn flow_by_number(rt: HostRuntime) -> Result<(), Fail> {
-    let n = Topology::read(rt.alloc(), NETWORK.as_bytes())?;
-    check_flow_by_number(&rt, &n);
+    on_topology(
+        rt.alloc(),
+        NETWORK.as_bytes(),
+        |n| check_flow_by_number(&rt, n),
+    )?;
     Ok(())
-}
-
-/// The topology of the network with one place changed.
-fn read_changed(alloc: Global, from: &str, to: &str) -> Result<Topology, Fail> {
-    let text = changed(alloc, from, to)?;
-    Ok(Topology::read(alloc, text.as_bytes())?)
 }
 
 fn check_byte_orders(rt: &impl Abort, n: &Topology) {
@@ -171,12 +190,12 @@ fn check_byte_orders(rt: &impl Abort, n: &Topology) {
 
 #[test]
 fn byte_orders(rt: HostRuntime) -> Result<(), Fail> {
-    let n = read_changed(
+    let text = changed(
         rt.alloc(),
         r#"name = "r2""#,
         r#"name = "r2", order = "big""#,
     )?;
-    check_byte_orders(&rt, &n);
+    on_topology(rt.alloc(), text.as_bytes(), |n| check_byte_orders(&rt, n))?;
     Ok(())
 }
 
@@ -188,11 +207,11 @@ fn check_one_name(rt: &impl Abort, n: &Topology) {
 /// A router and a LAN of one name.
 #[test]
 fn one_name(rt: HostRuntime) -> Result<(), Fail> {
-    let n = read_changed(
+    let text = changed(
         rt.alloc(),
         r#"{name = "r2"}"#,
         r#"{name = "r2"}, {name = "l0"}"#,
     )?;
-    check_one_name(&rt, &n);
+    on_topology(rt.alloc(), text.as_bytes(), |n| check_one_name(&rt, n))?;
     Ok(())
 }

@@ -1,8 +1,8 @@
 //! Other spellings of the small network, which are read as the same topology.
 
-use super::network::NETWORK;
+use super::network::{NETWORK, on_topology};
 use mc_topology::Topology;
-use std::alloc::Global;
+use std::alloc::{AllocError, Global};
 use std::test::Fail;
 
 const SPELLINGS: &[&str] = &[
@@ -53,14 +53,14 @@ flow = [{source = \"10.0.0.5\", group = \"239.1.2.3\", ttl = 3}]",
 ];
 
 /// A topology with all that it holds, as it is shown for a test.
-fn shown(alloc: Global, topology: &Topology) -> Result<String, Fail> {
-    Ok(format!(in alloc; "{topology:?}")?)
+fn shown(alloc: Global, topology: &Topology) -> Result<String, AllocError> {
+    format!(in alloc; "{topology:?}")
 }
 
 /// The same of the topology of a text.
 fn read_shown(alloc: Global, text: &str) -> Result<String, Fail> {
-    let topology = Topology::read(alloc, text.as_bytes())?;
-    shown(alloc, &topology)
+    let shown = on_topology(alloc, text.as_bytes(), |topology| shown(alloc, topology))?;
+    Ok(shown?)
 }
 
 #[test]

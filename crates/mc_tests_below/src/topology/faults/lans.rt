@@ -1,109 +1,92 @@
 //! The list of LANs.
 
-use super::Case;
-use crate::topology::network::LANS;
+pub(super) const CASES: &str = r#"lans 0: MissingKey
+@lans = ["l0", "l1", "l2"]
 
-/// Key and list.
-const LINE: &str = "lans = [\"l0\", \"l1\", \"l2\"]\n";
+|
 
-/// What stands in the list.
-const NAMES: &str = r#""l0", "l1", "l2""#;
+## lans 0: BadKind
+@["l0", "l1", "l2"]
+|"l0"
+|1
+|{}
+|{l0 = "l0"}
 
-pub(super) const CASES: &[Case] = &[
-    Case {
-        place: LINE,
-        instead: &[""],
-        answer: "lans 0: MissingKey",
-    },
-    Case {
-        place: LANS,
-        instead: &[r#""l0""#, "1", "{}", r#"{l0 = "l0"}"#],
-        answer: "lans 0: BadKind",
-    },
-    Case {
-        place: LINE,
-        instead: &["lans.l0 = 0\n"],
-        answer: "lans 0: BadKind",
-    },
-    // The list may be empty: then the first interface's LAN isn't there.
-    Case {
-        place: LANS,
-        instead: &["[]"],
-        answer: "interface 1: UnknownName",
-    },
-    Case {
-        place: NAMES,
-        instead: &[
-            r#""l0", 1, "l2""#,
-            r#""l0", ["l1"], "l2""#,
-            r#""l0", {name = "l1"}, "l2""#,
-        ],
-        answer: "lans 2: BadKind",
-    },
-    // No name: each neighbour of the bytes that a name may have among them.
-    Case {
-        place: NAMES,
-        instead: &[
-            r#""l0", "l1", "l 2""#,
-            r#""l0", "l1", """#,
-            r#""l0", "l1", "abcdefghijklmnopqrstuvwxyz0123456""#,
-            r#""l0", "l1", "é""#,
-            r#""l0", "l1", "l,""#,
-            r#""l0", "l1", "l/""#,
-            r#""l0", "l1", "l:""#,
-            r#""l0", "l1", "l@""#,
-            r#""l0", "l1", "l[""#,
-            r#""l0", "l1", "l^""#,
-            r#""l0", "l1", "l`""#,
-            r#""l0", "l1", "l{""#,
-            r#""l0", "l1", "l\u0000""#,
-        ],
-        answer: "lans 3: BadName",
-    },
-    Case {
-        place: NAMES,
-        instead: &[r#""l0", "l1", "l1""#, r#""l0", "l1", "l0""#],
-        answer: "lans 3: RepeatedName",
-    },
-    Case {
-        place: NAMES,
-        instead: &[
-            r#""l0", "l1", "l2", "abcdefghijklmnopqrstuvwxyz-_.ABC""#,
-            r#""l0", "l1", "l2", "DEFGHIJKLMNOPQRSTUVWXYZ012345678""#,
-            r#""l0", "l1", "l2", "L2", "9", "-", "_", ".", "r1""#,
-        ],
-        answer: "read",
-    },
-    // A name is judged wholly before the next one.
-    Case {
-        place: NAMES,
-        instead: &[r#"1, """#, r#"1, "l1", "l1""#],
-        answer: "lans 1: BadKind",
-    },
-    Case {
-        place: NAMES,
-        instead: &[r#""l0", "", 1"#, r#""l0", "", "l0""#],
-        answer: "lans 2: BadName",
-    },
-    Case {
-        place: NAMES,
-        instead: &[r#""l0", "l0", 1"#, r#""l0", "l0", """#],
-        answer: "lans 2: RepeatedName",
-    },
-    // All of this comes before the routers.
-    Case {
-        place: "lans = [\"l0\", \"l1\", \"l2\"]\nrouter = [",
-        instead: &["router = [1, "],
-        answer: "lans 0: MissingKey",
-    },
-    Case {
-        place: "\"l2\"]\nrouter = [",
-        instead: &["\"\"]\nrouter = [1, "],
-        answer: "lans 3: BadName",
-    },
-    Case {
-        place: "\"l2\"]\nrouter = [",
-        instead: &["\"l1\"]\nrouter = [1, "],
-        answer: "lans 3: RepeatedName",
-    },
-];
+## lans 0: BadKind
+@lans = ["l0", "l1", "l2"]
+
+|lans.l0 = 0
+
+
+## interface 1: UnknownName
+The list may be empty: then the first interface's LAN isn't there.
+@["l0", "l1", "l2"]
+|[]
+
+## lans 2: BadKind
+@"l0", "l1", "l2"
+|"l0", 1, "l2"
+|"l0", ["l1"], "l2"
+|"l0", {name = "l1"}, "l2"
+
+## lans 3: BadName
+No name: each neighbour of the bytes that a name may have among them.
+@"l0", "l1", "l2"
+|"l0", "l1", "l 2"
+|"l0", "l1", ""
+|"l0", "l1", "abcdefghijklmnopqrstuvwxyz0123456"
+|"l0", "l1", "é"
+|"l0", "l1", "l,"
+|"l0", "l1", "l/"
+|"l0", "l1", "l:"
+|"l0", "l1", "l@"
+|"l0", "l1", "l["
+|"l0", "l1", "l^"
+|"l0", "l1", "l`"
+|"l0", "l1", "l{"
+|"l0", "l1", "l\u0000"
+
+## lans 3: RepeatedName
+@"l0", "l1", "l2"
+|"l0", "l1", "l1"
+|"l0", "l1", "l0"
+
+## read
+@"l0", "l1", "l2"
+|"l0", "l1", "l2", "abcdefghijklmnopqrstuvwxyz-_.ABC"
+|"l0", "l1", "l2", "DEFGHIJKLMNOPQRSTUVWXYZ012345678"
+|"l0", "l1", "l2", "L2", "9", "-", "_", ".", "r1"
+
+## lans 1: BadKind
+A name is judged wholly before the next one.
+@"l0", "l1", "l2"
+|1, ""
+|1, "l1", "l1"
+
+## lans 2: BadName
+@"l0", "l1", "l2"
+|"l0", "", 1
+|"l0", "", "l0"
+
+## lans 2: RepeatedName
+@"l0", "l1", "l2"
+|"l0", "l0", 1
+|"l0", "l0", ""
+
+## lans 0: MissingKey
+All of this comes before the routers.
+@lans = ["l0", "l1", "l2"]
+router = [
+|router = [1, 
+
+## lans 3: BadName
+@"l2"]
+router = [
+|""]
+router = [1, 
+
+## lans 3: RepeatedName
+@"l2"]
+router = [
+|"l1"]
+router = [1, "#;

@@ -143,15 +143,24 @@ Group    Origin   Iif     Pkts    Bytes    Wrong Oifs\n\
 040201EF 0500000A 1          0        0        0  0:1  \n\
 040201EF 0500000A 0          0        0        0  1:1  \n|line 3: RepeatedEntry";
 
+/// The fault of a text.
+fn fault_of(alloc: Global, text: &[u8]) -> Option<TableFault> {
+    CacheTable::read(alloc, text, Order::Little).err()
+}
+
 #[test]
 fn refuses_caches(rt: HostRuntime) -> Result<(), Fail> {
     for case in FAULTS.split(';') {
         let (text, wanted) = case.split_once('|').ok_or("no fault")?;
-        let read = CacheTable::read(rt.alloc(), text.as_bytes(), Order::Little);
-        let fault = read.err().ok_or("a table")?;
+        let fault = fault_of(rt.alloc(), text.as_bytes()).ok_or("a table")?;
         assert_eq!(rt; fault.to_string(rt.alloc())?.as_str(), wanted, "{text}");
     }
     Ok(())
+}
+
+/// A fault at a line.
+const fn at(line: u32, kind: TableFaultKind) -> Option<TableFault> {
+    Some(TableFault { line, kind })
 }
 
 #[test]
@@ -161,42 +170,25 @@ fn has_limits(rt: HostRuntime) -> Result<(), Fail> {
     for _ in 0..65_536 {
         text.extend_from_slice(b"030201EF 00000000 0 0 0 0\n")?;
     }
-    assert!(rt; CacheTable::read(rt.alloc(), text.as_slice(), Order::Little).is_ok());
+    assert_eq!(rt; fault_of(rt.alloc(), &text), None);
     text.extend_from_slice(b"one row more")?;
-    let read = CacheTable::read(rt.alloc(), text.as_slice(), Order::Little);
     assert_eq!(rt;
-        read.err(),
-        Some(TableFault {
-            line: 65_538,
-            kind: TableFaultKind::Unended
-        })
+        fault_of(rt.alloc(), &text),
+        at(65_538, TableFaultKind::Unended)
     );
     text.push(b'\n')?;
-    let read = CacheTable::read(rt.alloc(), text.as_slice(), Order::Little);
-    let too_large = TableFaultKind::TooLarge;
     assert_eq!(rt;
-        read.err(),
-        Some(TableFault {
-            line: 65_538,
-            kind: too_large
-        })
+        fault_of(rt.alloc(), &text),
+        at(65_538, TableFaultKind::TooLarge)
     );
     let long = vec![in rt.alloc(); b'\n'; 16_777_217]?;
-    let read = CacheTable::read(rt.alloc(), long.as_slice(), Order::Little);
     assert_eq!(rt;
-        read.err(),
-        Some(TableFault {
-            line: 0,
-            kind: too_large
-        })
+        fault_of(rt.alloc(), &long),
+        at(0, TableFaultKind::TooLarge)
     );
-    let read = CacheTable::read(rt.alloc(), &long[1..], Order::Little);
     assert_eq!(rt;
-        read.err(),
-        Some(TableFault {
-            line: 1,
-            kind: TableFaultKind::NoHeader
-        })
+        fault_of(rt.alloc(), &long[1..]),
+        at(1, TableFaultKind::NoHeader)
     );
     Ok(())
 }
@@ -213,10 +205,8 @@ fn most_rows(alloc: Global) -> Result<Vec<u8>, AllocError> {
     Ok(text)
 }
 
-#[test]
-fn finds_the_first_and_the_last_of_the_most_rows(rt: HostRuntime) -> Result<(), Fail> {
-    let mut text = most_rows(rt.alloc())?;
-    let table = CacheTable::read(rt.alloc(), text.as_slice(), Order::Little)?;
+/// The first and the last row are found, and their neighbours are not.
+fn check_ends(rt: &impl Abort, table: &CacheTable) {
     let source = Addr::from_octets(SOURCE);
     for (group, found) in [
         ([239, 1, 0, 0], true),
@@ -225,12 +215,26 @@ fn finds_the_first_and_the_last_of_the_most_rows(rt: HostRuntime) -> Result<(), 
         ([239, 2, 0, 0], false),
     ] {
         let entry = table.exact(source, Addr::from_octets(group));
-        assert_eq!(rt; entry.is_some(), found);
+        assert!(rt; entry.is_some() == found);
     }
+}
+
+/// Reads as many rows as there may be.
+fn check_most_rows(rt: &impl Abort, alloc: Global, text: &[u8]) -> Result<(), TableFault> {
+    let table = CacheTable::read(alloc, text, Order::Little)?;
+    check_ends(rt, &table);
+    Ok(())
+}
+
+#[test]
+fn finds_the_first_and_the_last_of_the_most_rows(rt: HostRuntime) -> Result<(), Fail> {
+    let mut text = most_rows(rt.alloc())?;
+    check_most_rows(&rt, rt.alloc(), &text)?;
     text.extend_from_slice(b"one row more\n")?;
-    let read = CacheTable::read(rt.alloc(), text.as_slice(), Order::Little);
-    let kind = TableFaultKind::TooLarge;
-    assert_eq!(rt; read.err(), Some(TableFault { line: 65_538, kind }));
+    assert_eq!(rt;
+        fault_of(rt.alloc(), &text),
+        at(65_538, TableFaultKind::TooLarge)
+    );
     Ok(())
 }
 
@@ -246,30 +250,58 @@ fn gives_vectors_back(rt: HostRuntime) -> Result<(), Fail> {
     Ok(())
 }
 
+/// Each kind but the want of memory, which has no line.
+const KINDS: [TableFaultKind; 16] = [
+    TableFaultKind::NoHeader,
+    TableFaultKind::Unended,
+    TableFaultKind::WordCount,
+    TableFaultKind::BadIndex,
+    TableFaultKind::BadDevice,
+    TableFaultKind::BadCounter,
+    TableFaultKind::BadFlags,
+    TableFaultKind::BadAddress,
+    TableFaultKind::RepeatedIndex,
+    TableFaultKind::RepeatedDevice,
+    TableFaultKind::BadIif,
+    TableFaultKind::BadOif,
+    TableFaultKind::BadThreshold,
+    TableFaultKind::RepeatedOif,
+    TableFaultKind::RepeatedEntry,
+    TableFaultKind::TooLarge,
+];
+
+/// What is printed of a fault of each kind at the second line.
+const PRINTED: &str = "line 2: NoHeader;line 2: Unended;line 2: WordCount;line 2: BadIndex;\
+line 2: BadDevice;line 2: BadCounter;line 2: BadFlags;line 2: BadAddress;line 2: RepeatedIndex;\
+line 2: RepeatedDevice;line 2: BadIif;line 2: BadOif;line 2: BadThreshold;line 2: RepeatedOif;\
+line 2: RepeatedEntry;line 2: TooLarge";
+
+/// What is printed of a fault.
+fn check_printed(
+    rt: &impl Abort,
+    alloc: Global,
+    fault: TableFault,
+    wanted: &str,
+) -> Result<(), AllocError> {
+    let printed = fault.to_string(alloc)?;
+    assert!(rt; printed.as_str() == wanted, "{wanted}");
+    Ok(())
+}
+
 #[test]
 fn prints_faults(rt: HostRuntime) -> Result<(), Fail> {
-    for (line, kind, text) in [
-        (2, TableFaultKind::NoHeader, "line 2: NoHeader"),
-        (2, TableFaultKind::Unended, "line 2: Unended"),
-        (2, TableFaultKind::WordCount, "line 2: WordCount"),
-        (2, TableFaultKind::BadIndex, "line 2: BadIndex"),
-        (2, TableFaultKind::BadDevice, "line 2: BadDevice"),
-        (2, TableFaultKind::BadCounter, "line 2: BadCounter"),
-        (2, TableFaultKind::BadFlags, "line 2: BadFlags"),
-        (2, TableFaultKind::BadAddress, "line 2: BadAddress"),
-        (2, TableFaultKind::RepeatedIndex, "line 2: RepeatedIndex"),
-        (2, TableFaultKind::RepeatedDevice, "line 2: RepeatedDevice"),
-        (2, TableFaultKind::BadIif, "line 2: BadIif"),
-        (2, TableFaultKind::BadOif, "line 2: BadOif"),
-        (2, TableFaultKind::BadThreshold, "line 2: BadThreshold"),
-        (2, TableFaultKind::RepeatedOif, "line 2: RepeatedOif"),
-        (2, TableFaultKind::RepeatedEntry, "line 2: RepeatedEntry"),
-        (2, TableFaultKind::TooLarge, "line 2: TooLarge"),
-        (0, TableFaultKind::Memory, "line 0: Memory"),
-    ] {
-        let fault = TableFault { line, kind };
-        assert_eq!(rt; fault.to_string(rt.alloc())?.as_str(), text);
+    let mut texts = PRINTED.split(';');
+    for kind in KINDS {
+        let wanted = texts.next().ok_or("no text")?;
+        check_printed(&rt, rt.alloc(), TableFault { line: 2, kind }, wanted)?;
     }
+    let kind = TableFaultKind::Memory;
+    check_printed(
+        &rt,
+        rt.alloc(),
+        TableFault { line: 0, kind },
+        "line 0: Memory",
+    )?;
     Ok(())
 }
 

@@ -1,6 +1,7 @@
 //! Texts of `/proc/net/ip_mr_vif`.
 
 use mc_tables::{TableFault, TableFaultKind, VifTable};
+use std::alloc::Global;
 use std::process::Abort;
 use std::test::Fail;
 
@@ -59,13 +60,18 @@ fn reads_vifs(rt: HostRuntime) -> Result<(), Fail> {
     Ok(())
 }
 
-#[test]
-fn reads_vifs_without_devices(rt: HostRuntime) -> Result<(), Fail> {
-    let rows: [VifRow; 2] = [(0, b"none", false, false), (1, b"none", false, false)];
-    let table = VifTable::read(rt.alloc(), WITHOUT_DEVICES)?;
-    check_vifs(&rt, &table, &rows);
+/// What the table of vifs without a device answers.
+fn check_without_devices(rt: &impl Abort, table: &VifTable) {
+    assert!(rt; has_vif(table, &(0, b"none", false, false)));
+    assert!(rt; has_vif(table, &(1, b"none", false, false)));
     assert!(rt; table.vif(2).is_none());
     assert!(rt; table.index_of(b"none").is_none());
+}
+
+#[test]
+fn reads_vifs_without_devices(rt: HostRuntime) -> Result<(), Fail> {
+    let table = VifTable::read(rt.alloc(), WITHOUT_DEVICES)?;
+    check_without_devices(&rt, &table);
     Ok(())
 }
 
@@ -111,12 +117,16 @@ Interface      BytesIn  PktsIn  BytesOut PktsOut Flags Local    Remote\n\
 \x201 eth1              0       0         0       0 00000 020114AC 00000000\n\
 \x202 eth1              0       0         0       0 00008 00000003 00000000\n|line 4: RepeatedDevice";
 
+/// The fault of a text.
+fn fault_of(alloc: Global, text: &[u8]) -> Option<TableFault> {
+    VifTable::read(alloc, text).err()
+}
+
 #[test]
 fn refuses_vif_tables(rt: HostRuntime) -> Result<(), Fail> {
     for case in FAULTS.split(';') {
         let (text, wanted) = case.split_once('|').ok_or("no fault")?;
-        let read = VifTable::read(rt.alloc(), text.as_bytes());
-        let fault = read.err().ok_or("a table")?;
+        let fault = fault_of(rt.alloc(), text.as_bytes()).ok_or("a table")?;
         assert_eq!(rt; fault.to_string(rt.alloc())?.as_str(), wanted, "{text}");
     }
     Ok(())
@@ -126,14 +136,14 @@ fn refuses_vif_tables(rt: HostRuntime) -> Result<(), Fail> {
 fn refuses_a_vif_table_that_is_too_large(rt: HostRuntime) -> Result<(), Fail> {
     let long = vec![in rt.alloc(); b'\n'; 16_777_217]?;
     assert_eq!(rt;
-        VifTable::read(rt.alloc(), long.as_slice()).err(),
+        fault_of(rt.alloc(), &long),
         Some(TableFault {
             line: 0,
             kind: TableFaultKind::TooLarge
         })
     );
     assert_eq!(rt;
-        VifTable::read(rt.alloc(), &long[1..]).err(),
+        fault_of(rt.alloc(), &long[1..]),
         Some(TableFault {
             line: 1,
             kind: TableFaultKind::NoHeader

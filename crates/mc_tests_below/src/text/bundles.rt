@@ -1,6 +1,7 @@
 //! Bundles that are read.
 
 use mc_text::*;
+use std::alloc::Global;
 use std::process::Abort;
 use std::test::Fail;
 
@@ -64,12 +65,16 @@ mcaudit bundle 1\n\
 part aaaaaaaaaaaaaaaaaaaaaaaaaaaaaaaaaaaaaaaaaaaaaaaaaaaaaaaaaaaaaaaa 10000000000000000000000000\n\
 |BadPartLine";
 
+/// The fault of a text.
+fn fault_of(alloc: Global, text: &[u8]) -> Option<BundleFault> {
+    Bundle::read(alloc, text).err()
+}
+
 #[test]
 fn tells_the_first_fault(rt: HostRuntime) -> Result<(), Fail> {
     for case in FAULTS.split(';') {
         let (text, wanted) = case.split_once('|').ok_or("no fault")?;
-        let read = Bundle::read(rt.alloc(), text.as_bytes());
-        let fault = read.err().ok_or("a bundle")?;
+        let fault = fault_of(rt.alloc(), text.as_bytes()).ok_or("a bundle")?;
         assert_eq!(rt; fault.to_string(rt.alloc())?.as_str(), wanted, "{text}");
     }
     Ok(())

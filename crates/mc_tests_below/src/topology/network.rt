@@ -56,7 +56,7 @@ pub(super) fn changed(alloc: Global, from: &str, to: &str) -> Result<String, All
 }
 
 /// What is told of the topology of a text, which is lent.
-pub(crate) fn on_topology<R, F: Fn(&Topology) -> R + Drop>(
+pub(crate) fn on_topology<R, F: FnOnce(&Topology) -> R + Drop>(
     alloc: Global,
     text: &[u8],
     told: F,

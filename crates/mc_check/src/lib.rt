@@ -15,6 +15,3 @@ mod verdict;
 pub use check::{check_all, check_flow};
 pub use shown::{ShownReason, ShownVerdict};
 pub use verdict::{Reason, Verdict};
-
-#[cfg(test)]
-mod tests;

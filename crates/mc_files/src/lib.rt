@@ -20,6 +20,3 @@ pub use laws::{packed_files_are_read_back, packed_names_are_plain, packs_are_mad
 pub use map_files::MapFiles;
 pub use packing::pack;
 pub use source::FileSource;
-
-#[cfg(test)]
-mod tests;

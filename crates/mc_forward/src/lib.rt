@@ -33,6 +33,3 @@ pub use laws::{domains_are_nets, outgoing_vifs_ascend};
 pub use refused::{DomainFault, Refused};
 pub use row::RowFor;
 pub use tables::Tables;
-
-#[cfg(test)]
-mod tests;

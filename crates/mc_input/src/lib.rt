@@ -19,6 +19,3 @@ pub use input::{BundleInput, read_input};
 pub use laws::{
     files_stand_for_one_input, packed_files_stand_for_their_input, texts_stand_for_one_input,
 };
-
-#[cfg(test)]
-mod tests;

@@ -8,6 +8,3 @@ mod followed;
 mod served;
 
 pub use examination::{Examined, examine, make};
-
-#[cfg(test)]
-mod tests;

@@ -14,6 +14,3 @@ pub use finding::Finding;
 pub use picker::{First, Last, Numbers, Picker};
 pub use shown::{ShownEvent, ShownFinding, shown_event};
 pub use travel::{Ended, Travel, replay, replay_to_end};
-
-#[cfg(test)]
-mod tests;

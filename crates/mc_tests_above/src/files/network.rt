@@ -1,6 +1,6 @@
 //! The network of two routers and its bundle, with a certificate and without.
 
-use crate::*;
+use mc_files::*;
 use mc_text::ToWriter;
 use std::alloc::Global;
 use std::test::Fail;

@@ -1,7 +1,7 @@
 //! Other orders than the first waiting copy each time.
 
 use super::network::*;
-use crate::{First, Last, Numbers};
+use mc_replay::{First, Last, Numbers};
 use std::test::Fail;
 
 /// Each router forwards: r3 from l0 to l2, beside the chain of r1 and r2.

@@ -1,7 +1,7 @@
 //! Reasons and verdicts as they are written.
 
 use super::network::{CHAIN, topology_of};
-use crate::{Reason, Verdict};
+use mc_check::{Reason, Verdict};
 use mc_topology::{LanNo, RouterNo, Topology};
 use std::alloc::Global;
 use std::process::Abort;

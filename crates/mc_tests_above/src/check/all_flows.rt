@@ -4,8 +4,8 @@ ghost use Rattle.std.specs.Prelude.{IfOk};
 ghost use Rattle.mc_cert.specs.Certificate.{BelongsTo};
 
 use super::network::{FORWARDS, domain_over};
-use crate::check_all;
 use mc_cert::Certificate;
+use mc_check::check_all;
 use mc_forward::Domain;
 use mc_topology::Topology;
 use std::alloc::Global;

@@ -1,7 +1,7 @@
 //! Small domains made of texts, and the verdicts on lists of entries for their flow.
 
-use crate::check_flow;
 use mc_cert::Reached;
+use mc_check::check_flow;
 use mc_forward::{Domain, Tables};
 use mc_igmp::ReportList;
 use mc_tables::{CacheTable, VifTable};

@@ -1,7 +1,7 @@
 //! What packets meet, the first waiting copy being handled each time.
 
 use super::network::*;
-use crate::First;
+use mc_replay::First;
 use std::test::Fail;
 
 /// r1 from l0 to l1, r2 from l1 to l2.

@@ -1,7 +1,7 @@
 //! Files that aren't there, are too large or can't be read, and outputs that fail.
 
-use crate::tests::network::{FILES, NamedBytes, packed};
-use crate::*;
+use super::network::{FILES, NamedBytes, packed};
+use mc_files::*;
 use mc_text::{FaultyOutput, Stop};
 use mc_topology::{Section, TopologyFault, TopologyFaultKind};
 use std::test::Fail;

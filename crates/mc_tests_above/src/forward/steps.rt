@@ -1,7 +1,7 @@
 //! Handlings one after the other, the first waiting copy each time.
 
 use super::network::*;
-use crate::{Domain, DomainFault, Event, Outcome, Stray, Tables};
+use mc_forward::{Domain, DomainFault, Event, Outcome, Stray, Tables};
 use mc_igmp::ReportList;
 use mc_topology::{LanNo, RouterNo, Topology};
 use std::alloc::Global;

@@ -2,8 +2,8 @@
 
 mod files;
 
-use crate::*;
 use mc_igmp::{ListFault, ListFaultKind};
+use mc_input::*;
 use mc_tables::{TableFault, TableFaultKind};
 use mc_text::{BundleFault, PartName};
 use mc_topology::{Section, TopologyFault, TopologyFaultKind};

@@ -1,9 +1,9 @@
 //! The chain of two routers as a folder's files, and files that tell no domain.
 
-use crate::tests::{BAD_THRESHOLD, CACHE, NO_FLOW, TOPOLOGY, VIFS, WANTED};
-use crate::*;
+use super::{BAD_THRESHOLD, CACHE, NO_FLOW, TOPOLOGY, VIFS, WANTED};
 use mc_files::{FaultyFiles, FileSource, MapFiles};
 use mc_igmp::{ListFault, ListFaultKind};
+use mc_input::*;
 use mc_tables::{TableFault, TableFaultKind};
 use mc_text::PartName;
 use mc_topology::{Section, TopologyFault, TopologyFaultKind};

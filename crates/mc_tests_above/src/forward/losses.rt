@@ -1,7 +1,7 @@
 //! Losses, and orders of handling.
 
 use super::network::*;
-use crate::Domain;
+use mc_forward::Domain;
 use std::alloc::Global;
 use std::process::Abort;
 use std::test::Fail;

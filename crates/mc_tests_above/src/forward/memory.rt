@@ -4,7 +4,7 @@
 //! left.
 
 use super::network::*;
-use crate::{Carried, Domain, DomainFault, Event, Flight, Outcome, Refused, Stray, Tables};
+use mc_forward::{Carried, Domain, DomainFault, Event, Flight, Outcome, Refused, Stray, Tables};
 use mc_igmp::ReportList;
 use mc_topology::{LanNo, Topology};
 use std::alloc::{AllocError, Global};

@@ -1,8 +1,8 @@
 //! Flows that aren't right, and the travels that show it.
 
 use super::network::{BESIDE, CHAIN, NONE, Network, ON, domain_of};
-use crate::{Examined, examine, make};
 use mc_forward::Domain;
+use mc_maker::{Examined, examine, make};
 use mc_replay::{First, Travel, replay, shown_event};
 use mc_topology::Topology;
 use std::alloc::Global;

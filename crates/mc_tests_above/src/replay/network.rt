@@ -1,8 +1,8 @@
 //! Small networks, and the texts of travels through them.
 
-use crate::{Picker, Travel, replay, shown_event};
 use mc_forward::{Domain, DomainFault, Tables};
 use mc_igmp::ReportList;
+use mc_replay::{Picker, Travel, replay, shown_event};
 use mc_tables::{CacheTable, VifTable};
 use mc_text::Order;
 use mc_topology::Topology;

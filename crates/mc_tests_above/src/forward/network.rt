@@ -1,6 +1,6 @@
 //! Small networks, and what is asked of them.
 
-use crate::{Domain, DomainFault, Event, Flight, Tables};
+use mc_forward::{Domain, DomainFault, Event, Flight, Tables};
 use mc_igmp::ReportList;
 use mc_tables::{CacheTable, VifTable};
 use mc_text::Order;

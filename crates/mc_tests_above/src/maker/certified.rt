@@ -1,9 +1,9 @@
 //! Flows that are right, and the entries that certify them.
 
 use super::network::{ABOVE_254, BESIDE, CHAIN, NONE, Network, ON, domain_of};
-use crate::{Examined, examine, make};
 use mc_cert::Reached;
 use mc_forward::Domain;
+use mc_maker::{Examined, examine, make};
 use mc_topology::{LanNo, RouterNo};
 use std::alloc::{AllocError, Global};
 use std::process::Abort;

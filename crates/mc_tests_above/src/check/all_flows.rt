@@ -3,10 +3,10 @@
 ghost use Rattle.std.specs.Prelude.{IfOk};
 ghost use Rattle.mc_cert.specs.Certificate.{BelongsTo};
 
-use super::network::{FORWARDS, domain_over};
 use mc_cert::Certificate;
 use mc_check::check_all;
 use mc_forward::Domain;
+use mc_samples::{FORWARDS, WANTED, domain_of};
 use mc_topology::Topology;
 use std::alloc::Global;
 use std::test::Fail;
@@ -69,8 +69,7 @@ fn verdicts_on(alloc: Global, domain: &Domain, trees: [u8; 2]) -> Result<String,
 
 /// The verdicts on all flows of the topology, whose routers forward the first.
 fn verdicts_of(alloc: Global, trees: [u8; 2]) -> Result<String, Fail> {
-    let topology = Topology::read(alloc, TOPOLOGY.as_bytes())?;
-    let domain = domain_over(alloc, topology, &[FORWARDS, FORWARDS], &[2])?;
+    let domain = domain_of(alloc, TOPOLOGY, &[FORWARDS, FORWARDS], &["", "", WANTED])?;
     verdicts_on(alloc, &domain, trees)
 }
 

@@ -1,7 +1,6 @@
 //! Two branches from the source's LAN: the verdict, and each order of handling the copies.
 
-use super::network::{CHAIN, FORWARDS, Network, SECOND, SOURCE, THIRD, domain_of, verdict_of};
-use super::served::BRANCHES;
+use super::network::{domain_of, judges};
 use mc_forward::{Domain, Flight};
 use mc_topology::LanNo;
 use std::alloc::Global;
@@ -9,20 +8,15 @@ use std::process::Abort;
 use std::test::Fail;
 
 /// The chain and r3 from l0 to l3; l2 and l3 want the flow.
-const NETWORK: Network<'static> = Network {
-    topology: BRANCHES,
-    routers: &[FORWARDS, FORWARDS, FORWARDS],
-    wanting: &[2, 3],
-    ..CHAIN
-};
+const NETWORK: [&str; 4] = ["branches", "3", "> 1:1; > 1:1; > 1:1", "2 3"];
+
+/// Its entries and the verdict.
+const CASE: &str =
+    "branches | 3 | > 1:1; > 1:1; > 1:1 | 2 3 | source, second, third, 3/1/2/2/1 | yes copies 4\n";
 
 #[test]
 fn both_branches_are_certified(rt: HostRuntime) -> Result<(), Fail> {
-    let alloc = rt.alloc();
-    let entries = [SOURCE, SECOND, THIRD, (3, 1, 2, Some((2, 1)))];
-    let verdict = verdict_of(&rt, alloc, &NETWORK, &entries)?;
-    assert_eq!(rt; verdict.as_str(), "yes copies 4");
-    Ok(())
+    judges(&rt, rt.alloc(), CASE)
 }
 
 /// Handles the flight's copies by these picks.
@@ -62,7 +56,7 @@ fn carried_by(
     ttl: u8,
     picks: [usize; 3],
 ) -> Result<[u32; 4], Fail> {
-    let domain = domain_of(alloc, &NETWORK)?;
+    let domain = domain_of(alloc, NETWORK)?;
     carried_on(rt, alloc, &domain, ttl, picks)
 }
 

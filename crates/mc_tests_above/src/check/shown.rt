@@ -1,6 +1,6 @@
 //! Reasons and verdicts as they are written.
 
-use super::network::{CHAIN, topology_of};
+use super::topologies::topology_of;
 use mc_check::{Reason, Verdict};
 use mc_topology::{LanNo, RouterNo, Topology};
 use std::alloc::Global;
@@ -44,7 +44,7 @@ fn shows_reasons(rt: &impl Abort, alloc: Global, topology: &Topology) -> Result<
 
 #[test]
 fn reasons(rt: HostRuntime) -> Result<(), Fail> {
-    let topology = topology_of(rt.alloc(), &CHAIN)?;
+    let topology = topology_of(rt.alloc(), "chain", "3")?;
     shows_reasons(&rt, rt.alloc(), &topology)
 }
 
@@ -67,6 +67,6 @@ fn shows_verdicts(rt: &impl Abort, alloc: Global, topology: &Topology) -> Result
 
 #[test]
 fn verdicts(rt: HostRuntime) -> Result<(), Fail> {
-    let topology = topology_of(rt.alloc(), &CHAIN)?;
+    let topology = topology_of(rt.alloc(), "chain", "3")?;
     shows_verdicts(&rt, rt.alloc(), &topology)
 }

@@ -1,7 +1,7 @@
 //! Domains of the texts of real Linux kernels, and of the reports that hosts sent.
 
-use super::network::*;
 use mc_forward::{Domain, RowFor};
+use mc_samples::{WANTED, domain_of};
 use mc_topology::{LanNo, RouterNo};
 use std::alloc::Global;
 use std::process::Abort;

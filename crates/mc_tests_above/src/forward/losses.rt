@@ -2,6 +2,7 @@
 
 use super::network::*;
 use mc_forward::Domain;
+use mc_samples::{CHAIN, FORWARDS, WANTED, domain_of};
 use std::alloc::Global;
 use std::process::Abort;
 use std::test::Fail;

@@ -6,6 +6,7 @@
 use super::network::*;
 use mc_forward::{Carried, Domain, DomainFault, Event, Flight, Outcome, Refused, Stray, Tables};
 use mc_igmp::ReportList;
+use mc_samples::{VIFS, WANTED, assembled, parts_of};
 use mc_topology::{LanNo, Topology};
 use std::alloc::{AllocError, Global};
 use std::process::Abort;
@@ -88,9 +89,8 @@ fn domain_at_last(
     routers: &[(&str, &str)],
     lans: &[&str],
 ) -> Result<Domain, Fail> {
-    let tables = tables_of_all(alloc, routers)?;
-    let reports = reports_of_all(alloc, lans)?;
     let topology = Topology::read(alloc, topology.as_bytes())?;
+    let (tables, reports) = parts_of(alloc, &topology, routers, lans)?;
     Ok(assembled_at_last(rt, alloc, topology, tables, reports)?)
 }
 

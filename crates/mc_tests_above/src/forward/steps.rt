@@ -3,6 +3,7 @@
 use super::network::*;
 use mc_forward::{Domain, DomainFault, Event, Outcome, Stray, Tables};
 use mc_igmp::ReportList;
+use mc_samples::{CHAIN, FORWARDS, VIFS, WANTED, domain_of, parts_of};
 use mc_topology::{LanNo, RouterNo, Topology};
 use std::alloc::Global;
 use std::process::Abort;
@@ -161,9 +162,8 @@ fn refusal_of(
 #[test]
 fn one_router_too_few(rt: HostRuntime) -> Result<(), Fail> {
     let alloc = rt.alloc();
-    let tables = tables_of_all(alloc, &[FORWARDS])?;
-    let reports = reports_of_all(alloc, &["", "", WANTED])?;
     let topology = Topology::read(alloc, CHAIN.as_bytes())?;
+    let (tables, reports) = parts_of(alloc, &topology, &[FORWARDS], &["", "", WANTED])?;
     let refusal = refusal_of(alloc, topology, tables, reports);
     assert!(rt; refusal == Some((DomainFault::Count, 2, 1, 3)));
     Ok(())

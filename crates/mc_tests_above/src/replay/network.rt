@@ -1,33 +1,13 @@
 //! Small networks, and the texts of travels through them.
 
-use mc_forward::{Domain, DomainFault, Tables};
-use mc_igmp::ReportList;
+use mc_forward::Domain;
 use mc_replay::{Picker, Travel, replay, shown_event};
-use mc_tables::{CacheTable, VifTable};
-use mc_text::Order;
+use mc_samples::{WANTED, domain_over, topology_of_two_flows};
 use mc_topology::Topology;
 use std::alloc::Global;
 use std::fmt::Write;
 use std::process::Abort;
 use std::test::Fail;
-
-const ROUTERS: &str = r#"version = 1
-lans = ["l0", "l1", "l2"]
-router = [{name = "r1"}, {name = "r2"}, {name = "r3"}]
-interface = [
-{router = "r1", device = "eth0", lan = "l0"},
-{router = "r1", device = "eth1", lan = "l1"},
-{router = "r2", device = "eth0", lan = "l1"},
-{router = "r2", device = "eth1", lan = "l2"},
-"#;
-
-const FLOWS: &str = r#"]
-source = [{address = "10.0.0.5", lan = "l0"}]
-flow = [
-{source = "10.0.0.5", group = "239.1.2.3", ttl = 3},
-{source = "10.0.0.5", group = "239.1.2.4", ttl = 3},
-]
-"#;
 
 /// A router's vifs: 0 is eth0, 1 is eth1, 2 is eth2.
 pub(super) const VIFS: &str = "Interface BytesIn PktsIn BytesOut PktsOut Flags Local Remote
@@ -49,64 +29,13 @@ pub(super) const ON: &str = "030201EF 0500000A 0 0 0 0 1:1\n";
 /// No row.
 pub(super) const NONE: &str = "";
 
-/// A report that wants all sources of 239.1.2.3.
-const WANTED: &str = "2200eaf90000000102000000ef010203\n";
-
 /// A network: its third router's interfaces, and each router's vifs and row. r1 is on l0 and l1, r2
 /// on l1 and l2, and l2 wants the first flow.
 pub(super) type Network<'a> = (&'a str, [(&'a str, &'a str); 3]);
 
-fn topology_of(alloc: Global, third: &str) -> Result<Topology, Fail> {
-    let text = format!(in alloc; "{ROUTERS}{third}{FLOWS}")?;
-    Ok(Topology::read(alloc, text.as_bytes())?)
-}
-
-fn cache_of(alloc: Global, row: &str) -> Result<CacheTable, Fail> {
-    let text = format!(in alloc; "Group Origin Iif Pkts Bytes Wrong Oifs\n{row}")?;
-    Ok(CacheTable::read(alloc, text.as_bytes(), Order::Little)?)
-}
-
-/// The tables of a router with these vifs and this row.
-fn tables_of(alloc: Global, vifs: &str, row: &str) -> Result<Tables, Fail> {
-    let vifs = VifTable::read(alloc, vifs.as_bytes())?;
-    let cache = cache_of(alloc, row)?;
-    Ok(Tables { vifs, cache })
-}
-
-fn all_tables(alloc: Global, routers: &[(&str, &str)]) -> Result<Vec<Tables>, Fail> {
-    let mut tables = Vec::new(alloc);
-    for (vifs, row) in routers {
-        tables.push(tables_of(alloc, vifs, row)?)?;
-    }
-    Ok(tables)
-}
-
-fn all_reports(alloc: Global) -> Result<Vec<ReportList>, Fail> {
-    let mut reports = Vec::new(alloc);
-    for text in ["", "", WANTED] {
-        reports.push(ReportList::read(alloc, text.as_bytes())?)?;
-    }
-    Ok(reports)
-}
-
-/// The domain of these parts.
-fn assembled(
-    alloc: Global,
-    topology: Topology,
-    tables: Vec<Tables>,
-    reports: Vec<ReportList>,
-) -> Result<Domain, DomainFault> {
-    match Domain::assemble(alloc, topology, tables, reports) {
-        Ok(domain) => Ok(domain),
-        Err(refused) => Err(refused.fault),
-    }
-}
-
 fn domain_of(alloc: Global, network: &Network<'_>) -> Result<Domain, Fail> {
-    let tables = all_tables(alloc, &network.1)?;
-    let reports = all_reports(alloc)?;
-    let topology = topology_of(alloc, network.0)?;
-    Ok(assembled(alloc, topology, tables, reports)?)
+    let topology = topology_of_two_flows(alloc, network.0, 3)?;
+    domain_over(alloc, topology, &network.1, &["", "", WANTED])
 }
 
 /// The events of a travel, a line each, and what it finds.

@@ -3,10 +3,10 @@
 #![tactic(auto)]
 
 mod domain;
+mod flows;
 mod tables;
 mod texts;
-mod two_flows;
 
-pub use domain::{assembled, domain_of, domain_over, parts_of};
+pub use domain::{Parts, assembled, domain_of, parts_of};
+pub use flows::{BESIDE, two_flows};
 pub use texts::{CACHE, CACHE_HEADER, CERTIFICATE, CHAIN, FORWARDS, ROW, VIFS, WANTED};
-pub use two_flows::{BESIDE, topology_of_two_flows};

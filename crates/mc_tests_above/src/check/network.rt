@@ -6,7 +6,7 @@ use mc_cert::Reached;
 use mc_check::check_flow;
 use mc_forward::{Domain, Tables};
 use mc_igmp::ReportList;
-use mc_samples::{WANTED, assembled};
+use mc_samples::{Parts, WANTED, assembled};
 use mc_tables::{CacheTable, VifTable};
 use mc_text::Order;
 use mc_topology::{LanNo, RouterNo, Topology};
@@ -56,29 +56,30 @@ fn parts_of(
     topology: &Topology,
     routers: &str,
     wanting: &str,
-) -> Result<(Vec<Tables>, Vec<ReportList>), Fail> {
+) -> Result<Parts, Fail> {
     let tables = tables_of_routers(alloc, topology, routers)?;
     let reports = reports_of(alloc, topology.lans(), wanting)?;
     Ok((tables, reports))
 }
 
-/// The domain of a topology, its routers and the LANs whose hosts want 239.1.2.3.
-fn domain_over(
-    alloc: Global,
-    topology: Topology,
-    routers: &str,
-    wanting: &str,
-) -> Result<Domain, Fail> {
-    let (tables, reports) = parts_of(alloc, &topology, routers, wanting)?;
-    Ok(assembled(alloc, topology, tables, reports)?)
+/// The parts of a domain beside its topology.
+fn parts_in(alloc: Global, network: [&str; 4]) -> Result<Parts, Fail> {
+    let [name, ttl, routers, wanting] = network;
+    let topology = topology_of(alloc, name, ttl)?;
+    parts_of(alloc, &topology, routers, wanting)
+}
+
+/// The domain of a topology by its name, the TTL of its flow, and these parts.
+fn domain_over(alloc: Global, name: &str, ttl: &str, parts: Parts) -> Result<Domain, Fail> {
+    let topology = topology_of(alloc, name, ttl)?;
+    assembled(alloc, topology, parts)
 }
 
 /// The domain of a topology by its name, the TTL of its flow, its routers, and the LANs whose hosts
 /// want the flow.
 pub(super) fn domain_of(alloc: Global, network: [&str; 4]) -> Result<Domain, Fail> {
-    let [name, ttl, routers, wanting] = network;
-    let topology = topology_of(alloc, name, ttl)?;
-    domain_over(alloc, topology, routers, wanting)
+    let parts = parts_in(alloc, network)?;
+    domain_over(alloc, network[0], network[1], parts)
 }
 
 /// The router and the vif of these words, which `/` parts.

@@ -4,9 +4,8 @@
 //! left.
 
 use super::network::*;
-use mc_forward::{Carried, Domain, DomainFault, Event, Flight, Outcome, Refused, Stray, Tables};
-use mc_igmp::ReportList;
-use mc_samples::{VIFS, WANTED, assembled, parts_of};
+use mc_forward::{Carried, Domain, DomainFault, Event, Flight, Outcome, Refused, Stray};
+use mc_samples::{Parts, VIFS, WANTED, assembled, parts_of};
 use mc_topology::{LanNo, Topology};
 use std::alloc::{AllocError, Global};
 use std::process::Abort;
@@ -58,13 +57,9 @@ const OTHER: (&str, &str) = (
 );
 
 /// The domain of the parts that a refusal handed back.
-fn assembled_again(
-    rt: &impl Abort,
-    alloc: Global,
-    refused: Refused,
-) -> Result<Domain, DomainFault> {
+fn assembled_again(rt: &impl Abort, alloc: Global, refused: Refused) -> Result<Domain, Fail> {
     assert_eq!(rt; refused.fault, DomainFault::Memory);
-    assembled(alloc, refused.topology, refused.tables, refused.reports)
+    assembled(alloc, refused.topology, (refused.tables, refused.reports))
 }
 
 /// The domain of these parts, where need be of those that the first refusal handed back.
@@ -72,13 +67,23 @@ fn assembled_at_last(
     rt: &impl Abort,
     alloc: Global,
     topology: Topology,
-    tables: Vec<Tables>,
-    reports: Vec<ReportList>,
-) -> Result<Domain, DomainFault> {
-    match Domain::assemble(alloc, topology, tables, reports) {
+    parts: Parts,
+) -> Result<Domain, Fail> {
+    match Domain::assemble(alloc, topology, parts.0, parts.1) {
         Ok(domain) => Ok(domain),
         Err(refused) => assembled_again(rt, alloc, refused),
     }
+}
+
+/// The domain of a topology's text and these parts, at the second try where the first is refused.
+fn assembled_over(
+    rt: &impl Abort,
+    alloc: Global,
+    topology: &str,
+    parts: Parts,
+) -> Result<Domain, Fail> {
+    let topology = Topology::read(alloc, topology.as_bytes())?;
+    assembled_at_last(rt, alloc, topology, parts)
 }
 
 /// The domain of these texts, at the second try where the first is refused.
@@ -89,9 +94,8 @@ fn domain_at_last(
     routers: &[(&str, &str)],
     lans: &[&str],
 ) -> Result<Domain, Fail> {
-    let topology = Topology::read(alloc, topology.as_bytes())?;
-    let (tables, reports) = parts_of(alloc, &topology, routers, lans)?;
-    Ok(assembled_at_last(rt, alloc, topology, tables, reports)?)
+    let parts = parts_of(alloc, routers, lans)?;
+    assembled_over(rt, alloc, topology, parts)
 }
 
 /// The wide domain, of which l1 wants the flow.

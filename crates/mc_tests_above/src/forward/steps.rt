@@ -162,8 +162,8 @@ fn refusal_of(
 #[test]
 fn one_router_too_few(rt: HostRuntime) -> Result<(), Fail> {
     let alloc = rt.alloc();
+    let (tables, reports) = parts_of(alloc, &[FORWARDS], &["", "", WANTED])?;
     let topology = Topology::read(alloc, CHAIN.as_bytes())?;
-    let (tables, reports) = parts_of(alloc, &topology, &[FORWARDS], &["", "", WANTED])?;
     let refusal = refusal_of(alloc, topology, tables, reports);
     assert!(rt; refusal == Some((DomainFault::Count, 2, 1, 3)));
     Ok(())

@@ -1,7 +1,7 @@
 //! Small networks of two flows.
 
 use mc_forward::Domain;
-use mc_samples::{ROW, VIFS, WANTED, domain_over, topology_of_two_flows};
+use mc_samples::{VIFS, WANTED, two_flows};
 use std::alloc::Global;
 use std::test::Fail;
 
@@ -44,7 +44,7 @@ pub(super) const BESIDE: Network<'static> = Network {
 
 /// The domain of a network.
 pub(super) fn domain_of(alloc: Global, network: &Network<'_>) -> Result<Domain, Fail> {
-    let topology = topology_of_two_flows(alloc, network.third, network.ttl)?;
+    let topology = two_flows(alloc, network.third, network.ttl)?;
     let routers = network.rows.map(|rows| (VIFS, rows));
-    domain_over(alloc, topology, &routers, &["", "", network.wanted])
+    mc_samples::domain_of(alloc, &topology, &routers, &["", "", network.wanted])
 }

@@ -2,7 +2,7 @@
 
 use mc_forward::Domain;
 use mc_replay::{Picker, Travel, replay, shown_event};
-use mc_samples::{WANTED, domain_over, topology_of_two_flows};
+use mc_samples::{WANTED, domain_of, two_flows};
 use mc_topology::Topology;
 use std::alloc::Global;
 use std::fmt::Write;
@@ -33,9 +33,9 @@ pub(super) const NONE: &str = "";
 /// on l1 and l2, and l2 wants the first flow.
 pub(super) type Network<'a> = (&'a str, [(&'a str, &'a str); 3]);
 
-fn domain_of(alloc: Global, network: &Network<'_>) -> Result<Domain, Fail> {
-    let topology = topology_of_two_flows(alloc, network.0, 3)?;
-    domain_over(alloc, topology, &network.1, &["", "", WANTED])
+fn domain_in(alloc: Global, network: &Network<'_>) -> Result<Domain, Fail> {
+    let topology = two_flows(alloc, network.0, 3)?;
+    domain_of(alloc, &topology, &network.1, &["", "", WANTED])
 }
 
 /// The events of a travel, a line each, and what it finds.
@@ -86,6 +86,6 @@ pub(super) fn travels<P: Picker>(
     picker: &mut P,
     travel: &str,
 ) -> Result<(), Fail> {
-    let domain = domain_of(alloc, network)?;
+    let domain = domain_in(alloc, network)?;
     check_travel(rt, alloc, &domain, packet, picker, travel)
 }

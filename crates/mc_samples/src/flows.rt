@@ -1,8 +1,6 @@
-//! Topologies of three routers and two flows.
+//! The texts of topologies of three routers and two flows.
 
-use mc_topology::Topology;
-use std::alloc::Global;
-use std::test::Fail;
+use std::alloc::{AllocError, Global};
 
 /// LANs l0 to l2, r1 from l0 to l1, and r2 from l1 to l2.
 const ROUTERS: &str = r#"version = 1
@@ -20,13 +18,12 @@ pub const BESIDE: &str = r#"{router = "r3", device = "eth0", lan = "l0"},
 {router = "r3", device = "eth1", lan = "l2"},
 "#;
 
-/// The topology whose third router has these interfaces, with two flows from l0, to 239.1.2.3 and
+/// The text of the topology whose third router has these interfaces, with two flows from l0, to 239.1.2.3 and
 /// to 239.1.2.4. The least TTL of the first one's packets is this, that of the second's is 3.
-pub fn topology_of_two_flows(alloc: Global, third: &str, ttl: u8) -> Result<Topology, Fail> {
-    let text = format!(in alloc;
+pub fn two_flows(alloc: Global, third: &str, ttl: u8) -> Result<String, AllocError> {
+    format!(in alloc;
         "{ROUTERS}{third}]\nsource = [{{address = \"10.0.0.5\", lan = \"l0\"}}]\nflow = [\
          {{source = \"10.0.0.5\", group = \"239.1.2.3\", ttl = {ttl}}},\
          {{source = \"10.0.0.5\", group = \"239.1.2.4\", ttl = 3}}]\n"
-    )?;
-    Ok(Topology::read(alloc, text.as_bytes())?)
+    )
 }

@@ -22,6 +22,3 @@ pub use make::run_make;
 pub use pack::run_pack;
 pub use replay::run_replay;
 pub use wants::run_wants;
-
-#[cfg(test)]
-mod tests;

@@ -4,68 +4,41 @@ mod files;
 
 use mc_igmp::{ListFault, ListFaultKind};
 use mc_input::*;
+use mc_samples::{CACHE, CHAIN, NamedText, VIFS, WANTED, chain_parts};
 use mc_tables::{TableFault, TableFaultKind};
 use mc_text::{BundleFault, PartName};
 use mc_topology::{Section, TopologyFault, TopologyFaultKind};
-use std::alloc::Global;
+use std::alloc::{AllocError, Global};
 use std::process::Abort;
 use std::test::Fail;
 
-pub(crate) const TOPOLOGY: &str = "version = 1\n\
-lans = [\"l0\", \"l1\", \"l2\"]\n\
-router = [{name = \"r1\"}, {name = \"r2\"}]\n\
-interface = [\n\
-{router = \"r1\", device = \"eth0\", lan = \"l0\"},\n\
-{router = \"r1\", device = \"eth1\", lan = \"l1\"},\n\
-{router = \"r2\", device = \"eth0\", lan = \"l1\"},\n\
-{router = \"r2\", device = \"eth1\", lan = \"l2\"},\n\
-]\n\
-source = [{address = \"10.0.0.5\", lan = \"l0\"}]\n\
-flow = [{source = \"10.0.0.5\", group = \"239.1.2.3\", ttl = 3}]\n";
-
 pub(crate) const NO_FLOW: &str = "version = 1\nlans = [\"l0\"]\nflow = []\n";
-
-pub(crate) const VIFS: &str = "Interface BytesIn PktsIn BytesOut PktsOut Flags Local Remote\n\
-0 eth0 0 0 0 0 00000 00000000 00000000\n\
-1 eth1 0 0 0 0 00000 00000000 00000000\n";
-
-pub(crate) const CACHE: &str =
-    "Group Origin Iif Pkts Bytes Wrong Oifs\n030201EF 0500000A 0 0 0 0 1:1\n";
 
 const UNENDED: &str = "Group Origin Iif Pkts Bytes Wrong Oifs\n030201EF 0500000A 0 0 0 0 1:1";
 
 pub(crate) const BAD_THRESHOLD: &str =
     "Group Origin Iif Pkts Bytes Wrong Oifs\n030201EF 0500000A 0 0 0 0 1:255\n";
 
-pub(crate) const WANTED: &str = "2200eaf90000000102000000ef010203\n";
-
 const CERTIFICATE: &str = "a certificate's text";
 
-type TextPart = (&'static str, &'static str);
-
-const PARTS: [TextPart; 9] = [
-    ("topology", TOPOLOGY),
-    ("vif/r1", VIFS),
-    ("cache/r1", CACHE),
-    ("vif/r2", VIFS),
-    ("cache/r2", CACHE),
-    ("igmp/l0", ""),
-    ("igmp/l1", ""),
-    ("igmp/l2", WANTED),
-    ("certificate", CERTIFICATE),
-];
+// The parts, the certificate last.
+fn parts(alloc: Global) -> Result<Vec<NamedText>, AllocError> {
+    let mut parts = chain_parts(alloc)?;
+    parts.push(("certificate", CERTIFICATE))?;
+    Ok(parts)
+}
 
 // The parts with one of them another one.
-fn with_part(place: usize, part: TextPart) -> [TextPart; 9] {
-    let mut parts = PARTS;
+fn with_part(alloc: Global, place: usize, part: NamedText) -> Result<Vec<NamedText>, AllocError> {
+    let mut parts = parts(alloc)?;
     if let Some(changed) = parts.get_mut(place) {
         *changed = part;
     }
-    parts
+    Ok(parts)
 }
 
 // The text of a bundle of the parts.
-fn bundle_of(alloc: Global, parts: &[TextPart]) -> Result<String, Fail> {
+fn bundle_of(alloc: Global, parts: &[NamedText]) -> Result<String, Fail> {
     let mut text = String::new(alloc);
     text.push_str("mcaudit bundle 1\n")?;
     for (name, content) in parts {
@@ -87,7 +60,7 @@ fn check_chain(rt: &impl Abort, input: &BundleInput<'_>, certificate: Option<&[u
 fn check_told(
     rt: &impl Abort,
     alloc: Global,
-    parts: &[TextPart],
+    parts: &[NamedText],
     certificate: Option<&[u8]>,
 ) -> Result<(), Fail> {
     let text = bundle_of(alloc, parts)?;
@@ -98,16 +71,17 @@ fn check_told(
 
 #[test]
 fn chain_is_told(rt: HostRuntime) -> Result<(), Fail> {
-    check_told(&rt, rt.alloc(), &PARTS, Some(CERTIFICATE.as_bytes()))?;
-    check_told(&rt, rt.alloc(), &PARTS[..8], None)?;
-    Ok(())
+    let whole = parts(rt.alloc())?;
+    check_told(&rt, rt.alloc(), &whole, Some(CERTIFICATE.as_bytes()))?;
+    let uncertified = chain_parts(rt.alloc())?;
+    check_told(&rt, rt.alloc(), &uncertified, None)
 }
 
 // A bundle of the parts is refused for this.
 fn check_refused(
     rt: &impl Abort,
     alloc: Global,
-    parts: &[TextPart],
+    parts: &[NamedText],
     certified: bool,
     wanted: Option<InputFault>,
 ) -> Result<(), Fail> {
@@ -122,34 +96,38 @@ fn check_part(
     rt: &impl Abort,
     alloc: Global,
     place: usize,
-    part: TextPart,
+    part: NamedText,
     wanted: Option<InputFault>,
 ) -> Result<(), Fail> {
-    check_refused(rt, alloc, &with_part(place, part), true, wanted)
+    let parts = with_part(alloc, place, part)?;
+    check_refused(rt, alloc, &parts, true, wanted)
+}
+
+// So is the chain's with the part at this place another one, for its name.
+fn check_name(rt: &impl Abort, alloc: Global, place: u32, part: NamedText) -> Result<(), Fail> {
+    let wanted = Some(InputFault::Parts(place.saturating_add(1)));
+    check_part(rt, alloc, place as usize, part, wanted)
 }
 
 #[test]
 fn other_names_are_refused_by_place(rt: HostRuntime) -> Result<(), Fail> {
-    for (place, part) in [
-        (0usize, ("topologies", TOPOLOGY)),
-        (1, ("vif/r2", VIFS)),
-        (2, ("cache/r10", CACHE)),
-        (4, ("vif/r2", CACHE)),
-        (5, ("igmp/l", "")),
-        (7, ("igmp/l20", WANTED)),
-        (8, ("certificates", CERTIFICATE)),
-    ] {
-        let wanted = Some(InputFault::Parts(place as u32 + 1));
-        check_part(&rt, rt.alloc(), place, part, wanted)?;
-    }
-    Ok(())
+    let alloc = rt.alloc();
+    check_name(&rt, alloc, 0, ("topologies", CHAIN))?;
+    check_name(&rt, alloc, 1, ("vif/r2", VIFS))?;
+    check_name(&rt, alloc, 2, ("cache/r10", CACHE))?;
+    check_name(&rt, alloc, 4, ("vif/r2", CACHE))?;
+    check_name(&rt, alloc, 5, ("igmp/l", ""))?;
+    check_name(&rt, alloc, 7, ("igmp/l20", WANTED))?;
+    check_name(&rt, alloc, 8, ("certificates", CERTIFICATE))
 }
 
 #[test]
 fn other_counts_are_refused_by_place(rt: HostRuntime) -> Result<(), Fail> {
+    let parts = parts(rt.alloc())?;
     for (count, certified, place) in [(0usize, true, 1u32), (8, true, 9), (9, false, 9)] {
         let wanted = Some(InputFault::Parts(place));
-        check_refused(&rt, rt.alloc(), &PARTS[..count], certified, wanted)?;
+        let front = parts.get(..count).unwrap_or_default();
+        check_refused(&rt, rt.alloc(), front, certified, wanted)?;
     }
     Ok(())
 }
@@ -198,11 +176,23 @@ fn reports_are_refused_by_part(rt: HostRuntime) -> Result<(), Fail> {
     check_part(&rt, rt.alloc(), 6, ("igmp/l1", "zz\n"), wanted)
 }
 
+// The parts with one of them another one, and with another name for the list of l2.
+fn with_last_list(
+    alloc: Global,
+    place: usize,
+    part: NamedText,
+) -> Result<Vec<NamedText>, AllocError> {
+    let mut parts = with_part(alloc, place, part)?;
+    if let Some(changed) = parts.get_mut(7) {
+        *changed = ("igmp/l9", WANTED);
+    }
+    Ok(parts)
+}
+
 // Two parts of the chain other ones: their names come before what they hold.
 #[test]
 fn names_come_before_contents(rt: HostRuntime) -> Result<(), Fail> {
-    let mut parts = with_part(2, ("cache/r1", UNENDED));
-    parts[7] = ("igmp/l9", WANTED);
+    let parts = with_last_list(rt.alloc(), 2, ("cache/r1", UNENDED))?;
     let wanted = Some(InputFault::Parts(8));
     check_refused(&rt, rt.alloc(), &parts, true, wanted)
 }
@@ -210,8 +200,7 @@ fn names_come_before_contents(rt: HostRuntime) -> Result<(), Fail> {
 // The topology's contents come before the names that follow from it.
 #[test]
 fn topology_comes_before_names(rt: HostRuntime) -> Result<(), Fail> {
-    let mut parts = with_part(0, ("topology", ""));
-    parts[7] = ("igmp/l9", WANTED);
+    let parts = with_last_list(rt.alloc(), 0, ("topology", ""))?;
     let text = bundle_of(rt.alloc(), &parts)?;
     let fault = read_input(rt.alloc(), text.as_bytes(), true).err();
     assert!(rt; matches!(fault, Some(InputFault::Topology(_))));
@@ -220,7 +209,8 @@ fn topology_comes_before_names(rt: HostRuntime) -> Result<(), Fail> {
 
 #[test]
 fn framing_comes_before_all(rt: HostRuntime) -> Result<(), Fail> {
-    let text = bundle_of(rt.alloc(), &with_part(0, ("topology", "")))?;
+    let parts = with_part(rt.alloc(), 0, ("topology", ""))?;
+    let text = bundle_of(rt.alloc(), &parts)?;
     let cut = text.as_bytes().strip_suffix(b"end\n").unwrap_or(b"");
     let fault = read_input(rt.alloc(), cut, true).err();
     assert!(rt; fault == Some(InputFault::Bundle(BundleFault::NoEnd)));

@@ -13,3 +13,7 @@ mod input;
 mod maker;
 #[cfg(test)]
 mod replay;
+#[cfg(test)]
+mod run;
+#[cfg(test)]
+mod words;

@@ -9,6 +9,3 @@ mod words;
 pub use fault::WordsFault;
 pub use task::{Task, command_of};
 pub use words::{borrowed, words_of};
-
-#[cfg(test)]
-mod tests;

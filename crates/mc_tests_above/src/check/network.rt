@@ -82,17 +82,27 @@ pub(super) fn domain_of(alloc: Global, network: [&str; 4]) -> Result<Domain, Fai
     domain_over(alloc, network[0], network[1], parts)
 }
 
+/// The number of a word: a LAN's or a router's.
+fn number_of(word: &str) -> Result<u32, Fail> {
+    Ok(word.parse()?)
+}
+
+/// The number of a word: a rank, a need or a vif.
+fn byte_of(word: &str) -> Result<u8, Fail> {
+    Ok(word.parse()?)
+}
+
 /// The router and the vif of these words, which `/` parts.
 fn forwarder_of(words: &str) -> Result<(RouterNo, u8), Fail> {
     let (router, vif) = words.split_once('/').ok_or("no vif")?;
-    Ok((RouterNo(router.parse()?), vif.parse()?))
+    Ok((RouterNo(number_of(router)?), byte_of(vif)?))
 }
 
 /// The need of an entry and, where there is one, its forwarder.
 fn need_of(words: &str) -> Result<(u8, Option<(RouterNo, u8)>), Fail> {
     match words.split_once('/') {
-        None => Ok((words.parse()?, None)),
-        Some((need, words)) => Ok((need.parse()?, Some(forwarder_of(words)?))),
+        None => Ok((byte_of(words)?, None)),
+        Some((need, words)) => Ok((byte_of(need)?, Some(forwarder_of(words)?))),
     }
 }
 
@@ -102,8 +112,8 @@ fn entry_of(words: &str) -> Result<Reached, Fail> {
     let (rank, words) = words.split_once('/').ok_or("no need")?;
     let (need, forwarder) = need_of(words)?;
     Ok(Reached {
-        lan: LanNo(lan.parse()?),
-        rank: rank.parse()?,
+        lan: LanNo(number_of(lan)?),
+        rank: byte_of(rank)?,
         need,
         forwarder,
     })
@@ -167,25 +177,27 @@ fn verdict_of(
     verdict_in(rt, alloc, &domain, entries)
 }
 
-/// The next word of a case.
-fn next_of<'a>(words: &mut impl Iterator<Item = &'a str>) -> Result<&'a str, Fail> {
-    let word = words.next().ok_or("too few words in a case")?;
-    Ok(word.trim())
+/// The first word of what is left of a case, and what is left behind it.
+fn cut(words: &str) -> Result<(&str, &str), Fail> {
+    let (word, rest) = words.split_once('|').ok_or("too few words in a case")?;
+    Ok((word.trim(), rest))
+}
+
+/// The domain, and what is left of a case.
+fn network_of(case: &str) -> Result<([&str; 4], &str), Fail> {
+    let (name, rest) = cut(case)?;
+    let (ttl, rest) = cut(rest)?;
+    let (routers, rest) = cut(rest)?;
+    let (wanting, rest) = cut(rest)?;
+    Ok(([name, ttl, routers, wanting], rest))
 }
 
 /// The case has its verdict.
 fn judges_case(rt: &impl Abort, alloc: Global, case: &str) -> Result<(), Fail> {
-    let mut words = case.split('|');
-    let network = [
-        next_of(&mut words)?,
-        next_of(&mut words)?,
-        next_of(&mut words)?,
-        next_of(&mut words)?,
-    ];
-    let entries = next_of(&mut words)?;
-    let wanted = next_of(&mut words)?;
+    let (network, rest) = network_of(case)?;
+    let (entries, wanted) = cut(rest)?;
     let verdict = verdict_of(rt, alloc, network, entries)?;
-    assert_eq!(rt; verdict.as_str(), wanted, "at {case}");
+    assert_eq!(rt; verdict.as_str(), wanted.trim(), "at {case}");
     Ok(())
 }
 

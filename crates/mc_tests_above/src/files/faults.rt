@@ -1,62 +1,83 @@
 //! Files that aren't there, are too large or can't be read, and outputs that fail.
 
-use super::network::{FILES, NamedBytes, packed};
+use super::network::{files_of_network, packed};
 use mc_files::*;
+use mc_samples::NamedBytes;
 use mc_text::{FaultyOutput, Stop};
 use mc_topology::{Section, TopologyFault, TopologyFaultKind};
+use std::alloc::{AllocError, Global};
+use std::process::Abort;
 use std::test::Fail;
 
-// The files with one of them another one.
-fn with_file(place: usize, file: NamedBytes) -> [NamedBytes; 9] {
-    let mut files = FILES;
+/// What comes of packing the files with one of them another one.
+fn packed_with(
+    alloc: Global,
+    place: usize,
+    file: NamedBytes,
+    certified: bool,
+) -> Result<Option<PackFault>, AllocError> {
+    let mut files = files_of_network(alloc)?;
     if let Some(changed) = files.get_mut(place) {
         *changed = file;
     }
-    files
+    Ok(packed(alloc, &files, certified).err())
 }
 
 #[test]
-fn no_file_may_be_missing(rt: HostRuntime) {
+fn no_file_may_be_missing(rt: HostRuntime) -> Result<(), Fail> {
     for place in 0..9usize {
-        let files = with_file(place, ("other", b""));
-        let answer = packed(rt.alloc(), &files, true);
-        assert_eq!(rt; answer.err(), Some(PackFault::Read), "file {place}");
-    }
-}
-
-#[test]
-fn certificate_is_not_asked_for_without_the_option(rt: HostRuntime) {
-    let files = with_file(8, ("other", b""));
-    assert!(rt; packed(rt.alloc(), &files, false).is_ok());
-}
-
-#[test]
-fn source_that_fails_is_told(rt: HostRuntime) -> Result<(), Fail> {
-    for count in 0..10usize {
-        let mut files = FaultyFiles::new(&FILES, count);
-        let mut output = FaultyOutput::new(rt.alloc(), 4096, 4096, Stop::Error);
-        let answer = pack(rt.alloc(), &mut files, true, &mut output);
-        let want = if count < 9 {
-            Err(PackFault::Read)
-        } else {
-            Ok(())
-        };
-        assert_eq!(rt; answer, want, "after {count}");
-        assert_eq!(rt; FileSource::failures(&files), u64::from(want.is_err()));
-        assert_eq!(rt; output.taken().is_empty(), want.is_err());
+        let fault = packed_with(rt.alloc(), place, ("other", b""), true)?;
+        assert_eq!(rt; fault, Some(PackFault::Read), "file {place}");
     }
     Ok(())
 }
 
 #[test]
+fn certificate_is_not_asked_for_without_the_option(rt: HostRuntime) -> Result<(), Fail> {
+    let fault = packed_with(rt.alloc(), 8, ("other", b""), false)?;
+    assert!(rt; fault.is_none());
+    Ok(())
+}
+
+/// A source that gives so many of the files and then fails.
+fn source_fails(rt: &impl Abort, alloc: Global, files: &[NamedBytes], count: usize) {
+    let mut files = FaultyFiles::new(files, count);
+    let mut output = FaultyOutput::new(alloc, 4096, 4096, Stop::Error);
+    let answer = pack(alloc, &mut files, true, &mut output);
+    let want = if count < 9 {
+        Err(PackFault::Read)
+    } else {
+        Ok(())
+    };
+    assert_eq!(rt; answer, want, "after {count}");
+    assert_eq!(rt; FileSource::failures(&files), u64::from(want.is_err()));
+    assert_eq!(rt; output.taken().is_empty(), want.is_err());
+}
+
+#[test]
+fn source_that_fails_is_told(rt: HostRuntime) -> Result<(), Fail> {
+    let files = files_of_network(rt.alloc())?;
+    for count in 0..10usize {
+        source_fails(&rt, rt.alloc(), &files, count);
+    }
+    Ok(())
+}
+
+/// An output that takes so many bytes and then none.
+fn output_stops(rt: &impl Abort, alloc: Global, files: &[NamedBytes], count: usize, whole: &[u8]) {
+    let mut files = MapFiles::new(files);
+    let mut output = FaultyOutput::new(alloc, 100, count, Stop::TakesNone);
+    let answer = pack(alloc, &mut files, false, &mut output);
+    assert_eq!(rt; answer, Err(PackFault::Write), "after {count}");
+    assert_eq!(rt; Some(output.taken()), whole.get(..count));
+}
+
+#[test]
 fn output_that_stops_has_a_front_of_the_bundle(rt: HostRuntime) -> Result<(), Fail> {
-    let whole = packed(rt.alloc(), &FILES, false)?;
+    let files = files_of_network(rt.alloc())?;
+    let whole = packed(rt.alloc(), &files, false)?;
     for count in [0usize, 1, 17, 992] {
-        let mut files = MapFiles::new(&FILES);
-        let mut output = FaultyOutput::new(rt.alloc(), 100, count, Stop::TakesNone);
-        let answer = pack(rt.alloc(), &mut files, false, &mut output);
-        assert_eq!(rt; answer, Err(PackFault::Write), "after {count}");
-        assert_eq!(rt; Some(output.taken()), whole.get(..count));
+        output_stops(&rt, rt.alloc(), &files, count, &whole);
     }
     Ok(())
 }

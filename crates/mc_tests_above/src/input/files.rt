@@ -1,43 +1,44 @@
 //! The chain of two routers as a folder's files, and files that tell no domain.
 
-use super::{BAD_THRESHOLD, CACHE, NO_FLOW, TOPOLOGY, VIFS, WANTED};
+use super::{BAD_THRESHOLD, NO_FLOW};
 use mc_files::{FaultyFiles, FileSource, MapFiles};
 use mc_igmp::{ListFault, ListFaultKind};
 use mc_input::*;
+use mc_samples::{NamedBytes, chain_files};
 use mc_tables::{TableFault, TableFaultKind};
 use mc_text::PartName;
 use mc_topology::{Section, TopologyFault, TopologyFaultKind};
-use std::alloc::Global;
+use std::alloc::{AllocError, Global};
 use std::process::Abort;
 use std::test::Fail;
 
-type File = (&'static str, &'static [u8]);
-
-// The files of the chain.
-fn files() -> [File; 8] {
-    [
-        ("topology", TOPOLOGY.as_bytes()),
-        ("vif-r1", VIFS.as_bytes()),
-        ("cache-r1", CACHE.as_bytes()),
-        ("vif-r2", VIFS.as_bytes()),
-        ("cache-r2", CACHE.as_bytes()),
-        ("igmp-l0", b""),
-        ("igmp-l1", b""),
-        ("igmp-l2", WANTED.as_bytes()),
-    ]
-}
-
-// The files with one of them another one.
-fn with_file(place: usize, file: File) -> [File; 8] {
-    let mut files = files();
+// The fault that the chain's files are refused with, where one of them is another one.
+fn fault_with(
+    alloc: Global,
+    place: usize,
+    file: NamedBytes,
+) -> Result<Option<FilesFault>, AllocError> {
+    let mut files = chain_files(alloc)?;
     if let Some(changed) = files.get_mut(place) {
         *changed = file;
     }
-    files
+    Ok(fault_of(alloc, &files))
+}
+
+// The fault that the chain's first files are refused with, so many of them, and this one.
+fn fault_after(
+    alloc: Global,
+    count: usize,
+    file: NamedBytes,
+) -> Result<Option<FilesFault>, AllocError> {
+    let mut files = chain_files(alloc)?;
+    files.truncate(count);
+    files.push(file)?;
+    Ok(fault_of(alloc, &files))
 }
 
 // The fault that the files are refused with.
-fn fault_of(alloc: Global, files: &[File]) -> Option<FilesFault> {
+fn fault_of(alloc: Global, files: &[NamedBytes]) -> Option<FilesFault> {
     read_files(alloc, &mut MapFiles::new(files)).err()
 }
 
@@ -49,29 +50,37 @@ fn check_chain(rt: &impl Abort, input: &FilesInput) {
 
 #[test]
 fn chain_is_read_of_files(rt: HostRuntime) -> Result<(), Fail> {
-    let input = read_files(rt.alloc(), &mut MapFiles::new(&files()))?;
+    let files = chain_files(rt.alloc())?;
+    let input = read_files(rt.alloc(), &mut MapFiles::new(&files))?;
     check_chain(&rt, &input);
     Ok(())
 }
 
 #[test]
-fn no_file_may_be_missing(rt: HostRuntime) {
+fn no_file_may_be_missing(rt: HostRuntime) -> Result<(), Fail> {
     for place in 0..8usize {
-        let fault = fault_of(rt.alloc(), &with_file(place, ("other", b"")));
+        let fault = fault_with(rt.alloc(), place, ("other", b""))?;
         assert!(rt; fault == Some(FilesFault::Read), "file {place}");
     }
+    Ok(())
+}
+
+// A source that gives so many of the files and then fails.
+fn source_fails(rt: &impl Abort, alloc: Global, files: &[NamedBytes], count: usize) {
+    let mut source = FaultyFiles::new(files, count);
+    let fault = read_files(alloc, &mut source).err();
+    let want = (count < 8).then_some(FilesFault::Read);
+    assert!(rt; fault == want, "after {count}");
+    assert_eq!(rt; FileSource::failures(&source), u64::from(count < 8));
 }
 
 #[test]
-fn source_that_fails_is_told(rt: HostRuntime) {
+fn source_that_fails_is_told(rt: HostRuntime) -> Result<(), Fail> {
+    let files = chain_files(rt.alloc())?;
     for count in 0..9usize {
-        let files = files();
-        let mut source = FaultyFiles::new(&files, count);
-        let fault = read_files(rt.alloc(), &mut source).err();
-        let want = (count < 8).then_some(FilesFault::Read);
-        assert!(rt; fault == want, "after {count}");
-        assert_eq!(rt; FileSource::failures(&source), u64::from(count < 8));
+        source_fails(&rt, rt.alloc(), &files, count);
     }
+    Ok(())
 }
 
 #[test]
@@ -87,29 +96,29 @@ fn topology_is_judged_before_another_file_is_asked_for(rt: HostRuntime) {
 }
 
 #[test]
-fn vifs_are_judged_before_the_cache_is_asked_for(rt: HostRuntime) {
-    let [topology, ..] = files();
-    let files = [topology, ("vif-r1", BAD_THRESHOLD.as_bytes())];
+fn vifs_are_judged_before_the_cache_is_asked_for(rt: HostRuntime) -> Result<(), Fail> {
+    let fault = fault_after(rt.alloc(), 1, ("vif-r1", BAD_THRESHOLD.as_bytes()))?;
     let kind = TableFaultKind::NoHeader;
     let told = PartName::new(b"vif/r1").map(|name| {
         FilesFault::Input(InputFault::Vif(name, TableFault { line: 1, kind }))
     });
-    assert!(rt; fault_of(rt.alloc(), &files) == told);
+    assert!(rt; fault == told);
+    Ok(())
 }
 
 #[test]
-fn cache_is_judged_before_another_file_is_asked_for(rt: HostRuntime) {
-    let [topology, vifs, ..] = files();
-    let files = [topology, vifs, ("cache-r1", BAD_THRESHOLD.as_bytes())];
+fn cache_is_judged_before_another_file_is_asked_for(rt: HostRuntime) -> Result<(), Fail> {
+    let fault = fault_after(rt.alloc(), 2, ("cache-r1", BAD_THRESHOLD.as_bytes()))?;
     let kind = TableFaultKind::BadThreshold;
     let told = PartName::new(b"cache/r1").map(|name| {
         FilesFault::Input(InputFault::Cache(name, TableFault { line: 2, kind }))
     });
-    assert!(rt; fault_of(rt.alloc(), &files) == told);
+    assert!(rt; fault == told);
+    Ok(())
 }
 
 #[test]
-fn report_list_is_refused_by_its_part(rt: HostRuntime) {
+fn report_list_is_refused_by_its_part(rt: HostRuntime) -> Result<(), Fail> {
     let list = ListFault {
         line: 1,
         record_no: 0,
@@ -118,8 +127,9 @@ fn report_list_is_refused_by_its_part(rt: HostRuntime) {
     let told = PartName::new(b"igmp/l1").map(|name| FilesFault::Input(InputFault::Reports(
         name, list,
     )));
-    let fault = fault_of(rt.alloc(), &with_file(6, ("igmp-l1", b"zz\n")));
+    let fault = fault_with(rt.alloc(), 6, ("igmp-l1", b"zz\n"))?;
     assert!(rt; fault == told);
+    Ok(())
 }
 
 #[test]

@@ -45,6 +45,7 @@ pub(super) const BESIDE: Network<'static> = Network {
 /// The domain of a network.
 pub(super) fn domain_of(alloc: Global, network: &Network<'_>) -> Result<Domain, Fail> {
     let topology = two_flows(alloc, network.third, network.ttl)?;
-    let routers = network.rows.map(|rows| (VIFS, rows));
+    let [first, second, third] = network.rows;
+    let routers = [(VIFS, first), (VIFS, second), (VIFS, third)];
     mc_samples::domain_of(alloc, &topology, &routers, &["", "", network.wanted])
 }

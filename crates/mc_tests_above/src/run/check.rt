@@ -1,7 +1,7 @@
 //! A chain of two routers through `run_check`, bundles that are refused, and devices that fail.
 
 use super::*;
-use crate::run_check;
+use mc_run::run_check;
 
 /// Two routers from l0 over l1 to l2, where a host wants the one flow, with the certificate of its
 /// tree.

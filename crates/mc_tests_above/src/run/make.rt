@@ -3,7 +3,7 @@
 
 use super::replay::TWO_WAYS;
 use super::*;
-use crate::run_make;
+use mc_run::run_make;
 
 /// A LAN without a router, and nobody on it who wants the one flow.
 const ONE_LAN: &str = "mcaudit bundle 1\n\

@@ -2,8 +2,8 @@
 //! and an output that fails.
 
 use super::*;
-use crate::run_replay;
 use mc_replay::{First, Numbers};
+use mc_run::run_replay;
 
 /// Two ways from l0 to l2: by r1, l1 and r2, and by r3.
 pub(super) const TWO_WAYS: &str = "mcaudit bundle 1\n\

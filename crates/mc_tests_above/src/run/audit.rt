@@ -1,8 +1,8 @@
 //! One LAN alone and a router without a row through `run_audit`, and devices that fail.
 
 use super::*;
-use crate::run_audit;
 use mc_files::{FaultyFiles, FileSource, MapFiles};
+use mc_run::run_audit;
 
 /// A file by its name.
 type NamedBytes = (&'static str, &'static [u8]);

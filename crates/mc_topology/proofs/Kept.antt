@@ -3,21 +3,19 @@ use Rattle.std.proofs.Common.{◌≡◌, ℕ, zero, suc, ◌<◌, IsTrue, Bool, 
 use Rattle.std.proofs.Common.{◌∷◌, length, Some, Ok, refl, subst, arith, option_map}
 use Rattle.std.specs.Prelude.{◌==◌, slice_get, find}
 use Rattle.toml.specs.Data.{Data, Members}
+use Rattle.mc_topology.specs.declared.fault.TopologyFault.{TopologyFault}
 use Rattle.mc_topology.specs.declared.flow.Flow.{Flow}
 use Rattle.mc_topology.specs.Rows.{RouterRow, InterfaceRow, SourceRow}
 use Rattle.mc_topology.specs.Document.{rows_in}
 use Rattle.mc_topology.specs.Names.{is_name}
-use Rattle.mc_topology.specs.Lans.{lans_in}
-use Rattle.mc_topology.specs.Routers.{routers_in}
-use Rattle.mc_topology.specs.Interfaces.{interfaces_in}
-use Rattle.mc_topology.specs.Sources.{lan_of_source, sources_in}
-use Rattle.mc_topology.specs.Flows.{flows_in}
-use Rattle.mc_topology.specs.Reading.{version_in, sections_in}
+use Rattle.mc_topology.specs.Sources.{lan_of_source}
+use Rattle.mc_topology.specs.Reading.{sections_in, topology_in}
 use Rattle.mc_topology.specs.Stands.{EachStands, IsLan, IsRouter, IsInterface, IsSourceRow, IsFlow}
 use Rattle.mc_topology.specs.Stands.{DocumentStands, TopologyStands}
 use Rattle.mc_topology.specs.Topology.{Sections, TopologyValue, IsInterfaceAmong, IsFlowAmong}
 use Rattle.mc_topology.specs.Topology.{IsTopology, topology_of}
 use Rattle.mc_topology.proofs.NameLemmas.{lan_within, router_within}
+use Rattle.mc_topology.proofs.Steps.{bind_ok, ok_is}
 use Rattle.mc_topology.proofs.Whole.{each_length, sections_take}
 
 -- ---- sources and flows
@@ -123,12 +121,10 @@ document_kept ms s is =
 pub text_kept : (text : List ℕ) (t : TopologyValue) → TopologyStands text t → IsTopology t
 text_kept text t is = subst IsTopology is.makes (document_kept is.document is.sections is.stands)
 
--- sections that are read one after the other
-pub sections_kept : (ms : Members) (s : Sections) → version_in ms ≡ Ok tt → lans_in ms ≡ Ok s.lans
-    → routers_in ms ≡ Ok s.routers → interfaces_in s.lans s.routers ms ≡ Ok s.interfaces
-    → sources_in s.lans ms ≡ Ok s.sources
-    → flows_in s.sources ms ≡ Ok s.flows → IsTopology (topology_of s)
-unfolding sections_in
-sections_kept ms s version lans routers interfaces sources flows =
-    document_kept ms s (sections_take ms s
-    (rw (version, lans, routers, interfaces, sources, flows) refl))
+-- a table that is read gives a topology
+pub table_kept : (ms : Members) (t : TopologyValue) → topology_in ms ≡ Ok t → IsTopology t
+unfolding topology_in
+table_kept ms t e =
+    let s = bind_ok (sections_in ms) (λ sections. Ok (topology_of sections)) t e in
+    subst IsTopology (ok_is {E = TopologyFault} (topology_of s.0) t s.2)
+    (document_kept ms s.0 (sections_take ms s.0 s.1))

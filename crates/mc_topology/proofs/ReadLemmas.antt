@@ -8,17 +8,18 @@ use Rattle.toml.specs.Data.{Members}
 use Rattle.toml.specs.Parse.{parse_document}
 use Rattle.mc_topology.specs.declared.fault.TopologyFault.{TopologyFault}
 use Rattle.mc_topology.specs.declared.fault.TopologyFaultKind.TheVariants.{NotToml}
+use Rattle.mc_topology.specs.declared.flow.Flow.{Flow}
 use Rattle.mc_topology.specs.Rows.{RouterRow, InterfaceRow, SourceRow}
 use Rattle.mc_topology.specs.Lans.{lans_in}
 use Rattle.mc_topology.specs.Routers.{routers_in}
 use Rattle.mc_topology.specs.Interfaces.{interfaces_in}
 use Rattle.mc_topology.specs.Sources.{sources_in}
 use Rattle.mc_topology.specs.Flows.{flows_in}
-use Rattle.mc_topology.specs.Answer.{out_of_memory}
+use Rattle.mc_topology.specs.Answer.{◌>>=◌, out_of_memory}
 use Rattle.mc_topology.specs.Reading.{utf8_text, document_of, version_in, sections_in, topology_in}
-use Rattle.mc_topology.specs.Reading.{reading_of}
+use Rattle.mc_topology.specs.Reading.{sourced_flows_in, interfaces_and_flows_in, reading_of}
 use Rattle.mc_topology.specs.Stands.{TopologyStands}
-use Rattle.mc_topology.specs.Topology.{TopologyValue}
+use Rattle.mc_topology.specs.Topology.{Sections, TopologyValue, topology_of}
 use Rattle.mc_topology.proofs.Steps.{ok_is}
 use Rattle.mc_topology.proofs.Whole.{reading_takes, reading_again}
 
@@ -62,27 +63,80 @@ pub document_refused : (text : List ℕ) → length text ≤ 16777216
     → (IsUtf8 text → parse_document text ≡ None) → document_of text ≡ Err NotToml
 document_refused text few none = refused_by text (is_utf8 text) refl few none
 
--- the first fault is among the sources
-pub refused_at_sources : (ms : Members) (lans : List (List ℕ)) (routers : List RouterRow)
-    (interfaces : List InterfaceRow)
-    (fault : TopologyFault) → version_in ms ≡ Ok tt → lans_in ms ≡ Ok lans
-    → routers_in ms ≡ Ok routers
-    → interfaces_in lans routers ms ≡ Ok interfaces → sources_in lans ms ≡ Err fault
-    → topology_in ms ≡ Err fault
-unfolding topology_in sections_in
-refused_at_sources ms lans routers interfaces fault version at_lans at_routers at_interfaces
-    at_sources =
-    rw (version, at_lans, at_routers, at_interfaces, at_sources) refl
+-- ---- the sections after the LANs and the routers
 
--- the first fault is among the flows
-pub refused_at_flows : (ms : Members) (lans : List (List ℕ)) (routers : List RouterRow)
-    (interfaces : List InterfaceRow)
-    (sources : List SourceRow) (fault : TopologyFault) → version_in ms ≡ Ok tt
-    → lans_in ms ≡ Ok lans
-    → routers_in ms ≡ Ok routers → interfaces_in lans routers ms ≡ Ok interfaces
-    → sources_in lans ms ≡ Ok sources
-    → flows_in sources ms ≡ Err fault → topology_in ms ≡ Err fault
-unfolding topology_in sections_in
-refused_at_flows ms lans routers interfaces sources fault version at_lans at_routers at_interfaces
-    at_sources at_flows =
-    rw (version, at_lans, at_routers, at_interfaces, at_sources, at_flows) refl
+-- steps that are done
+abbrev all_read : Sections → Result Sections TopologyFault
+all_read s = Ok s
+
+abbrev whole : TopologyValue → Result TopologyValue TopologyFault
+whole t = Ok t
+
+abbrev both : List InterfaceRow → List Flow → Result (List InterfaceRow × List Flow) TopologyFault
+both interfaces flows = Ok (interfaces, flows)
+
+-- the topology of these sections
+abbrev with_found : List (List ℕ) → List RouterRow → List InterfaceRow × List Flow
+    → Result TopologyValue TopologyFault
+with_found lans routers found =
+    Ok (record { lans = lans; routers = routers; interfaces = found.0; flows = found.1 })
+
+-- the last step, by what it gives
+by_flows : (lans : List (List ℕ)) (routers : List RouterRow) (interfaces : List InterfaceRow)
+    (sources : List SourceRow) (r : Result (List Flow) TopologyFault)
+    → ((r >>= λ (flows : List Flow). all_read (record {
+      lans = lans;
+      routers = routers;
+      interfaces = interfaces;
+      sources = sources;
+      flows = flows;
+    })) >>= λ (s : Sections). whole (topology_of s))
+    ≡ ((r >>= λ (flows : List Flow). both interfaces flows) >>= with_found lans routers)
+by_flows lans routers interfaces sources (Ok flows) = refl
+by_flows lans routers interfaces sources (Err k) = refl
+
+-- what the steps after the LANs and the routers give, by what each of them gives
+found_by : (ms : Members) (lans : List (List ℕ)) (routers : List RouterRow)
+    (interfaces : Result (List InterfaceRow) TopologyFault)
+    (sources : Result (List SourceRow) TopologyFault)
+    → version_in ms ≡ Ok tt → lans_in ms ≡ Ok lans → routers_in ms ≡ Ok routers
+    → interfaces_in lans routers ms ≡ interfaces → sources_in lans ms ≡ sources
+    → topology_in ms ≡ (interfaces_and_flows_in lans routers ms >>= with_found lans routers)
+unfolding topology_in sections_in interfaces_and_flows_in sourced_flows_in
+found_by ms lans routers (Err k) sources version at_lans at_routers at_interfaces at_sources =
+    rw (version, at_lans, at_routers, at_interfaces) refl
+found_by ms lans routers (Ok i) (Err k) version at_lans at_routers at_interfaces at_sources =
+    rw (version, at_lans, at_routers, at_interfaces, at_sources) refl
+found_by ms lans routers (Ok i) (Ok s) version at_lans at_routers at_interfaces at_sources =
+    rw (version, at_lans, at_routers, at_interfaces, at_sources)
+    (by_flows lans routers i s (flows_in s ms))
+
+-- a table's topology, from its interfaces and flows
+found_is : (ms : Members) (lans : List (List ℕ)) (routers : List RouterRow)
+    → version_in ms ≡ Ok tt → lans_in ms ≡ Ok lans → routers_in ms ≡ Ok routers
+    → topology_in ms ≡ (interfaces_and_flows_in lans routers ms >>= with_found lans routers)
+found_is ms lans routers version at_lans at_routers =
+    found_by ms lans routers (interfaces_in lans routers ms) (sources_in lans ms) version at_lans
+    at_routers refl refl
+
+-- the table's topology, where its interfaces and flows are these,
+pub topology_found : (ms : Members) (lans : List (List ℕ)) (routers : List RouterRow)
+    (interfaces : List InterfaceRow) (flows : List Flow)
+    → version_in ms ≡ Ok tt → lans_in ms ≡ Ok lans → routers_in ms ≡ Ok routers
+    → interfaces_and_flows_in lans routers ms ≡ Ok (interfaces, flows)
+    → topology_in ms ≡ Ok (record {
+      lans = lans;
+      routers = routers;
+      interfaces = interfaces;
+      flows = flows;
+    })
+topology_found ms lans routers interfaces flows version at_lans at_routers found =
+    found_is ms lans routers version at_lans at_routers ∙ rw found refl
+
+-- or its first fault lies there
+pub fault_found : (ms : Members) (lans : List (List ℕ)) (routers : List RouterRow)
+    (fault : TopologyFault)
+    → version_in ms ≡ Ok tt → lans_in ms ≡ Ok lans → routers_in ms ≡ Ok routers
+    → interfaces_and_flows_in lans routers ms ≡ Err fault → topology_in ms ≡ Err fault
+fault_found ms lans routers fault version at_lans at_routers found =
+    found_is ms lans routers version at_lans at_routers ∙ rw found refl

@@ -5,12 +5,14 @@ use Rattle.std.specs.Ordering.{int_eq}
 use Rattle.std.specs.Str.{is_utf8}
 use Rattle.toml.specs.Data.{Members}
 use Rattle.toml.specs.Parse.{parse_document}
+use Rattle.mc_topology.specs.declared.flow.Flow.{Flow}
 use Rattle.mc_topology.specs.declared.fault.Section.TheVariants.{Top}
 use Rattle.mc_topology.specs.declared.fault.TopologyFaultKind.{TopologyFaultKind}
 use Rattle.mc_topology.specs.declared.fault.TopologyFaultKind.TheVariants.{NotToml, BadVersion}
 use Rattle.mc_topology.specs.declared.fault.TopologyFaultKind.TheVariants.{UnknownKey, TooMany}
 use Rattle.mc_topology.specs.declared.fault.TopologyFault.{TopologyFault}
 use Rattle.mc_topology.specs.Answer.{◌>>=◌, place}
+use Rattle.mc_topology.specs.Rows.{RouterRow, InterfaceRow}
 use Rattle.mc_topology.specs.Document.{has_only, number_at}
 use Rattle.mc_topology.specs.Lans.{lans_in}
 use Rattle.mc_topology.specs.Routers.{routers_in}
@@ -61,6 +63,18 @@ sections_in ms = do
     sources = sources;
     flows = flows;
   })
+
+-- the flows, each from one of the sources on these LANs
+unfoldable pub sourced_flows_in : List (List ℕ) → Members → Result (List Flow) TopologyFault
+sourced_flows_in lans ms = sources_in lans ms >>= λ sources. flows_in sources ms
+
+-- the interfaces and the flows, beside the LANs and the routers
+unfoldable pub interfaces_and_flows_in : List (List ℕ) → List RouterRow → Members
+    → Result (List InterfaceRow × List Flow) TopologyFault
+interfaces_and_flows_in lans routers ms = do
+  interfaces ← interfaces_in lans routers ms
+  flows ← sourced_flows_in lans ms
+  Ok (interfaces, flows)
 
 -- the topology of a table
 unfoldable pub topology_in : Members → Result TopologyValue TopologyFault

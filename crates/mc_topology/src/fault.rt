@@ -44,50 +44,42 @@ impl fmt::Display for Section {
 #[derive(Clone, Copy, Debug, PartialEq, Eq, Error)]
 pub enum TopologyFaultKind {
     /// (1) The text is no UTF-8 or no TOML (`top`, 0).
-    #[error("NotToml")]
     NotToml,
     /// (2) The version isn't 1 (`top`, 0).
-    #[error("BadVersion")]
     BadVersion,
     /// (3) A key isn't there.
-    #[error("MissingKey")]
     MissingKey,
     /// (4) A key stands there that has no meaning.
-    #[error("UnknownKey")]
     UnknownKey,
     /// (5) A value is of the wrong type, or an order is neither `little` nor `big`.
-    #[error("BadKind")]
     BadKind,
     /// (6) A text can't be the name of a LAN, of a router or of a device.
-    #[error("BadName")]
     BadName,
     /// (7) An earlier LAN or router has the name, or an earlier source the address.
-    #[error("RepeatedName")]
     RepeatedName,
     /// (8) No router, LAN or source has the name or address.
-    #[error("UnknownName")]
     UnknownName,
     /// (9) An earlier interface has the router and the device.
-    #[error("RepeatedInterface")]
     RepeatedInterface,
     /// (10) A text isn't the address of a source or of a forwarded group.
-    #[error("BadAddress")]
     BadAddress,
     /// (11) A time to live isn't 1 to 255.
-    #[error("BadTtl")]
     BadTtl,
     /// (12) There is no flow (`flow`, 0).
-    #[error("NoFlow")]
     NoFlow,
     /// (13) An earlier flow has the source and the group.
-    #[error("RepeatedFlow")]
     RepeatedFlow,
     /// (14) The text has too many bytes (`top`, 0), or a section too many parts (its number 0).
-    #[error("TooMany")]
     TooMany,
     /// (15) Memory ran out (`top`, 0).
-    #[error("Memory")]
     Memory,
+}
+
+impl fmt::Display for TopologyFaultKind {
+    /// Writes the kind by its name.
+    fn fmt<W: fmt::Write>(&self, f: &mut fmt::Formatter<W>) -> fmt::Result {
+        fmt::Debug::fmt(self, f)
+    }
 }
 
 impl TopologyFaultKind {

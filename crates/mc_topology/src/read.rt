@@ -9,14 +9,21 @@ mod routers;
 mod rows;
 mod sources;
 
-ghost use Rattle.std.specs.Prelude.{◌≡◌, ◌≢◌, Ok, Err, IfErr, IfOk};
+ghost use Rattle.std.specs.Prelude.{◌≡◌, ◌≢◌, ◌≤◌, length, Ok, Err, IfErr, IfOk};
 ghost use Rattle.toml.specs.View.{table_view};
 ghost use Rattle.mc_topology.specs.declared.fault.Section.TheVariants as section;
 ghost use Rattle.mc_topology.specs.Answer.{out_of_memory, place};
 ghost use Rattle.mc_topology.specs.Document.{has_only};
-ghost use Rattle.mc_topology.specs.Reading.{top_keys, document_of, version_in, topology_in, reading_of};
+ghost use Rattle.mc_topology.specs.Lans.{lans_in};
+ghost use Rattle.mc_topology.specs.Reading.{top_keys, document_of, version_in, sourced_flows_in};
+ghost use Rattle.mc_topology.specs.Reading.{interfaces_and_flows_in, topology_in, reading_of};
+ghost use Rattle.mc_topology.specs.Routers.{routers_in};
 
 use crate::fault::{Section, TopologyFault, TopologyFaultKind, place};
+use crate::flows::Flows;
+use crate::interfaces::Interfaces;
+use crate::lans::{Lans, MAX_LANS};
+use crate::routers::{MAX_ROUTERS, Routers};
 use crate::topology::Topology;
 use document::{has_only, number_at};
 use flows::flows_in;
@@ -70,6 +77,53 @@ fn version_in(table: &Table) -> Result<(), TopologyFaultKind>
     Ok(())
 }
 
+/// The flows, each from one of the sources.
+#[tactic(auto, unfolding(crate::specs::Reading::sourced_flows_in))]
+fn sourced_flows_in(alloc: Global, lans: &Lans, table: &Table) -> Result<Flows, TopologyFault>
+    requires { length lans.now ≤ MAX_LANS }
+    ensures { result ≢ Err out_of_memory →
+        result ≡ sourced_flows_in lans.now (table_view table.now) }
+{
+    let sources = sources_in(alloc, lans, table)?;
+    flows_in(alloc, &sources, table)
+}
+
+/// The interfaces and the flows.
+#[tactic(auto, unfolding(crate::specs::Reading::interfaces_and_flows_in))]
+fn interfaces_and_flows_in(
+    alloc: Global,
+    lans: &Lans,
+    routers: &Routers,
+    table: &Table,
+) -> Result<(Interfaces, Flows), TopologyFault>
+    requires few_lans { length lans.now ≤ MAX_LANS }
+    requires few_routers { length routers.now ≤ MAX_ROUTERS }
+    ensures { result ≢ Err out_of_memory →
+        result ≡ interfaces_and_flows_in lans.now routers.now (table_view table.now) }
+{
+    let interfaces = interfaces_in(alloc, lans, routers, table)?;
+    let flows = sourced_flows_in(alloc, lans, table)?;
+    Ok((interfaces, flows))
+}
+
+/// The topology of a table whose keys, version, LANs and routers are read.
+fn topology_with(
+    alloc: Global,
+    lans: Lans,
+    routers: Routers,
+    table: &Table,
+) -> Result<Topology, TopologyFault>
+    requires version { version_in (table_view table.now) ≡ Ok tt }
+    requires lans { lans_in (table_view table.now) ≡ Ok lans }
+    requires routers { routers_in (table_view table.now) ≡ Ok routers }
+    requires few_lans { length lans ≤ MAX_LANS }
+    requires few_routers { length routers ≤ MAX_ROUTERS }
+    ensures { result ≢ Err out_of_memory → result ≡ topology_in (table_view table.now) }
+{
+    let (interfaces, flows) = interfaces_and_flows_in(alloc, &lans, &routers, table)?;
+    Ok(Topology::new(lans, routers, interfaces, flows))
+}
+
 /// The topology of a table.
 #[tactic(auto, unfolding(crate::specs::Reading::sections_in, crate::specs::Reading::topology_in))]
 fn topology_in(alloc: Global, table: &Table) -> Result<Topology, TopologyFault>
@@ -78,10 +132,7 @@ fn topology_in(alloc: Global, table: &Table) -> Result<Topology, TopologyFault>
     place(Section::Top, 0, version_in(table))?;
     let lans = lans_in(alloc, table)?;
     let routers = routers_in(alloc, table)?;
-    let interfaces = interfaces_in(alloc, &lans, &routers, table)?;
-    let sources = sources_in(alloc, &lans, table)?;
-    let flows = flows_in(alloc, &sources, table)?;
-    Ok(Topology::new(lans, routers, interfaces, flows))
+    topology_with(alloc, lans, routers, table)
 }
 
 /// The topology of a text.

@@ -58,35 +58,32 @@ impl fmt::Display for CertPlace {
 #[derive(Clone, Copy, Debug, PartialEq, Eq, Error)]
 pub enum CertFaultKind {
     /// (1) The text is no UTF-8 or no JSON (`top`).
-    #[error("NotJson")]
     NotJson,
     /// (2) The version is neither 1 nor 2 (`top`).
-    #[error("BadVersion")]
     BadVersion,
     /// (3) A key isn't there.
-    #[error("MissingKey")]
     MissingKey,
     /// (4) A key stands there that has no meaning.
-    #[error("UnknownKey")]
     UnknownKey,
     /// (5) A value is of the wrong type.
-    #[error("BadKind")]
     BadKind,
     /// (6) A number isn't whole or out of its range.
-    #[error("BadNumber")]
     BadNumber,
     /// (7) No LAN or router has the name.
-    #[error("UnknownName")]
     UnknownName,
     /// (8) The flows aren't those of the topology, in its order.
-    #[error("WrongFlows")]
     WrongFlows,
     /// (9) The text has too many bytes or trees (`top`), or a flow or a tree too many entries.
-    #[error("TooMany")]
     TooMany,
     /// (10) Memory ran out (`top`).
-    #[error("Memory")]
     Memory,
+}
+
+impl fmt::Display for CertFaultKind {
+    /// Writes the kind by its name.
+    fn fmt<W: fmt::Write>(&self, f: &mut fmt::Formatter<W>) -> fmt::Result {
+        fmt::Debug::fmt(self, f)
+    }
 }
 
 impl CertFaultKind {

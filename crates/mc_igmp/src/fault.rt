@@ -4,37 +4,37 @@ ghost use Rattle.std.specs.Prelude.{◌≡◌};
 ghost use Rattle.mc_igmp.specs.Memory.{IsMemory};
 
 use std::alloc::{AllocError, AllocFailed};
+use std::fmt;
 use thiserror::Error;
 
 /// What is wrong with a report list.
 #[derive(Clone, Copy, Debug, PartialEq, Eq, Error)]
 pub enum ListFaultKind {
     /// (1) The line is no hexadecimal of whole bytes.
-    #[error("BadHex")]
     BadHex,
     /// (2) The message has fewer than 8 bytes.
-    #[error("Short")]
     Short,
     /// (3) The message's checksum is wrong.
-    #[error("BadChecksum")]
     BadChecksum,
     /// (4) The record doesn't end within the message.
-    #[error("Truncated")]
     Truncated,
     /// (5) The record tells of a change: its meaning hangs on what was reported before.
-    #[error("StateChange")]
     StateChange,
     // (6) is no longer used: it refused reports of versions 1 and 2.
     /// (7) The text has more than 16,777,216 bytes (line 0), or more than 65,536 lines, or the line
     /// has more than 131,030 bytes.
-    #[error("TooLarge")]
     TooLarge,
     /// (8) No line feed ends the line.
-    #[error("Unended")]
     Unended,
     /// (9) Memory ran out (line 0).
-    #[error("Memory")]
     Memory,
+}
+
+impl fmt::Display for ListFaultKind {
+    /// Writes the kind by its name.
+    fn fmt<W: fmt::Write>(&self, f: &mut fmt::Formatter<W>) -> fmt::Result {
+        fmt::Debug::fmt(self, f)
+    }
 }
 
 /// Why a text is no report list, with the line and the record that it is about. Both count from 1,

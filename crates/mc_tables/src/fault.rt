@@ -5,63 +5,54 @@ ghost use Rattle.mc_tables.specs.declared.fault.TableFaultKind.TheVariants.{Memo
 ghost use Rattle.mc_tables.specs.Memory.{out_of_memory, fault_at};
 
 use std::alloc::{AllocError, AllocFailed};
+use std::fmt;
 use thiserror::Error;
 
 /// What is wrong with a table.
 #[derive(Clone, Copy, Debug, PartialEq, Eq, Error)]
 pub enum TableFaultKind {
     /// (1) The first line's first word isn't the table's, or the text is empty.
-    #[error("NoHeader")]
     NoHeader,
     /// (2) No line feed ends the line.
-    #[error("Unended")]
     Unended,
     /// (3) The line has too few or too many words.
-    #[error("WordCount")]
     WordCount,
     /// (4) The index isn't a number from 0 to 31.
-    #[error("BadIndex")]
     BadIndex,
     /// (5) The device isn't 1 to 15 bytes, none of them 0x09 to 0x0D, a space, `/` or `:`.
-    #[error("BadDevice")]
     BadDevice,
     /// (6) A counter isn't one to twenty digits, with one `-` before them allowed.
-    #[error("BadCounter")]
     BadCounter,
     /// (7) The flags aren't five to eight hexadecimal digits.
-    #[error("BadFlags")]
     BadFlags,
     /// (8) An address isn't eight hexadecimal digits.
-    #[error("BadAddress")]
     BadAddress,
     /// (9) An earlier line has the index.
-    #[error("RepeatedIndex")]
     RepeatedIndex,
     /// (10) An earlier line has the device.
-    #[error("RepeatedDevice")]
     RepeatedDevice,
     /// (11) The incoming vif is neither a number from 0 to 31 nor `-1`.
-    #[error("BadIif")]
     BadIif,
     /// (12) An outgoing word isn't a number from 0 to 31, one colon and a threshold, or the row is
     /// unresolved.
-    #[error("BadOif")]
     BadOif,
     /// (13) A threshold isn't a number from 1 to 254.
-    #[error("BadThreshold")]
     BadThreshold,
     /// (14) An earlier word of the line has the outgoing vif.
-    #[error("RepeatedOif")]
     RepeatedOif,
     /// (15) An earlier line has the source and the group.
-    #[error("RepeatedEntry")]
     RepeatedEntry,
     /// (16) The text has too many bytes or rows.
-    #[error("TooLarge")]
     TooLarge,
     /// (17) Memory ran out.
-    #[error("Memory")]
     Memory,
+}
+
+impl fmt::Display for TableFaultKind {
+    /// Writes the kind by its name.
+    fn fmt<W: fmt::Write>(&self, f: &mut fmt::Formatter<W>) -> fmt::Result {
+        fmt::Debug::fmt(self, f)
+    }
 }
 
 impl TableFaultKind {

@@ -1,40 +1,38 @@
 //! Why a bundle could not be read or written.
 
+use std::fmt;
 use thiserror::Error;
 
 /// The first fault of a bundle, as it is met from the front.
 #[derive(Clone, Copy, Debug, PartialEq, Eq, Error)]
 pub enum BundleFault {
     /// (1) The first line isn't `mcaudit bundle 1`.
-    #[error("NoMagic")]
     NoMagic,
     /// (2) At a line's place: no line feed among the next 96 bytes, or a line that is neither `end`
     /// nor a part's. After a part: another byte than a line feed.
-    #[error("BadPartLine")]
     BadPartLine,
     /// (3) The input ends before a part's last byte or its line feed.
-    #[error("Truncated")]
     Truncated,
     /// (4) At a line's place: fewer than 96 bytes are left, and none is a line feed.
-    #[error("NoEnd")]
     NoEnd,
     /// (5) A byte stands after the line `end`.
-    #[error("AfterEnd")]
     AfterEnd,
     /// (6) A part passes 16,777,216 bytes, the bundle 268,435,456 bytes, or there are more than
     /// 1,538 parts.
-    #[error("TooLarge")]
     TooLarge,
     /// (7) The input failed. No call answers this yet.
-    #[error("Read")]
     Read,
     /// (8) Memory ran out.
-    #[error("Memory")]
     Memory,
     /// (9) The output answered an error, or took no byte.
-    #[error("Write")]
     Write,
     /// (10) A call was made after a fault. No call answers this yet.
-    #[error("Failed")]
     Failed,
+}
+
+impl fmt::Display for BundleFault {
+    /// Writes the fault by its name.
+    fn fmt<W: fmt::Write>(&self, f: &mut fmt::Formatter<W>) -> fmt::Result {
+        fmt::Debug::fmt(self, f)
+    }
 }

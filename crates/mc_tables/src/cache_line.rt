@@ -12,7 +12,7 @@ use crate::cache_row::CacheRow;
 use crate::entry::Entry;
 use crate::fault::TableFaultKind;
 use crate::outgoing::oifs_of_words;
-use crate::table_words::{MAX_VIF, check_counter, number};
+use crate::table_words::{MAX_VIF, check_counter, number, three_words};
 use mc_text::{Addr, Order, Words};
 use std::alloc::Global;
 
@@ -45,13 +45,15 @@ fn first_words<'a>(words: &mut Words<'a>) -> Option<CacheWords<'a>>
     ensures found { IfSome result (λ first. words.old ≡ words_before first words.new) }
     ensures only { IfNone result (length words.old < 6) }
 {
+    let (group, origin, iif) = three_words(words)?;
+    let (packets, bytes, wrong) = three_words(words)?;
     Some(CacheWords {
-        group: words.next()?,
-        origin: words.next()?,
-        iif: words.next()?,
-        packets: words.next()?,
-        bytes: words.next()?,
-        wrong: words.next()?,
+        group,
+        origin,
+        iif,
+        packets,
+        bytes,
+        wrong,
     })
 }
 

@@ -1,6 +1,6 @@
 //! The words of the kernel's tables.
 
-ghost use Rattle.std.specs.Prelude.{◌≡◌, ◌&&◌, nat_le, length};
+ghost use Rattle.std.specs.Prelude.{◌≡◌, ◌<◌, ◌&&◌, ◌∷◌, nat_le, length, IfSome, IfNone};
 ghost use Rattle.std.specs.List.{list_all};
 ghost use Rattle.std.specs.Char.{is_ascii_digit, is_ascii_hexdigit};
 ghost use Rattle.mc_tables.specs.declared.fault.TableFaultKind.TheVariants.{BadCounter};
@@ -8,10 +8,18 @@ ghost use Rattle.mc_tables.specs.Steps.{demand};
 ghost use Rattle.mc_tables.specs.TableWords.{unsigned, is_counter, is_hexadecimal, number_in};
 
 use crate::fault::TableFaultKind;
-use mc_text::decimal;
+use mc_text::{Words, decimal};
 
 /// The greatest index of a vif (`MAXVIFS` of linux/mroute.h less one).
 pub const MAX_VIF: u8 = 31;
+
+/// The next three words, if they are there.
+pub fn three_words<'a>(words: &mut Words<'a>) -> Option<(&'a [u8], &'a [u8], &'a [u8])>
+    ensures found { IfSome result (λ w. words.old ≡ w.0.now ∷ w.1.now ∷ w.2.now ∷ words.new) }
+    ensures only { IfNone result (length words.old < 3) }
+{
+    Some((words.next()?, words.next()?, words.next()?))
+}
 
 /// Reads a decimal number from `least` to `most`.
 pub fn number(word: &[u8], least: u8, most: u8) -> Option<u8>

@@ -1,6 +1,6 @@
 //! One line of `/proc/net/ip_mr_vif`.
 
-ghost use Rattle.std.specs.Prelude.{◌≡◌, ◌≢◌, ◌≤◌, ◌<◌, length, IsTrue, IfSome, IfNone, Some};
+ghost use Rattle.std.specs.Prelude.{◌≡◌, ◌≢◌, ◌≤◌, length, IsTrue, IfSome, IfNone, Some};
 ghost use Rattle.std.specs.List.{list_all};
 ghost use Rattle.std.specs.Char.{is_ascii_hexdigit};
 ghost use Rattle.std.specs.Str.Parse.{digits_value};
@@ -9,10 +9,10 @@ ghost use Rattle.mc_tables.specs.declared.fault.TableFaultKind.TheVariants.{BadA
 ghost use Rattle.mc_tables.specs.Steps.{demand};
 ghost use Rattle.mc_tables.specs.TableWords.{is_hexadecimal};
 ghost use Rattle.mc_tables.specs.VifReading.{device_in, flags_in, vif_in_words};
-ghost use Rattle.mc_tables.specs.VifWords.{counters_before, word_list};
+ghost use Rattle.mc_tables.specs.VifWords.{word_list};
 
 use crate::fault::TableFaultKind;
-use crate::table_words::{MAX_VIF, check_counter, is_hexadecimal_word, number};
+use crate::table_words::{MAX_VIF, check_counter, is_hexadecimal_word, number, three_words};
 use crate::vif::{DeviceName, Vif};
 use crate::vif_row::VifRow;
 use mc_text::{Words, is_device_name};
@@ -47,37 +47,31 @@ pub fn vif_of_line(line: &[u8]) -> Result<VifRow, TableFaultKind>
     vif_of_words(&words)
 }
 
-/// The next four words, if they are there.
-fn counter_words<'a>(words: &mut Words<'a>) -> Option<CounterWords<'a>>
-    ensures found { IfSome result (λ counters. words.old ≡ counters_before counters words.new) }
-    ensures only { IfNone result (length words.old < 4) }
-{
-    Some(CounterWords {
-        bytes_in: words.next()?,
-        packets_in: words.next()?,
-        bytes_out: words.next()?,
-        packets_out: words.next()?,
-    })
-}
-
 /// The line's words, if there are nine.
 fn vif_words<'a>(line: &'a [u8]) -> Option<VifWords<'a>>
     ensures found { IfSome result (λ words. words_of line.now ≡ word_list words) }
     ensures only { IfNone result (length (words_of line.now) ≢ 9) }
 {
     let mut words = Words::new(line);
-    let found = VifWords {
-        index: words.next()?,
-        device: words.next()?,
-        counters: counter_words(&mut words)?,
-        flags: words.next()?,
-        local: words.next()?,
-        remote: words.next()?,
-    };
-    match words.next() {
-        Some(_) => None,
-        None => Some(found),
+    let (index, device, bytes_in) = three_words(&mut words)?;
+    let (packets_in, bytes_out, packets_out) = three_words(&mut words)?;
+    let (flags, local, remote) = three_words(&mut words)?;
+    if words.next().is_some() {
+        return None;
     }
+    Some(VifWords {
+        index,
+        device,
+        counters: CounterWords {
+            bytes_in,
+            packets_in,
+            bytes_out,
+            packets_out,
+        },
+        flags,
+        local,
+        remote,
+    })
 }
 
 #[tactic(auto, unfolding(crate::specs::VifReading::vif_in_words))]

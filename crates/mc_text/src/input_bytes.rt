@@ -77,9 +77,11 @@ fn fill_to_limit<R: Input>(
         let room = buffer.len().min(limit - bytes.len());
         match input.read(&mut buffer[..room]) {
             Ok(0) => return Ok(()),
-            Ok(count) => bytes
-                .extend_from_slice(&buffer[..count])
-                .map_err(|_| ReadFault::Memory)?,
+            Ok(count) => {
+                if bytes.extend_from_slice(&buffer[..count]).is_err() {
+                    return Err(ReadFault::Memory);
+                }
+            }
             Err(_) => return Err(ReadFault::Read),
         }
     }

@@ -20,8 +20,8 @@ returns-in-Ok-eq0-clause-consumed g c =
     reads_on _ _ _ _ _ _ _ c.reading.invariant.bytes c.in-Ok-eq0.ensures.bytes.0
     (omega (arith, c.reading.bytes.ok.0, length-take c.in-Ok-eq0.field-0 c.read.new.buffer))
 
-pub returns-in_err-map_err-in-Ok-clause-consumed : goal.returns-in_err-map_err-in-Ok-clause-consumed
-returns-in_err-map_err-in-Ok-clause-consumed g c =
+pub returns-then-is_err-clause-consumed : goal.returns-then-is_err-clause-consumed
+returns-then-is_err-clause-consumed g c =
     let taken = length-take c.in-Ok.count c.read.new.buffer in
     let room = length-take c.min-room.result c.reading.buffer in
     reads_on _ _ _ _ _ _ _ c.reading.invariant.bytes c.in-Ok.ensures.bytes.0

@@ -1,10 +1,11 @@
 //! The parts that are made of files.
 
-ghost use Rattle.std.specs.Prelude.{◌≡◌, ◌≢◌, ◌<◌, [], ◌∷◌, IfErr, IfOk};
+ghost use Rattle.std.specs.Prelude.{◌≡◌, ◌≢◌, ◌<◌, [], ◌∷◌, IfErr, IfOk, Ok};
 ghost use Rattle.mc_text.specs.PartView.{part_text, part_texts};
 ghost use Rattle.mc_files.specs.PackReading.{judged, names_told as names_of_others, part_packed};
 ghost use Rattle.mc_files.specs.PackReading.{parts_after as parts_read_after, parts_read};
 ghost use Rattle.mc_files.specs.PackRun.{Gives, GivesOf, failed_files};
+ghost use Rattle.mc_files.specs.Packing.{others_packed};
 ghost use Rattle.mc_topology.specs.Reading.{reading_of};
 
 use crate::fault::PackFault;
@@ -107,6 +108,20 @@ fn topology_of(alloc: Global, text: &[u8]) -> Result<Topology, PackFault>
     }
 }
 
+/// The names of the files after the topology.
+fn names_after(
+    alloc: Global,
+    topology: &Topology,
+    certified: bool,
+) -> Result<Vec<FileName>, PackFault>
+    ensures names { Gives (λ names. names.items) result
+        (Ok (others_packed certified topology.now)) }
+    ensures no_device { IfErr result (λ fault. (fault ≢ PackFault.Write)
+        × (fault ≢ PackFault.Read)) }
+{
+    Ok(other_names(alloc, topology, certified)?)
+}
+
 /// The names of the files after the topology, which the topology's text tells.
 #[tactic(auto, unfolding(crate::specs::PackReading::names_told))]
 fn names_told(alloc: Global, text: &[u8], certified: bool) -> Result<Vec<FileName>, PackFault>
@@ -115,7 +130,7 @@ fn names_told(alloc: Global, text: &[u8], certified: bool) -> Result<Vec<FileNam
         × (fault ≢ PackFault.Read)) }
 {
     let topology = topology_of(alloc, text)?;
-    Ok(other_names(alloc, &topology, certified)?)
+    names_after(alloc, &topology, certified)
 }
 
 /// The parts of the bundle that is packed of the files.

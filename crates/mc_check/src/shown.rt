@@ -1,6 +1,6 @@
 //! A reason and a verdict as they are written, by the names of a topology.
 
-ghost use Rattle.std.specs.Prelude.{◌≡◌, Some};
+ghost use Rattle.std.specs.Prelude.{◌≡◌, ◌++◌, Some, codes, decimal};
 ghost use Rattle.mc_check.specs.ReasonText.{lan_name, reason_text, router_name, verdict_text};
 
 use crate::verdict::{Reason, Verdict};
@@ -29,6 +29,61 @@ fn router_name(topology: &Topology, router: RouterNo) -> &str
     }
 }
 
+/// A word with the name of a LAN, as `Missed l2`.
+#[derive(Clone, Copy, Drop)]
+struct AtLan<'t> {
+    word: &'t str,
+    lan: &'t str,
+}
+
+impl<'t> AtLan<'t> {
+    /// The word with the name of this LAN.
+    fn new(word: &'t str, topology: &'t Topology, lan: LanNo) -> Self
+        ensures word { result.word.now ≡ word.now }
+        ensures lan { result.lan.now ≡ lan_name topology.now lan }
+    {
+        let lan = lan_name(topology, lan);
+        Self { word, lan }
+    }
+}
+
+impl<'t> fmt::Display for AtLan<'t> {
+    ghost output = { λ at. Some (at.word.now ++ codes " " ++ at.lan.now) };
+
+    fn fmt<W: fmt::Write>(&self, f: &mut fmt::Formatter<W>) -> fmt::Result {
+        write!(f, "{} {}", self.word, self.lan)
+    }
+}
+
+/// A word with the name of a router and its vif, as `Stray r3 1`.
+#[derive(Clone, Copy, Drop)]
+struct AtVif<'t> {
+    word: &'t str,
+    router: &'t str,
+    vif: u8,
+}
+
+impl<'t> AtVif<'t> {
+    /// The word with the name of this router and this vif of it.
+    fn new(word: &'t str, topology: &'t Topology, router: RouterNo, vif: u8) -> Self
+        ensures word { result.word.now ≡ word.now }
+        ensures router { result.router.now ≡ router_name topology.now router }
+        ensures vif { result.vif ≡ vif }
+    {
+        let router = router_name(topology, router);
+        Self { word, router, vif }
+    }
+}
+
+impl<'t> fmt::Display for AtVif<'t> {
+    ghost output = { λ at. Some (at.word.now ++ codes " " ++ at.router.now ++ codes " "
+        ++ decimal at.vif) };
+
+    fn fmt<W: fmt::Write>(&self, f: &mut fmt::Formatter<W>) -> fmt::Result {
+        write!(f, "{} {} {}", self.word, self.router, self.vif)
+    }
+}
+
 /// A reason, to be written by the names of a topology, as `Extra r3 1 l2`.
 #[derive(Clone, Copy, Drop)]
 pub struct ShownReason<'t> {
@@ -44,23 +99,19 @@ impl<'t> fmt::Display for ShownReason<'t> {
     fn fmt<W: fmt::Write>(&self, f: &mut fmt::Formatter<W>) -> fmt::Result {
         let topology = self.topology;
         match self.reason {
-            Reason::TwoEntries(lan) => write!(f, "TwoEntries {}", lan_name(topology, lan)),
+            Reason::TwoEntries(lan) => AtLan::new("TwoEntries", topology, lan).fmt(f),
             Reason::BadSource => f.write_str("BadSource"),
-            Reason::Wildcard(router, vif) => {
-                write!(f, "Wildcard {} {vif}", router_name(topology, router))
-            }
-            Reason::Stray(router, vif) => {
-                write!(f, "Stray {} {vif}", router_name(topology, router))
-            }
+            Reason::Wildcard(router, vif) => AtVif::new("Wildcard", topology, router, vif).fmt(f),
+            Reason::Stray(router, vif) => AtVif::new("Stray", topology, router, vif).fmt(f),
             Reason::Extra(router, vif, lan) => {
-                let lan = lan_name(topology, lan);
-                write!(f, "Extra {} {vif} {lan}", router_name(topology, router))
+                let place = AtVif::new("Extra", topology, router, vif);
+                write!(f, "{place} {}", lan_name(topology, lan))
             }
-            Reason::WrongRank(lan) => write!(f, "WrongRank {}", lan_name(topology, lan)),
-            Reason::WrongNeed(lan) => write!(f, "WrongNeed {}", lan_name(topology, lan)),
-            Reason::Unfed(lan) => write!(f, "Unfed {}", lan_name(topology, lan)),
-            Reason::Missed(lan) => write!(f, "Missed {}", lan_name(topology, lan)),
-            Reason::Low(lan) => write!(f, "Low {}", lan_name(topology, lan)),
+            Reason::WrongRank(lan) => AtLan::new("WrongRank", topology, lan).fmt(f),
+            Reason::WrongNeed(lan) => AtLan::new("WrongNeed", topology, lan).fmt(f),
+            Reason::Unfed(lan) => AtLan::new("Unfed", topology, lan).fmt(f),
+            Reason::Missed(lan) => AtLan::new("Missed", topology, lan).fmt(f),
+            Reason::Low(lan) => AtLan::new("Low", topology, lan).fmt(f),
         }
     }
 }

@@ -282,12 +282,3 @@ item-from cs k i c lt at = (
 pub end-from : (cs : List Copy) (k i : ℕ) → length (take (length cs - k) (drop k cs)) ≤ i
     → length cs ≤ k + i
 end-from cs k i le = let e = ap length (from-place cs k) in omega (arith, le, e, length-drop' cs k)
-
--- ---- a vector that was lent as a slice
-
--- it holds what was written to the slice
-pub written-back : {A : Type 0} (n : ℕ) (xs ys : List A) → length xs ≡ length ys → n ≡ length ys
-    → take n (xs ++ drop (length xs) ys) ≡ xs
-written-back n xs ys same count =
-    ap (λ zs. take n (xs ++ zs)) (no-rest ys (length xs) (omega (arith, same)))
-    ∙ (ap (take n) (append-nil xs) ∙ whole-list xs n (omega (arith, same, count)))

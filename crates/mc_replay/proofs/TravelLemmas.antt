@@ -115,7 +115,7 @@ pub record IsOnItsWay (n : Net) (lans : ℕ) (c0 : Choices) (f0 : Flight) (c : C
   pub travel : (more : List Event) (g : Flight) (x : Finding) → Goes n lans c f more g x
       → Goes n lans c0 f0 (es ++ more) g x
 
-pub way-start : (n : Net) (lans t : ℕ) (c : Choices) (f : Flight) (es : List Event) → f ≡ start n t
+way-start : (n : Net) (lans t : ℕ) (c : Choices) (f : Flight) (es : List Event) → f ≡ start n t
     → es ≡ [] → IsOnItsWay n lans c (start n t) c f es
 way-start n lans t c f es e q = subst (λ (xs : List Event). IsOnItsWay n lans c (start n t) c f xs)
     (sym q)
@@ -123,6 +123,12 @@ way-start n lans t c f es e q = subst (λ (xs : List Event). IsOnItsWay n lans c
       room = λ is h. (let le = goes-on n lans t c.numbers c.last is h in omega (arith, le));
       travel = λ more g x h. h;
     }))
+
+-- the same, from a flight that is started
+pub way-from : (n : Net) (lans : ℕ) (c : Choices) (f : Flight) (es : List Event)
+    → (t : ℕ) × (f ≡ start n t) → es ≡ [] → IsOnItsWay n lans c f c f es
+way-from n lans c f es is none = subst (λ (s : Flight). IsOnItsWay n lans c s c f es) (sym is.1)
+    (way-start n lans is.0 c f es is.1 none)
 
 -- no more events than there is room for
 pub way-short : (n : Net) (lans : ℕ) (c0 : Choices) (f0 : Flight) (c : Choices) (f : Flight)
@@ -184,16 +190,18 @@ way-next n lans c0 f0 c c' f g es es' pick e way none chosen left next event pus
 
 -- ---- the same over a domain
 
-net-same : (a d : DomainValue) (v w : ℕ) → a ≡ d → v ≡ w → net_of a v ≡ net_of d w
+pub net-same : (a d : DomainValue) (v w : ℕ) → a ≡ d → v ≡ w → net_of a v ≡ net_of d w
 net-same a d v w e q = ap (λ (x : DomainValue). net_of x v) e ∙ ap (net_of d) q
 
--- what a flight's finding is
-pub found-at : (a d : DomainValue) (v w : ℕ) (f : Flight) (o : Option Finding) → a ≡ d → v ≡ w
-    → o ≡ finding (net_of a v) (length a.topology.lans) f
-    → finding (net_of d w) (length d.topology.lans) f ≡ o
-found-at a d v w f o e q h =
-    ap (λ (n : Net). finding n (length d.topology.lans) f) (sym (net-same a d v w e q))
-    ∙ (ap (λ (x : DomainValue). finding (net_of a v) (length x.topology.lans) f) (sym e) ∙ sym h)
+-- what went on from a flight that is started
+pub run-from : (a d : DomainValue) (v w t : ℕ) (c : Choices) (f g : Flight) (es : List Event)
+    (x : Finding) → a ≡ d → v ≡ w → f ≡ start (net_of d w) t
+    → Goes (net_of a v) (length a.topology.lans) c f es g x
+    → Goes (net_of d w) (length d.topology.lans) c (start (net_of d w) t) es g x
+run-from a d v w t c f g es x e q is goes =
+    subst (λ (s : Flight). Goes (net_of d w) (length d.topology.lans) c s es g x) is
+    (subst (λ (u : ℕ). Goes (net_of d u) (length d.topology.lans) c f es g x) q
+    (subst (λ (b : DomainValue). Goes (net_of b v) (length b.topology.lans) c f es g x) e goes))
 
 -- what a flight is after a handling
 pub flown-at : (d : DomainValue) (w i : ℕ) (j k : Journey) → j.domain ≡ d → j.flow ≡ w

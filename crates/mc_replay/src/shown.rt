@@ -1,6 +1,6 @@
 //! An event and a finding as they are written, by the names of a topology.
 
-ghost use Rattle.std.specs.Prelude.{◌≡◌, Some};
+ghost use Rattle.std.specs.Prelude.{◌≡◌, ◌++◌, Some, codes};
 ghost use Rattle.mc_replay.specs.TravelText.{event_text, finding_text, lan_name, outcome_text};
 ghost use Rattle.mc_replay.specs.TravelText.{router_name};
 
@@ -82,6 +82,32 @@ pub fn shown_event(event: Event, topology: &Topology) -> ShownEvent<'_>
     ShownEvent { event, topology }
 }
 
+/// A word with the name of a LAN, as `Missed l2`.
+#[derive(Clone, Copy, Drop)]
+struct AtLan<'t> {
+    word: &'t str,
+    lan: &'t str,
+}
+
+impl<'t> AtLan<'t> {
+    /// The word with the name of this LAN.
+    fn new(word: &'t str, topology: &'t Topology, lan: LanNo) -> Self
+        ensures word { result.word.now ≡ word.now }
+        ensures lan { result.lan.now ≡ lan_name topology.now lan }
+    {
+        let lan = lan_name(topology, lan);
+        Self { word, lan }
+    }
+}
+
+impl<'t> fmt::Display for AtLan<'t> {
+    ghost output = { λ at. Some (at.word.now ++ codes " " ++ at.lan.now) };
+
+    fn fmt<W: fmt::Write>(&self, f: &mut fmt::Formatter<W>) -> fmt::Result {
+        write!(f, "{} {}", self.word, self.lan)
+    }
+}
+
 /// A finding, to be written by the names of a topology, as `Missed l2`.
 #[derive(Clone, Copy, Drop)]
 pub struct ShownFinding<'t> {
@@ -98,12 +124,12 @@ impl<'t> fmt::Display for ShownFinding<'t> {
         let topology = self.topology;
         match self.finding {
             Finding::Clean => f.write_str("Clean"),
-            Finding::Duplicate(lan) => write!(f, "Duplicate {}", lan_name(topology, lan)),
-            Finding::Loop(lan) => write!(f, "Loop {}", lan_name(topology, lan)),
+            Finding::Duplicate(lan) => AtLan::new("Duplicate", topology, lan).fmt(f),
+            Finding::Loop(lan) => AtLan::new("Loop", topology, lan).fmt(f),
             Finding::Stray(router, vif) => {
                 write!(f, "Stray {} {vif}", router_name(topology, router))
             }
-            Finding::Missed(lan) => write!(f, "Missed {}", lan_name(topology, lan)),
+            Finding::Missed(lan) => AtLan::new("Missed", topology, lan).fmt(f),
         }
     }
 }

@@ -1,15 +1,21 @@
 //! Travels of packets.
 
-ghost use Rattle.std.specs.Prelude.{◌≡◌, ◌<◌, IfOk, length};
-ghost use Rattle.mc_replay.specs.Travels.{HasShortTravel, IsRunOfChoices, IsRunTo, ShowsItsFinding};
-ghost use Rattle.mc_replay.specs.Travels.{ShowsWrongFlow, WalksEndAtSource, replay_of};
+ghost use Rattle.std.specs.Prelude.{◌≡◌, ℕ, ◌<◌, ◌≤◌, IfOk, [], length};
+ghost use Rattle.mc_theory.specs.Flights.{start};
+ghost use Rattle.mc_theory.specs.Nets.{placed_vifs};
+ghost use Rattle.mc_forward.specs.Domains.{net_of};
+ghost use Rattle.mc_replay.specs.FindingValues.{finding_value};
+ghost use Rattle.mc_replay.specs.Firsts.{AreFirsts};
+ghost use Rattle.mc_replay.specs.Travels.{Goes, HasShortTravel, IsRunOfChoices, IsRunTo};
+ghost use Rattle.mc_replay.specs.Travels.{ShowsItsFinding, ShowsWrongFlow, WalksEndAtSource};
+ghost use Rattle.mc_replay.specs.Travels.{replay_of};
 
 use crate::finding::Finding;
 use crate::firsts::{no_firsts, take_in};
 use crate::followed::Followed;
 use crate::found::finding_of;
 use crate::picker::Picker;
-use mc_forward::{Domain, Event, Flight};
+use mc_forward::{Carried, Domain, Event, Flight};
 use mc_text::Memory;
 use std::alloc::Global;
 
@@ -30,6 +36,45 @@ pub struct Ended<'d> {
     pub travel: Travel,
     /// The flight after its last event.
     pub flight: Flight<'d>,
+}
+
+/// Has the copies of a flight handled as the picker chooses, up to the first flight that shows
+/// something, and tells what that shows. The handlings go into `events`, and the first copy of each
+/// LAN into `firsts`.
+fn travel_on<'d, P: Picker>(
+    followed: &Followed<'d>,
+    flight: &mut Flight<'d>,
+    firsts: &mut [Option<Carried>],
+    events: &mut Vec<Event>,
+    picker: &mut P,
+) -> Result<Finding, Memory>
+    requires domain { flight.old.domain ≡ followed.now.domain.now }
+    requires flow { flight.old.flow ≡ followed.now.flow }
+    requires start { (ttl : ℕ) × (flight.old.flight
+        ≡ start (net_of followed.now.domain.now followed.now.flow) ttl) }
+    requires count { length firsts.old ≡ length followed.now.domain.now.topology.lans }
+    requires firsts { AreFirsts firsts.old [] }
+    requires events { events.old.items ≡ [] }
+    ensures domain { IfOk result (λ _. flight.new.domain ≡ followed.now.domain.now) }
+    ensures flow { IfOk result (λ _. flight.new.flow ≡ followed.now.flow) }
+    ensures run { IfOk result (λ finding. Goes
+        (net_of followed.now.domain.now followed.now.flow)
+        (length followed.now.domain.now.topology.lans) (P.choices picker.old) flight.old.flight
+        events.new.items flight.new.flight (finding_value finding)) }
+    ensures short { IfOk result (λ _. length events.new.items
+        ≤ length (placed_vifs (net_of followed.now.domain.now followed.now.flow))) }
+{
+    let mut seen = 0;
+    'travel: loop {
+        let copies = flight.copies();
+        let second = take_in(firsts, copies, seen);
+        seen = copies.len();
+        if let Some(finding) = finding_of(followed, flight, firsts, second) {
+            return Ok(finding);
+        }
+        let pick = picker.pick(flight.waiting());
+        events.push(flight.handle(pick)?)?;
+    }
 }
 
 /// The travel of a packet of a flow with this time to live, 1 to 255, and the flight that it ends
@@ -60,20 +105,11 @@ pub fn replay_to_end<'d, P: Picker>(
 {
     let followed = Followed::new(domain, flow);
     let mut firsts = no_firsts(alloc, followed.lans())?;
-    let mut seen = 0;
-    let mut events = Vec::new(alloc);
     let mut flight = Flight::start(alloc, domain, flow, ttl)?;
-    'travel: loop {
-        let copies = flight.copies();
-        let second = take_in(&mut firsts, copies, seen);
-        seen = copies.len();
-        if let Some(finding) = finding_of(&followed, &flight, &firsts, second) {
-            let travel = Travel { events, finding };
-            return Ok(Ended { travel, flight });
-        }
-        let pick = picker.pick(flight.waiting());
-        events.push(flight.handle(pick)?)?;
-    }
+    let mut events = Vec::new(alloc);
+    let finding = travel_on(&followed, &mut flight, &mut firsts, &mut events, picker)?;
+    let travel = Travel { events, finding };
+    Ok(Ended { travel, flight })
 }
 
 /// The travel of a packet of a flow with this time to live, 1 to 255, whose copies are handled in

@@ -1,0 +1,76 @@
+-- Event by event.
+use Rattle.std.proofs.Common.{◌≡◌, ℕ, [], ◌∷◌, length, slice_get, None, Some, ap, subst, refl, sym}
+use Rattle.std.proofs.Common.{◌∙◌, arith, length-append}
+use Rattle.mc_theory.specs.Findings.{choice, finding}
+use Rattle.mc_forward.specs.Domains.{net_of}
+use Rattle.mc_replay.specs.Firsts.{AreFirsts}
+use Rattle.mc_replay.specs.FindingValues.{finding_value}
+use Rattle.mc_replay.proofs.TravelLemmas.{looked-start, looked-next, way-from, way-room, way-short}
+use Rattle.mc_replay.proofs.TravelLemmas.{way-end, way-next, flown-at, seen-at}
+use Rattle.mc_replay.proofs.travel.travel_on.Goals as goal
+
+pub travel-init : goal.travel-init
+travel-init g c =
+    let d = c.args.followed.now.domain.now in
+    record {
+      domain = c.requires.domain;
+      flow = c.requires.flow;
+      looked = looked-start c.args.firsts.now _ _ c.requires.count c.requires.firsts;
+      way = way-from (net_of d c.args.followed.now.flow) (length d.topology.lans) _ _ _
+          c.requires.start c.requires.events;
+    }
+
+pub returns-in-Some-clause-run : goal.returns-in-Some-clause-run
+returns-in-Some-clause-run g c =
+    let d = c.args.followed.now.domain.now in
+    way-end (net_of d c.args.followed.now.flow) (length d.topology.lans) _ _ _ _ _ _
+    c.travel.invariant.way (sym c.in-Some.ensures)
+
+pub returns-in-Some-clause-short : goal.returns-in-Some-clause-short
+returns-in-Some-clause-short g c =
+    let d = c.args.followed.now.domain.now in
+    way-short (net_of d c.args.followed.now.flow) (length d.topology.lans) _ _ _ _ _
+    c.travel.invariant.way
+
+pub travel-smaller : goal.travel-smaller
+travel-smaller g c =
+    let d = c.args.followed.now.domain.now in
+    let n = net_of d c.args.followed.now.flow in
+    let f = c.travel.flight.flight in
+    let none : finding n (length d.topology.lans) f ≡ None = sym c.in_default.ensures in
+    let chosen = c.pick-pick.ensures.value
+    ∙ ap (λ (w : ℕ). choice w (g.P.Picker.choices c.travel.picker).numbers
+    (g.P.Picker.choices c.travel.picker).last) c.waiting.ensures in
+    let room = way-room n (length d.topology.lans) _ _ _ _ _ c.pick-pick.result
+    c.travel.invariant.way none chosen in
+    let more = ap length c.in_ok-push.ensures.items in
+    omega (arith, room, more, length-append c.travel.events.items (c.in_ok-handle.field-0 ∷ []))
+
+pub travel-preserved : goal.travel-preserved
+travel-preserved g c =
+    let d = c.args.followed.now.domain.now in
+    let n = net_of d c.args.followed.now.flow in
+    let f = c.travel.flight.flight in
+    let none : finding n (length d.topology.lans) f ≡ None = sym c.in_default.ensures in
+    let chosen = c.pick-pick.ensures.value
+    ∙ ap (λ (w : ℕ). choice w (g.P.Picker.choices c.travel.picker).numbers
+    (g.P.Picker.choices c.travel.picker).last) c.waiting.ensures in
+    let inv = c.travel.invariant in
+    let next = flown-at d c.args.followed.now.flow c.pick-pick.result c.travel.flight
+    c.handle.new.self inv.domain inv.flow c.in_ok-handle.ensures.ok in
+    let event = seen-at d c.args.followed.now.flow c.travel.flight
+    (slice_get f.waiting c.pick-pick.result) c.in_ok-handle.field-0 inv.domain inv.flow
+    c.in_ok-handle.ensures.event in
+    let new = c.take_in-second.new.firsts in
+    let filled = subst (AreFirsts new) c.copies-copies.ensures.copies
+    c.take_in-second.ensures.firsts in
+    record {
+      domain = next.0;
+      flow = next.1;
+      looked = looked-next n (length d.topology.lans) _ c.pick-pick.result _ f
+          c.handle.new.self.flight (c.take_in-second.auto.firsts ∙ inv.looked.count) filled none
+          (ap length c.copies-copies.ensures.copies) next.2;
+      way = way-next n (length d.topology.lans) _ _ _ _ f c.handle.new.self.flight
+          c.travel.events.items c.push.new.self.items c.pick-pick.result c.in_ok-handle.field-0
+          inv.way none chosen c.pick-pick.ensures.rest next.2 event c.in_ok-push.ensures.items;
+    }

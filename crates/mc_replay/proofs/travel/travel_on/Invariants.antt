@@ -1,0 +1,20 @@
+use Rattle.std.proofs.Common.{◌≡◌, ◌-◌, length}
+use Rattle.mc_theory.specs.Nets.{placed_vifs}
+use Rattle.mc_forward.specs.Domains.{net_of}
+use Rattle.mc_replay.proofs.TravelLemmas.{IsOnItsWay, Looked}
+use Rattle.mc_replay.proofs.travel.travel_on.Given as goal
+
+abbrev pub invariant-travel : goal.invariant-travel
+invariant-travel g l = record {
+  domain : l.flight.domain ≡ l.fn.followed.domain.now;
+  flow : l.flight.flow ≡ l.fn.followed.flow;
+  looked : Looked l.firsts (length l.fn.followed.domain.now.topology.lans) l.seen
+      l.flight.flight.carried;
+  way : IsOnItsWay (net_of l.fn.followed.domain.now l.fn.followed.flow)
+      (length l.fn.followed.domain.now.topology.lans) (g.P.Picker.choices l.fn.picker)
+      l.fn.flight.flight (g.P.Picker.choices l.picker) l.flight.flight l.events.items;
+}
+
+abbrev pub decreases-travel : goal.decreases-travel
+decreases-travel g l = length (placed_vifs (net_of l.fn.followed.domain.now l.fn.followed.flow))
+    - length l.events.items

@@ -11,12 +11,13 @@ use Rattle.mc_topology.specs.Rows.{RouterRow}
 use Rattle.mc_topology.specs.Topology.{TopologyValue}
 use Rattle.mc_forward.specs.Domains.{TablesValue}
 use Rattle.mc_files.specs.Files.{FileText}
-use Rattle.mc_input.specs.InputView.{files_value}
+use Rattle.mc_input.specs.InputView.{contents_value, files_value}
 use Rattle.mc_input.specs.FilesFault.{Gives, failed_files}
 use Rattle.mc_input.specs.FilesReading.{topology_of, router_tables, all_tables, lan_reports}
 use Rattle.mc_input.specs.FilesReading.{all_reports, files_of}
 use Rattle.mc_input.specs.declared.fault.InputFault.TheVariants.{Memory}
 use Rattle.mc_input.specs.declared.files.FilesInput.{FilesInput}
+use Rattle.mc_input.specs.declared.input.Contents.{Contents}
 use Rattle.mc_input.specs.declared.files_fault.FilesFault.{FilesFault}
 use Rattle.mc_input.specs.declared.files_fault.FilesFault.TheVariants.{Input, TooLarge, Read}
 use Rattle.mc_input.proofs.NameLemmas.{drop-at}
@@ -126,19 +127,19 @@ topology_refused files r fault given is =
     rw (is) (λ read memory. rw (given read memory) refl)
 
 pub tables_refused_in : (files : List FileText) (t : TopologyValue)
-    (r : Result FilesInput FilesFault)
+    (r : Result Contents FilesFault)
     (fault : FilesFault) → topology_of files ≡ Ok t
     → (fault ≢ Read → fault ≢ Input Memory → all_tables t.routers files ≡ Err fault)
-    → r ≡ Err fault → Gives files_value r (files_of files)
+    → r ≡ Err fault → Gives (contents_value t) r (files_of files)
 unfolding files_of
 tables_refused_in files t r fault topology given is =
     rw (is) (λ read memory. rw (topology, given read memory) refl)
 
 pub reports_refused_in : (files : List FileText) (t : TopologyValue) (ts : List TablesValue)
-    (r : Result FilesInput FilesFault) (fault : FilesFault) → topology_of files ≡ Ok t
+    (r : Result Contents FilesFault) (fault : FilesFault) → topology_of files ≡ Ok t
     → all_tables t.routers files ≡ Ok ts
     → (fault ≢ Read → fault ≢ Input Memory → all_reports t.lans files ≡ Err fault)
-    → r ≡ Err fault → Gives files_value r (files_of files)
+    → r ≡ Err fault → Gives (contents_value t) r (files_of files)
 unfolding files_of
 reports_refused_in files t ts r fault topology tables given is =
     rw (is) (λ read memory. rw (topology, tables, given read memory) refl)

@@ -1,12 +1,18 @@
 -- What was read of a bundle or of files, as the value that it stands for.
 use Rattle.std.specs.Prelude.{ℕ, List, Option, Some, None}
 use denote.Ref.{Bor}
+use Rattle.mc_topology.specs.Topology.{TopologyValue}
 use Rattle.mc_input.specs.declared.input.BundleInput.{BundleInput}
+use Rattle.mc_input.specs.declared.input.Contents.{Contents}
 use Rattle.mc_input.specs.declared.files.FilesInput.{FilesInput}
 use Rattle.mc_input.specs.Input.{InputValue}
 
 abbrev pub input_value : BundleInput → InputValue
 input_value i = record { topology = i.topology; tables = i.tables.items; reports = i.reports.items }
+
+-- with this topology
+abbrev pub contents_value : TopologyValue → Contents → InputValue
+contents_value t c = record { topology = t; tables = c.tables.items; reports = c.reports.items }
 
 -- the text of the certificate
 abbrev pub certificate_seen : Option (Bor (List ℕ)) → Option (List ℕ)

@@ -7,11 +7,13 @@ ghost use Rattle.mc_topology.specs.Names.{is_name};
 ghost use Rattle.mc_input.specs.FilesFault.{Gives, GivesOf, failed_files};
 ghost use Rattle.mc_input.specs.FilesInput.{FilesStand};
 ghost use Rattle.mc_input.specs.FilesReading.{all_reports, all_tables, files_of, router_tables};
+ghost use Rattle.mc_input.specs.FilesReading.{topology_of};
 ghost use Rattle.mc_input.specs.Input.{InputValue};
-ghost use Rattle.mc_input.specs.InputView.{files_value};
+ghost use Rattle.mc_input.specs.InputView.{contents_value, files_value};
 
 use crate::file_part::{cache_in, reports_in, topology_in, vifs_in};
 use crate::files_fault::FilesFault;
+use crate::input::Contents;
 use mc_files::FileSource;
 use mc_forward::Tables;
 use mc_igmp::ReportList;
@@ -95,6 +97,25 @@ fn reports_of_lans<F: FileSource>(
     Ok(reports)
 }
 
+/// What the files beside the topology tell, one after another.
+fn contents_in<F: FileSource>(
+    alloc: Global,
+    files: &mut F,
+    topology: &Topology,
+) -> Result<Contents, FilesFault>
+    requires reads { F.failed files.old < u64.MAX }
+    ensures same { F.names files.new ≡ F.names files.old }
+    ensures kept { F.told files.new ≡ F.told files.old }
+    ensures contents { (told : List FileText) → F.told files.old ≡ Some told
+        → topology_of told ≡ Ok topology.now
+        → Gives (contents_value topology.now) result (files_of told) }
+    ensures failures { F.failed files.new ≡ failed_files result (F.failed files.old) }
+{
+    let tables = tables_in(alloc, files, topology)?;
+    let reports = reports_of_lans(alloc, files, topology)?;
+    Ok(Contents { tables, reports })
+}
+
 /// Reads what a folder's files tell of a domain: `topology`, `vif-<router>` and `cache-<router>`
 /// for each router, and `igmp-<lan>` for each LAN, each in the order of the topology. Each file may
 /// have 16,777,216 bytes, and is judged before the next one is asked for. The count of the source's
@@ -120,11 +141,10 @@ pub fn read_files<F: FileSource>(alloc: Global, files: &mut F) -> Result<FilesIn
     ensures failures { F.failed files.new ≡ failed_files result (F.failed files.old) }
 {
     let topology = topology_in(alloc, files)?;
-    let tables = tables_in(alloc, files, &topology)?;
-    let reports = reports_of_lans(alloc, files, &topology)?;
+    let contents = contents_in(alloc, files, &topology)?;
     Ok(FilesInput {
         topology,
-        tables,
-        reports,
+        tables: contents.tables,
+        reports: contents.reports,
     })
 }

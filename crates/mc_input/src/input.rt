@@ -1,11 +1,12 @@
 //! What a bundle tells of a domain, read in the order in which its parts are judged.
 
-ghost use Rattle.std.specs.Prelude.{◌≡◌, ℕ, Bool, List, Option, is_some, IfOk, Ok};
+ghost use Rattle.std.specs.Prelude.{◌≡◌, ℕ, Bool, List, length, Option, is_some, IfOk, OnOk, Ok};
 ghost use Rattle.mc_input.specs.Input.{InputValue, InputStands};
 ghost use Rattle.mc_input.specs.InputReading.{Gives, certificate_in, input_in as input_in_parts};
-ghost use Rattle.mc_input.specs.InputReading.{input_of, refused_as};
+ghost use Rattle.mc_input.specs.InputReading.{input_of, part_count, refused_as};
 ghost use Rattle.mc_input.specs.InputReading.{topology_in as topology_in_parts};
-ghost use Rattle.mc_input.specs.InputView.{certificate_seen, input_seen, input_value};
+ghost use Rattle.mc_input.specs.InputView.{certificate_seen, contents_value, input_seen};
+ghost use Rattle.mc_input.specs.InputView.{input_value};
 ghost use Rattle.mc_input.specs.declared.fault.InputFault.TheVariants.{Bundle as bundle_fault};
 ghost use Rattle.mc_input.specs.declared.fault.InputFault.TheVariants.{Topology as topology_fault};
 ghost use Rattle.mc_topology.specs.Reading.{reading_of};
@@ -60,6 +61,69 @@ fn topology_in(alloc: Global, bundle: &Bundle<'_>) -> Result<Topology, InputFaul
     topology_of(alloc, bundle.part(0).bytes)
 }
 
+/// What is told beside the topology: in its order the tables of each router and the report list of
+/// each LAN.
+#[derive(Drop)]
+pub(crate) struct Contents {
+    pub(crate) tables: Vec<Tables>,
+    pub(crate) reports: Vec<ReportList>,
+}
+
+/// What the parts after the topology tell: first their names and their number are judged, and then
+/// their contents.
+#[tactic(auto, unfolding(crate::specs::InputReading::input_in))]
+fn contents_in(
+    alloc: Global,
+    bundle: &Bundle<'_>,
+    topology: &Topology,
+    certified: bool,
+) -> Result<Contents, InputFault>
+    requires topology { topology_in_parts bundle.now ≡ Ok topology.now }
+    ensures contents { Gives (contents_value topology.now) result
+        (input_in_parts certified bundle.now) }
+    ensures count { OnOk result (length bundle.now ≡ part_count certified topology.now) }
+{
+    names_in(bundle, topology, certified)?;
+    let tables = tables_in(alloc, bundle, topology)?;
+    let reports = reports_in(alloc, bundle, topology)?;
+    Ok(Contents { tables, reports })
+}
+
+/// The text of the certificate, in the last part, where one is to be there.
+fn certificate_of<'a>(bundle: &Bundle<'a>, topology: &Topology, certified: bool) -> Option<&'a [u8]>
+    requires count { length bundle.now ≡ part_count certified topology.now }
+    ensures { certificate_seen result ≡ certificate_in certified bundle.now topology.now }
+{
+    let last = 1 + 2 * topology.routers() as usize + topology.lans() as usize;
+    if certified {
+        Some(bundle.part(last).bytes)
+    } else {
+        None
+    }
+}
+
+/// The input with this topology and these contents, and with the certificate where one is to be
+/// there.
+fn input_with<'a>(
+    bundle: &Bundle<'a>,
+    topology: Topology,
+    contents: Contents,
+    certified: bool,
+) -> BundleInput<'a>
+    requires count { length bundle.now ≡ part_count certified topology }
+    ensures input { input_value result ≡ contents_value topology contents }
+    ensures certificate { certificate_seen result.certificate ≡
+        certificate_in certified bundle.now topology }
+{
+    let certificate = certificate_of(bundle, &topology, certified);
+    BundleInput {
+        topology,
+        tables: contents.tables,
+        reports: contents.reports,
+        certificate,
+    }
+}
+
 /// What the parts tell: first the topology, then the names and the number of the other parts, and
 /// then their contents.
 #[tactic(auto, unfolding(crate::specs::InputReading::input_in))]
@@ -75,21 +139,8 @@ fn input_in<'a>(
         ≡ certified) }
 {
     let topology = topology_in(alloc, bundle)?;
-    names_in(bundle, &topology, certified)?;
-    let tables = tables_in(alloc, bundle, &topology)?;
-    let reports = reports_in(alloc, bundle, &topology)?;
-    let last = 1 + 2 * topology.routers() as usize + topology.lans() as usize;
-    let certificate = if certified {
-        Some(bundle.part(last).bytes)
-    } else {
-        None
-    };
-    Ok(BundleInput {
-        topology,
-        tables,
-        reports,
-        certificate,
-    })
+    let contents = contents_in(alloc, bundle, &topology, certified)?;
+    Ok(input_with(bundle, topology, contents, certified))
 }
 
 /// The parts of a bundle.

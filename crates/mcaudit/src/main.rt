@@ -85,8 +85,13 @@ fn run(rt: &(impl AllocGlobal + Files + Input + Print), task: Task<'_>) -> Resul
 {
     match task {
         Task::Wants { group, source } => wants(rt, group, source),
-        Task::Replay { flow, ttl, last } if last => replay(rt, flow, ttl, &mut Last),
-        Task::Replay { flow, ttl, .. } => replay(rt, flow, ttl, &mut First),
+        Task::Replay { flow, ttl, last } => {
+            if last {
+                replay(rt, flow, ttl, &mut Last)
+            } else {
+                replay(rt, flow, ttl, &mut First)
+            }
+        }
         Task::Check => check(rt),
         Task::Make => make(rt),
         Task::Pack {

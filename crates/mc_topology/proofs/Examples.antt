@@ -10,8 +10,8 @@ use Rattle.mc_topology.specs.Addresses.{source_address_of, group_address_of}
 use Rattle.mc_topology.specs.Answer.{each}
 use Rattle.mc_topology.specs.Document.{known_table, text_at, number_at, list_at, optional_text_at}
 use Rattle.mc_topology.specs.Document.{optional_list_at, rows_at}
-use Rattle.mc_topology.specs.Flows.{ttl_of, flow_of_values, flow_of, flow_rows, flows_in}
-use Rattle.mc_topology.specs.Interfaces.{interface_of_texts, interface_of, interfaces_in}
+use Rattle.mc_topology.specs.Flows.{ttl_of, flow_of, flow_rows, flows_in}
+use Rattle.mc_topology.specs.Interfaces.{interface_of, interfaces_in}
 use Rattle.mc_topology.specs.Lans.{lan_of, lan_rows, lans_in}
 use Rattle.mc_topology.specs.Names.{is_name, is_device}
 use Rattle.mc_topology.specs.Reading.{utf8_text, document_of, version_in, sections_in, topology_in}
@@ -39,8 +39,8 @@ pub text_is_read : reading_of text ≡ Ok (record {
 unfolding
     toml_on_literals is_utf8 chars digits reading_of topology_in sections_in document_of utf8_text
     version_in lans_in lan_rows lan_of
-    routers_in router_of order_of interfaces_in interface_of interface_of_texts sources_in source_of
-    flows_in flow_rows flow_of flow_of_values
+    routers_in router_of order_of interfaces_in interface_of sources_in source_of flows_in flow_rows
+    flow_of
     ttl_of known_table text_at number_at list_at optional_text_at optional_list_at rows_at is_name
     is_device
     source_address_of group_address_of address_of_text each

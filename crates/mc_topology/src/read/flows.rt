@@ -4,8 +4,7 @@ ghost use Rattle.std.specs.Prelude.{◌≡◌, ◌≢◌, ◌≤◌, map, length
 ghost use Rattle.toml.specs.View.{view, table_view};
 ghost use Rattle.mc_topology.specs.declared.fault.Section.TheVariants as section;
 ghost use Rattle.mc_topology.specs.Answer.{Answers, out_of_memory};
-ghost use Rattle.mc_topology.specs.Flows.{has_flow, ttl_of, flow_of_values, flow_of, flow_rows};
-ghost use Rattle.mc_topology.specs.Flows.{flows_in};
+ghost use Rattle.mc_topology.specs.Flows.{has_flow, ttl_of, flow_of, flow_rows, flows_in};
 
 use crate::fault::{Section, TopologyFault, TopologyFaultKind, place};
 use crate::flow::{Flow, MAX_FLOWS};
@@ -27,23 +26,21 @@ fn ttl_of(number: i64) -> Result<u8, TopologyFaultKind>
     Ok(number as u8)
 }
 
-/// The flow of a source, a group and a time to live, as they stand in the text.
-#[tactic(auto, unfolding(crate::specs::Flows::flow_of_values))]
-fn flow_of_values(
-    sources: &Sources,
-    earlier: &Flows,
-    source: &str,
-    group: &str,
-    number: i64,
-) -> Result<Flow, TopologyFaultKind>
-    ensures flow { result ≡ flow_of_values sources.now earlier.now source.now group.now number }
+/// Reads one flow, whose source and group none of the earlier ones has.
+#[tactic(auto, unfolding(crate::specs::Flows::flow_of))]
+fn flow_of(sources: &Sources, earlier: &Flows, value: &Value) -> Result<Flow, TopologyFaultKind>
+    ensures flow { result ≡ flow_of sources.now earlier.now (view value.now) }
     ensures new { IfOk result (λ f. has_flow f.source f.group earlier.now ≡ false) }
 {
-    let source = source_address_of(source)?;
+    let table = known_table(value, &["source", "group", "ttl"])?;
+    let source_text = text_at(table, "source")?;
+    let group_text = text_at(table, "group")?;
+    let number = number_at(table, "ttl")?;
+    let source = source_address_of(source_text)?;
     let lan = sources
         .lan_of(source)
         .ok_or(TopologyFaultKind::UnknownName)?;
-    let group = group_address_of(group)?;
+    let group = group_address_of(group_text)?;
     let ttl = ttl_of(number)?;
     if earlier.has(source, group) {
         return Err(TopologyFaultKind::RepeatedFlow);
@@ -54,19 +51,6 @@ fn flow_of_values(
         group,
         ttl,
     })
-}
-
-/// Reads one flow, whose source and group none of the earlier ones has.
-#[tactic(auto, unfolding(crate::specs::Flows::flow_of))]
-fn flow_of(sources: &Sources, earlier: &Flows, value: &Value) -> Result<Flow, TopologyFaultKind>
-    ensures flow { result ≡ flow_of sources.now earlier.now (view value.now) }
-    ensures new { IfOk result (λ f. has_flow f.source f.group earlier.now ≡ false) }
-{
-    let table = known_table(value, &["source", "group", "ttl"])?;
-    let source = text_at(table, "source")?;
-    let group = text_at(table, "group")?;
-    let number = number_at(table, "ttl")?;
-    flow_of_values(sources, earlier, source, group, number)
 }
 
 /// The list of flows, of which there is one at least.

@@ -4,8 +4,7 @@ ghost use Rattle.std.specs.Prelude.{◌≡◌, ◌≢◌, ◌≤◌, length, fal
 ghost use Rattle.toml.specs.View.{view, table_view};
 ghost use Rattle.mc_topology.specs.declared.fault.Section.TheVariants as section;
 ghost use Rattle.mc_topology.specs.Answer.{Answers, out_of_memory};
-ghost use Rattle.mc_topology.specs.Interfaces.{has_interface, interface_of_texts, interface_of};
-ghost use Rattle.mc_topology.specs.Interfaces.{interfaces_in};
+ghost use Rattle.mc_topology.specs.Interfaces.{has_interface, interface_of, interfaces_in};
 ghost use Rattle.mc_topology.specs.Kept.{interface_row};
 
 use crate::fault::{Section, TopologyFault, TopologyFaultKind, place};
@@ -18,40 +17,6 @@ use crate::read::rows::{Rows, each};
 use crate::routers::{MAX_ROUTERS, Routers};
 use std::alloc::Global;
 use toml::{Table, Value};
-
-/// The interface of a router, a device and a LAN, of these names.
-#[tactic(auto, unfolding(crate::specs::Interfaces::interface_of_texts))]
-fn interface_of_texts(
-    lans: &Lans,
-    routers: &Routers,
-    earlier: &Interfaces,
-    router_name: &str,
-    device: &str,
-    lan_name: &str,
-) -> Result<(InterfaceKey, LanNo), TopologyFaultKind>
-    requires few_lans { length lans.now ≤ MAX_LANS }
-    requires few_routers { length routers.now ≤ MAX_ROUTERS }
-    ensures interface { Answers interface_row result
-        (interface_of_texts lans.now routers.now earlier.now router_name.now device.now
-        lan_name.now) }
-    ensures new { IfOk result (λ i. has_interface i.0.router i.0.device.items earlier.now ≡ false) }
-    ensures short { IfOk result (λ i. length i.0.device.items ≤ 15) }
-{
-    let router = routers
-        .number_of(router_name)
-        .ok_or(TopologyFaultKind::UnknownName)?;
-    if !is_device(device) {
-        return Err(TopologyFaultKind::BadName);
-    }
-    let key = InterfaceKey::new(router, device.as_bytes()).ok_or(TopologyFaultKind::BadName)?;
-    let lan = lans
-        .number_of(lan_name)
-        .ok_or(TopologyFaultKind::UnknownName)?;
-    if earlier.has(&key) {
-        return Err(TopologyFaultKind::RepeatedInterface);
-    }
-    Ok((key, lan))
-}
 
 /// Reads one interface, whose router and device none of the earlier ones has.
 #[tactic(auto, unfolding(crate::specs::Interfaces::interface_of))]
@@ -72,7 +37,20 @@ fn interface_of(
     let router_name = text_at(table, "router")?;
     let device = text_at(table, "device")?;
     let lan_name = text_at(table, "lan")?;
-    interface_of_texts(lans, routers, earlier, router_name, device, lan_name)
+    let router = routers
+        .number_of(router_name)
+        .ok_or(TopologyFaultKind::UnknownName)?;
+    if !is_device(device) {
+        return Err(TopologyFaultKind::BadName);
+    }
+    let key = InterfaceKey::new(router, device.as_bytes()).ok_or(TopologyFaultKind::BadName)?;
+    let lan = lans
+        .number_of(lan_name)
+        .ok_or(TopologyFaultKind::UnknownName)?;
+    if earlier.has(&key) {
+        return Err(TopologyFaultKind::RepeatedInterface);
+    }
+    Ok((key, lan))
 }
 
 impl<'a> Rows<(&'a Lans, &'a Routers)> for Interfaces {

@@ -70,13 +70,19 @@ fn check_merged(
     Ok(())
 }
 
+// Merges the records of a list's text.
+fn check_merges(rt: &impl Abort, alloc: Global, text: &str, expected: &str) -> Result<(), Fail> {
+    let list = ReportList::read(alloc, text.as_bytes())?;
+    check_merged(rt, alloc, &list, expected)?;
+    Ok(())
+}
+
 #[test]
 fn merges(rt: HostRuntime) -> Result<(), Fail> {
     for case in MERGES.split(';') {
-        let (_, rest) = case.split_once('|').ok_or("no list")?;
-        let (text, expected) = rest.split_once('|').ok_or("no filter")?;
-        let list = ReportList::read(rt.alloc(), text.as_bytes())?;
-        check_merged(&rt, rt.alloc(), &list, expected)?;
+        let (_, rest) = case.split_once('|').expect(&rt, "a list");
+        let (text, expected) = rest.split_once('|').expect(&rt, "a filter");
+        check_merges(&rt, rt.alloc(), text, expected)?;
     }
     Ok(())
 }
@@ -123,11 +129,18 @@ const WANTS: &str = "\
 1101ecfe0000000002000000\n1600f8faef010203\n|wanted;\
 1101ecfe0000000002000000\n|not wanted";
 
+// Whether it is wanted as is expected.
+fn check_wanted(rt: &impl Abort, alloc: Global, text: &str, expected: &str) -> Result<(), Fail> {
+    let answer = wanted(alloc, text)?;
+    assert!(rt; answer.as_str() == expected, "{answer} at {text}");
+    Ok(())
+}
+
 #[test]
 fn wants_of_lists(rt: HostRuntime) -> Result<(), Fail> {
     for case in WANTS.split(';') {
-        let (text, expected) = case.split_once('|').ok_or("no answer")?;
-        assert_eq!(rt; wanted(rt.alloc(), text)?.as_str(), expected, "{text}");
+        let (text, expected) = case.split_once('|').expect(&rt, "an answer");
+        check_wanted(&rt, rt.alloc(), text, expected)?;
     }
     Ok(())
 }

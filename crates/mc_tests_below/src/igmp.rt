@@ -86,13 +86,24 @@ const MESSAGES: &str = "\
 1600f8fdef0102|Short/\
 2200e9f90000000103000000ef010203|Change(3) 239.1.2.3;";
 
+// A message is what is wanted.
+fn check_message(
+    rt: &impl Abort,
+    alloc: Global,
+    bytes: &[u8],
+    want: &str,
+) -> Result<(), AllocError> {
+    let shown = message_shown(alloc, bytes)?;
+    assert!(rt; shown.as_str() == want, "{shown}");
+    Ok(())
+}
+
 #[test]
 fn messages(rt: HostRuntime) -> Result<(), Fail> {
     for case in MESSAGES.split('/') {
-        let (digits, want) = case.split_once('|').ok_or("no answer")?;
+        let (digits, want) = case.split_once('|').expect(&rt, "an answer");
         let bytes = hex::decode(rt.alloc(), digits)?;
-        let shown = message_shown(rt.alloc(), &bytes)?;
-        assert_eq!(rt; shown.as_str(), want, "{digits}");
+        check_message(&rt, rt.alloc(), &bytes, want)?;
     }
     Ok(())
 }
@@ -120,12 +131,18 @@ const RECORDS: &str = "\
 2200e0f20000000102000001ef0102030a000006\n\
 |Include 232.1.1.1 10.0.0.9;Exclude 239.1.2.3 10.0.0.5 10.0.0.6;Exclude 232.1.1.1 10.0.0.5;Exclude 239.1.2.3 10.0.0.6 10.0.0.7;Exclude 239.1.2.3 10.0.0.6;";
 
+// A text is read as these records, or has this fault.
+fn check_shown(rt: &impl Abort, alloc: Global, text: &str, want: &str) -> Result<(), AllocError> {
+    let shown = list_shown(alloc, text)?;
+    assert!(rt; shown.as_str() == want, "{shown}");
+    Ok(())
+}
+
 #[test]
 fn records_of_lists(rt: HostRuntime) -> Result<(), Fail> {
     for case in RECORDS.split('/') {
-        let (text, want) = case.split_once('|').ok_or("no records")?;
-        let shown = list_shown(rt.alloc(), text)?;
-        assert_eq!(rt; shown.as_str(), want, "{text}");
+        let (text, want) = case.split_once('|').expect(&rt, "records");
+        check_shown(&rt, rt.alloc(), text, want)?;
     }
     Ok(())
 }
@@ -172,28 +189,25 @@ zz|0: Unended/\
 1600f8fbef010203\nzz\n|0: BadChecksum/\
 2200e9f90000000103000000ef010203\nzz|1: StateChange";
 
+// A text is refused at the second line, behind a good one.
+fn check_second_line(
+    rt: &impl Abort,
+    alloc: Global,
+    want: &str,
+    text: &str,
+) -> Result<(), AllocError> {
+    let after_another = format!(in alloc; "{ALL_SOURCES}\n{text}")?;
+    check_fault(rt, alloc, "line 2 record ", want, after_another.as_str())
+}
+
 // Each text is refused at its first line, and at the second one behind a good line.
 #[test]
 fn faults_of_lists(rt: HostRuntime) -> Result<(), Fail> {
     for case in FAULTS.split('/') {
-        let (text, want) = case.split_once('|').ok_or("no fault")?;
+        let (text, want) = case.split_once('|').expect(&rt, "a fault");
         check_fault(&rt, rt.alloc(), "line 1 record ", want, text)?;
-        let after_another = format!(in rt.alloc(); "{ALL_SOURCES}\n{text}")?;
-        check_fault(
-            &rt,
-            rt.alloc(),
-            "line 2 record ",
-            want,
-            after_another.as_str(),
-        )?;
+        check_second_line(&rt, rt.alloc(), want, text)?;
     }
-    Ok(())
-}
-
-// A text is read as no record, or has this fault.
-fn check_shown(rt: &impl Abort, alloc: Global, text: &str, want: &str) -> Result<(), AllocError> {
-    let shown = list_shown(alloc, text)?;
-    assert!(rt; shown.as_str() == want, "{shown}");
     Ok(())
 }
 

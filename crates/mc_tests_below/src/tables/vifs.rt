@@ -1,7 +1,7 @@
 //! Texts of `/proc/net/ip_mr_vif`.
 
 use mc_tables::{TableFault, TableFaultKind, VifTable};
-use std::alloc::Global;
+use std::alloc::{AllocError, Global};
 use std::process::Abort;
 use std::test::Fail;
 
@@ -122,12 +122,24 @@ fn fault_of(alloc: Global, text: &[u8]) -> Option<TableFault> {
     VifTable::read(alloc, text).err()
 }
 
+/// The fault of a text is printed so.
+fn check_refused(
+    rt: &impl Abort,
+    alloc: Global,
+    text: &str,
+    wanted: &str,
+) -> Result<(), AllocError> {
+    let fault = fault_of(alloc, text.as_bytes()).expect(rt, "a fault");
+    let printed = fault.to_string(alloc)?;
+    assert!(rt; printed.as_str() == wanted, "{printed} at {text}");
+    Ok(())
+}
+
 #[test]
 fn refuses_vif_tables(rt: HostRuntime) -> Result<(), Fail> {
     for case in FAULTS.split(';') {
-        let (text, wanted) = case.split_once('|').ok_or("no fault")?;
-        let fault = fault_of(rt.alloc(), text.as_bytes()).ok_or("a table")?;
-        assert_eq!(rt; fault.to_string(rt.alloc())?.as_str(), wanted, "{text}");
+        let (text, wanted) = case.split_once('|').expect(&rt, "a fault");
+        check_refused(&rt, rt.alloc(), text, wanted)?;
     }
     Ok(())
 }

@@ -58,32 +58,23 @@ fn wrong_words(rt: HostRuntime) -> Result<(), Fail> {
     Ok(())
 }
 
-/// The line's words ask for this.
-fn asks_for(
-    rt: &impl Abort,
-    alloc: Global,
-    line: &'static str,
-    task: Task<'static>,
-) -> Result<(), AllocError> {
-    let words = words_of(alloc, line)?;
-    assert_eq!(rt; command_of(alloc, &words).ok(), Some(task));
-    Ok(())
-}
-
 #[test]
-fn words(rt: HostRuntime) -> Result<(), Fail> {
-    let alloc = rt.alloc();
+fn words(rt: HostRuntime) {
+    let task = command_of(rt.alloc(), &["mcaudit", "wants", "239.1.2.3", "10.0.0.5"]);
     let group = Addr::from_octets(GROUP);
     let source = Addr::from_octets(SOURCE);
-    let wants = Task::Wants { group, source };
-    asks_for(&rt, alloc, "mcaudit wants 239.1.2.3 10.0.0.5", wants)?;
-    asks_for(&rt, alloc, "mcaudit check", Task::Check)?;
+    assert_eq!(rt; task.ok(), Some(Task::Wants { group, source }));
+    let check = command_of(rt.alloc(), &["mcaudit", "check"]);
+    assert_eq!(rt; check.ok(), Some(Task::Check));
+    let audit = command_of(rt.alloc(), &["mcaudit", "audit", "network", "--travel"]);
     let (folder, travels) = ("network", true);
-    let audit = Task::Audit { folder, travels };
-    asks_for(&rt, alloc, "mcaudit audit network --travel", audit)?;
-    asks_for(&rt, alloc, "mcaudit make", Task::Make)?;
+    assert_eq!(rt; audit.ok(), Some(Task::Audit { folder, travels }));
+    let make = command_of(rt.alloc(), &["mcaudit", "make"]);
+    assert_eq!(rt; make.ok(), Some(Task::Make));
+    let replay = command_of(
+        rt.alloc(),
+        &["mcaudit", "replay", "2", "64", "--order", "last"],
+    );
     let (flow, ttl, last) = (2, 64, true);
-    let replay = Task::Replay { flow, ttl, last };
-    asks_for(&rt, alloc, "mcaudit replay 2 64 --order last", replay)?;
-    Ok(())
+    assert_eq!(rt; replay.ok(), Some(Task::Replay { flow, ttl, last }));
 }

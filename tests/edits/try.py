@@ -34,6 +34,7 @@ from concurrent.futures import ThreadPoolExecutor
 sys.dont_write_bytecode = True
 MEMORY_OF_CHECK = 3_000_000_000
 HOUSE = "mc_filter"  # the crate whose functions the edits of the selftest change
+ROOM = tempfile.TemporaryDirectory(prefix="try-", ignore_cleanup_errors=True)
 
 
 def load_rt():
@@ -236,9 +237,6 @@ class Crate:
         cost = used.ru_utime + used.ru_stime
         self.cost += cost
         print(f"{self.name}: {len(words) // 2} functions in a check, {cost:.0f} s", flush=True)
-        if LOGS:
-            with open(f"{LOGS}/{self.name}-{len(os.listdir(LOGS)):03}.log", "w") as opened:
-                opened.write(text)
         return Said(ran.returncode, text)
 
     def keep(self, made, functions):
@@ -388,7 +386,7 @@ def selftest(jobs):
 def main():
     how = argparse.RawDescriptionHelpFormatter
     words = argparse.ArgumentParser(description=__doc__, formatter_class=how)
-    words.add_argument("names", nargs="*")
+    words.add_argument("names", nargs="*", metavar="NAME")
     words.add_argument("--selftest", action="store_true")
     words.add_argument("--jobs", type=int)
     given = words.parse_args()
@@ -411,9 +409,6 @@ def ended(number, _):
     ROOM.cleanup()
     os._exit(128 + number)
 
-
-LOGS = os.environ.get("LOGS")
-ROOM = tempfile.TemporaryDirectory(prefix="try-", ignore_cleanup_errors=True)
 
 if __name__ == "__main__":
     sys.exit(main())

@@ -25,15 +25,19 @@ import threading
 import time
 
 LEFT_OUT = {"measure"}
+MARK = "MCAUDIT_GATE"
 TICK = os.sysconf("SC_CLK_TCK")
 COUNTS = re.compile(r"(\d+) passed, (\d+) failed")
 
 
 class Prover:
-    """What the prover took for each crate, seen by looking at its processes every half second."""
+    """What the prover took for each crate, seen by looking at its processes every half second.
 
-    def __init__(self):
+    They are those with the mark in their environment."""
+
+    def __init__(self, mark):
         self.used = {}
+        self.mark = f"{MARK}={mark}".encode()
         self.is_over = False
         self.watch = threading.Thread(target=self.look_often, daemon=True)
         self.watch.start()
@@ -51,6 +55,9 @@ class Prover:
                 words = file.read().decode(errors="replace").split("\0")
             if os.path.basename(words[0]) != "rattle" or "--crate-name" not in words:
                 return
+            with open(f"/proc/{process}/environ", "rb") as file:
+                if self.mark not in file.read().split(b"\0"):
+                    return
             with open(f"/proc/{process}/stat", encoding="utf-8") as file:
                 fields = file.read().rpartition(")")[2].split()
         except OSError:
@@ -86,7 +93,8 @@ class Gate:
         print(f"== {name}: {' '.join(words)}", flush=True)
         before, begun, counts = processor_time(), time.monotonic(), None
         how = {"stdin": subprocess.DEVNULL, "stdout": subprocess.PIPE, "text": True, "errors": "replace"}
-        running = subprocess.Popen(words, cwd=self.room, env={**os.environ, "PYTHONUNBUFFERED": "1"}, **how)
+        marked = {**os.environ, MARK: self.room, "PYTHONUNBUFFERED": "1"}
+        running = subprocess.Popen(words, cwd=self.room, env=marked, **how)
         for line in running.stdout:
             counts = COUNTS.fullmatch(line.strip()) or counts
             print(line, end="", flush=True)
@@ -150,9 +158,10 @@ def report(gate, crates, begun):
 
 def main():
     root = os.path.dirname(os.path.dirname(os.path.dirname(os.path.abspath(__file__))))
-    begun, prover = time.time(), Prover()
+    begun = time.time()
     with tempfile.TemporaryDirectory(prefix="mcaudit-gate-") as room:
         os.chmod(room, 0o755)
+        prover = Prover(room)
         edits = copy_repository(root, room)
         gate = Gate(room)
         gate.step("proofs, tests and programs", "rt", "ci")

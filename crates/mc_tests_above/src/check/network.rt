@@ -30,9 +30,12 @@ fn tables_of_routers(
     routers: &str,
 ) -> Result<Vec<Tables>, Fail> {
     let mut tables = Vec::new(alloc);
-    for (number, router) in (0..topology.routers()).zip(routers.split(';')) {
+    let mut routers = routers.split(';');
+    for number in 0..topology.routers() {
         let order = topology.order(RouterNo(number));
-        tables.push(tables_of(alloc, order, router.trim())?)?;
+        if let Some(router) = routers.next() {
+            tables.push(tables_of(alloc, order, router.trim())?)?;
+        }
     }
     Ok(tables)
 }

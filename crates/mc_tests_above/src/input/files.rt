@@ -97,23 +97,21 @@ fn topology_is_judged_before_another_file_is_asked_for(rt: HostRuntime) {
 
 #[test]
 fn vifs_are_judged_before_the_cache_is_asked_for(rt: HostRuntime) -> Result<(), Fail> {
+    let name = PartName::new(b"vif/r1").ok_or("a name")?;
     let fault = fault_after(rt.alloc(), 1, ("vif-r1", BAD_THRESHOLD.as_bytes()))?;
     let kind = TableFaultKind::NoHeader;
-    let told = PartName::new(b"vif/r1").map(|name| {
-        FilesFault::Input(InputFault::Vif(name, TableFault { line: 1, kind }))
-    });
-    assert!(rt; fault == told);
+    let told = FilesFault::Input(InputFault::Vif(name, TableFault { line: 1, kind }));
+    assert!(rt; fault == Some(told));
     Ok(())
 }
 
 #[test]
 fn cache_is_judged_before_another_file_is_asked_for(rt: HostRuntime) -> Result<(), Fail> {
+    let name = PartName::new(b"cache/r1").ok_or("a name")?;
     let fault = fault_after(rt.alloc(), 2, ("cache-r1", BAD_THRESHOLD.as_bytes()))?;
     let kind = TableFaultKind::BadThreshold;
-    let told = PartName::new(b"cache/r1").map(|name| {
-        FilesFault::Input(InputFault::Cache(name, TableFault { line: 2, kind }))
-    });
-    assert!(rt; fault == told);
+    let told = FilesFault::Input(InputFault::Cache(name, TableFault { line: 2, kind }));
+    assert!(rt; fault == Some(told));
     Ok(())
 }
 
@@ -124,11 +122,10 @@ fn report_list_is_refused_by_its_part(rt: HostRuntime) -> Result<(), Fail> {
         record_no: 0,
         kind: ListFaultKind::BadHex,
     };
-    let told = PartName::new(b"igmp/l1").map(|name| FilesFault::Input(InputFault::Reports(
-        name, list,
-    )));
+    let name = PartName::new(b"igmp/l1").ok_or("a name")?;
     let fault = fault_with(rt.alloc(), 6, ("igmp-l1", b"zz\n"))?;
-    assert!(rt; fault == told);
+    let told = FilesFault::Input(InputFault::Reports(name, list));
+    assert!(rt; fault == Some(told));
     Ok(())
 }
 

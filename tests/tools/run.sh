@@ -1,21 +1,33 @@
 #!/bin/sh
-# Runs the tools mcaudit-collect and mcaudit-reports on the cases beside this script, with each awk
-# that is installed, and compares what they do with what the case's folder says. It needs no root and
-# no network: the folder commands/ has what stands for the ways to a router. The words of the file
-# completion are completed by mcaudit.bash. Usage: run.sh
+# Runs the tools mcaudit-collect and mcaudit-reports on the cases beside this script, and compares what
+# they do with what the case's folder says: by dash with each awk that is installed, by bash, and by
+# busybox sh with busybox's own commands. It needs no network: the folder commands/ has what stands for
+# the ways to a router. The words of the file completion are completed by mcaudit.bash, and shellcheck
+# reads all shell of the tools and of their cases. Usage: run.sh [CASE ...], as collect/unreachable
 #
-# A case of collect/ has, beside its note:
+# A case has, beside its note:
 #   args       the tool's words, one a line
-#   routers/   the recorded texts of each router, a folder each
-#   before/    the files that the folder `site` has before (without it: none)
-#   after/     all files that it has afterwards (without it: those of before/)
-#   ssh.words  the words that ssh was called with, a line a call, sorted
-# A case of reports/ has its args, and the recorded text in stdin; or in tcpdump.text, with what tcpdump
-# says when it ends in tcpdump.said, for the words that call tcpdump.
-# Both have what is expected:
+#   place/     files that lie where the tool runs: the stand-ins of commands/ say which they heed
 #   stdout     standard output (without it: empty); or stdout.has, of which it has each line's text
-#   stderr     standard error (without it: empty)
+#   stderr     standard error (without it: empty); or stderr.has
 #   status     the exit status (without it: 0)
+#   output     where standard output goes: /dev/full, or `closed`
+#   limit      how many blocks of 512 bytes a file may have: as a disk with a quota
+#   term       a file: when it is there, the tool gets a TERM
+#   disk.size  how much the folder disk/ takes: a disk of its own, with disk.filled KB of other things;
+#              it needs the right to mount, and the case is named where that is not given
+# A case of collect/ may have, too:
+#   routers/   the recorded texts of each router, a folder each
+#   before/    the files of the set that the link `site` leads to before (without it: no site); or
+#   plain/     those of the plain folder `site`
+#   after/     those of the new set that `site` leads to afterwards (without it: `site` is as before)
+#   ssh.words  the words that ssh was called with, a line a call, sorted
+# Its outputs are compared line by line, in any order, with TIME for each time.
+# A case of reports/ may have:
+#   stdin      the recorded text; or place/tcpdump.text, with what tcpdump says when it ends in
+#              place/tcpdump.said, for the words that call tcpdump
+#   after/     the files that the folder disk/ has afterwards
+# Whatever the stand-ins write into the file `pids` is to have ended with the tool.
 #
 # The last line counts the cases: N passed, M failed. The status is 0 if none failed and one was run.
 
@@ -23,49 +35,232 @@ here=$(cd "$(dirname "$0")" && pwd) || exit 1
 tools=$(cd "$here/../../tools" && pwd) || exit 1
 scratch=$(mktemp -d) || exit 1
 trap 'rm -rf "$scratch"' EXIT
+trap 'exit 1' HUP INT TERM
 : > "$scratch/empty"
-mkdir "$scratch/none"
-system_path=$PATH
-shell=$(command -v dash || command -v sh)
-ran=' '
-passed=0
-failed=0
+mkdir "$scratch/none" "$scratch/results"
+first=20260101T000000Z
+runs=0
+applets='cp date grep ln ls mkdir mktemp mv od readlink rm rmdir sed setsid sh sleep sync tail timeout tr wc'
+wanted_cases=$*
 
 expected_of() {
     if [ -e "$1" ]; then echo "$1"; else echo "$2"; fi
+}
+
+without_times() {
+    sed -e 's/[0-9]\{8\}T[0-9]\{6\}Z/TIME/g' -e 's/"[-0-9]\{10\}T[:0-9]\{8\}Z"/"TIME"/g' "$@"
+}
+
+# Compares an output, stdout or stderr, with what the case's folder $1 says.
+judge_output() {
+    without_times "$2" > "$2.told"
+    if [ -f "$1/$2.has" ]; then
+        [ -s "$1/$2.has" ] || { echo "$2.has is empty"; return 1; }
+        while IFS= read -r text; do
+            grep -qF -e "$text" "$2.told" || { echo "no '$text' in:"; cat "$2"; return 1; }
+        done < "$1/$2.has"
+        return
+    fi
+    case $1 in
+        */collect/*)
+            sort "$(expected_of "$1/$2" "$scratch/empty")" > "$2.wanted"
+            sort "$2.told" | diff "$2.wanted" - ;;
+        *) diff "$(expected_of "$1/$2" "$scratch/empty")" "$2.told" ;;
+    esac
+}
+
+# Compares the folder $2, and the times in its list of times, with the folder $1.
+same_folder() {
+    rm -rf "$place.copy"
+    cp -RL "$2/." "$place.copy" || return 1
+    [ ! -f "$2/collected.json" ] || without_times "$2/collected.json" > "$place.copy/collected.json"
+    diff -r "$1" "$place.copy"
+}
+
+# Compares the site and its sets with what the case's folder says.
+judge_site() {
+    if [ -d "$1/after" ]; then
+        [ -L "$site" ] || { echo "$site is no link"; return 1; }
+        [ "$(readlink "$site")" != "site.sets/$first" ] || { echo 'there is no new set'; return 1; }
+        same_folder "$1/after" "$site/" || return 1
+    elif [ -d "$1/before" ]; then
+        [ "$(readlink "$site")" = "site.sets/$first" ] || { echo "$site has changed"; return 1; }
+    elif [ -d "$1/plain" ]; then
+        [ ! -L "$site" ] || { echo "$site is a link"; return 1; }
+        diff -r "$1/plain" "$site" || return 1
+    elif [ -e "$site" ] || [ -L "$site" ]; then
+        echo "there is a $site"
+        return 1
+    fi
+    [ ! -d "$1/before" ] || diff -r "$1/before" "$site.sets/$first" || return 1
+    wanted_sets=0
+    for folder in after before; do
+        [ ! -d "$1/$folder" ] || wanted_sets=$((wanted_sets + 1))
+    done
+    [ ! -d "$1/plain" ] || [ ! -f "$1/sets" ] || read -r wanted_sets < "$1/sets"
+    find "$site.sets" -mindepth 1 -maxdepth 1 > sets 2> /dev/null
+    [ "$(wc -l < sets)" -eq "$wanted_sets" ] || { echo "not $wanted_sets sets:"; cat sets; return 1; }
 }
 
 # Compares what the tool left with what the case's folder says.
 judge() {
     wanted=0
     [ ! -f "$1/status" ] || read -r wanted < "$1/status"
-    [ "$status" = "$wanted" ] || { echo "status $status, not $wanted"; return 1; }
-    if [ -f "$1/stdout.has" ]; then
-        [ -s "$1/stdout.has" ] || { echo "stdout.has is empty"; return 1; }
-        while IFS= read -r text; do
-            grep -qF -e "$text" stdout || { echo "no '$text' on standard output"; return 1; }
-        done < "$1/stdout.has"
-    else
-        diff "$(expected_of "$1/stdout" "$scratch/empty")" stdout || return 1
-    fi
-    diff "$(expected_of "$1/stderr" "$scratch/empty")" stderr || return 1
+    [ "$status" = "$wanted" ] || { echo "status $status, not $wanted"; cat stderr; return 1; }
+    judge_output "$1" stdout || return 1
+    judge_output "$1" stderr || return 1
     if [ -f "$1/ssh.words" ]; then
         sort ssh.words | diff "$1/ssh.words" - || return 1
     fi
-    if [ -d site ]; then
-        diff -r "$(expected_of "$1/after" "$(expected_of "$1/before" "$scratch/none")")" site
+    if [ -f pids ]; then
+        while read -r process; do
+            ! is_alive "$process" || { echo "a command lives on"; kill "$process"; return 1; }
+        done < pids
+    fi
+    case $1 in
+        */collect/*) judge_site "$1" ;;
+        *) [ ! -d "$1/after" ] || diff -r "$1/after" disk ;;
+    esac
+}
+
+# Whether the process is there, and not only not asked for yet.
+is_alive() {
+    [ -r "/proc/$1/stat" ] && ! grep -q ') Z ' "/proc/$1/stat"
+}
+
+# Mounts the case's small disk, of which only so much is free. Its status is 1 where that may not be.
+prepare_disk() {
+    [ -f "$1/disk.size" ] || return 0
+    mount -t tmpfs -o "size=$(cat "$1/disk.size")" tmpfs disk 2> /dev/null || return 1
+    mounted=$PWD/disk
+    [ ! -d "$1/place/disk" ] || cp -R "$1/place/disk/." disk
+    dd if=/dev/zero of=disk/filler bs=1k count="$(cat "$1/disk.filled")" 2> /dev/null
+}
+
+# Makes the folder in which the case's tool runs.
+prepare() {
+    rm -rf "$place" && mkdir "$place" && cd "$place" || return 1
+    [ ! -d "$1/routers" ] || cp -R "$1/routers" routers
+    mkdir disk
+    [ ! -d "$1/place" ] || cp -R "$1/place/." .
+    prepare_disk "$1" || return 2
+    if [ -d "$1/plain" ]; then
+        cp -R "$1/plain" "$site"
+    elif [ -d "$1/before" ]; then
+        mkdir "$site.sets"
+        cp -R "$1/before" "$site.sets/$first"
+        ln -s "site.sets/$first" "$site"
     fi
 }
 
-# Counts what came of a case, by its status and name, and says what differs.
-count() {
-    if [ "$1" -eq 0 ]; then
-        passed=$((passed + 1))
-    else
-        failed=$((failed + 1))
-        echo "$2: failed"
-        cat "$scratch/difference"
+# Runs the tool with the case's limits and output, by the shell that is asked for.
+run_tool() {
+    folder=$1
+    shift
+    if [ -f "$folder/limit" ]; then
+        trap '' XFSZ
+        ulimit -f "$(cat "$folder/limit")"
     fi
+    output=stdout
+    [ ! -f "$folder/output" ] || output=$(cat "$folder/output")
+    if [ "$output" = closed ]; then
+        exec >&-
+    else
+        exec > "$output"
+    fi
+    ROUTER=routers/here
+    export ROUTER
+    # shellcheck disable=SC2086 # a word or two: the shell
+    exec $shell "$@" < "$(expected_of "$folder/stdin" "$scratch/empty")" 2> stderr
+}
+
+# Waits for the file, and then ends the tool.
+end_at() {
+    tries=0
+    until [ -s "$1" ] || [ "$tries" -gt 100 ]; do
+        tries=$((tries + 1))
+        sleep 0.1
+    done
+    kill "$2"
+}
+
+# Runs the case of the folder in a new folder, and says what differs. Its status is 2 if it was not tried.
+run_case() {
+    mounted=
+    trap '[ -z "$mounted" ] || umount "$mounted"' EXIT
+    site=site
+    [ ! -f "$1/disk.size" ] || site=disk/site
+    prepare "$1" || return
+    tool=$tools/mcaudit-$2
+    set -- "$1"
+    while IFS= read -r word || [ -n "$word" ]; do
+        set -- "$@" "$word"
+    done < "$1/args"
+    folder=$1
+    shift
+    : > stdout
+    (run_tool "$folder" "$tool" "$@") &
+    [ ! -f "$folder/term" ] || end_at "$(cat "$folder/term")" $!
+    wait $! 2> /dev/null
+    status=$?
+    rm -f disk/filler
+    judge "$folder"
+}
+
+# Puts the commands that the tools are to find in front of the others: the awk that these words run,
+# the shell, and for busybox its own commands.
+choose_commands() {
+    commands=$1
+    mkdir "$commands.below"
+    cp -R "$here/commands" "$commands"
+    shift
+    AWK=$*
+    export AWK
+    case $shell in
+        *busybox*)
+            for applet in $applets; do
+                ln -s "${shell%% *}" "$commands.below/$applet"
+            done ;;
+        *) ln -s "$shell" "$commands.below/sh" ;;
+    esac
+    PATH=$commands:$commands.below:$PATH
+}
+
+# Runs all cases by the shell with the awk of the further words, and counts them in a file of results.
+run_by() {
+    shell=$1
+    work=$2
+    shift 2
+    place=$work.place
+    choose_commands "$work.commands" "$@"
+    for folder in "$here"/collect/*/ "$here"/reports/*/; do
+        folder=${folder%/}
+        kind=$(basename "$(dirname "$folder")")
+        name=$kind/$(basename "$folder")
+        case " $wanted_cases " in
+            '  ' | *" $name "*) ;;
+            *) continue ;;
+        esac
+        (run_case "$folder" "$kind") > "$work.difference" 2>&1
+        case $? in
+            0) echo passed ;;
+            2) echo "not tried: $name, since nothing can be mounted" ;;
+            *) echo "failed: $name by $shell with $*"; cat "$work.difference" ;;
+        esac
+    done 2>&1
+}
+
+# Begins to run all cases beside the others, unless they are run so already: by the shell $1, with the
+# awk of the further words.
+begin() {
+    case $begun in
+        *" $1 $(readlink -f "$2") "*) return ;;
+    esac
+    begun="$begun $1 $(readlink -f "$2") "
+    runs=$((runs + 1))
+    by=$1
+    shift
+    run_by "$by" "$scratch/run$runs" "$@" > "$scratch/results/$runs" &
 }
 
 # Completes the words of the file completion in a folder that has one folder.
@@ -76,62 +271,44 @@ complete_words() {
     diff "$here/completion" ../completed
 }
 
-# Runs the case of the folder in a new folder, and says what differs.
-run_case() {
-    place=$scratch/place
-    rm -rf "$place"
-    mkdir "$place"
-    cd "$place" || return 1
-    [ ! -d "$1/routers" ] || cp -R "$1/routers" routers
-    [ ! -d "$1/before" ] || cp -R "$1/before" site
-    for recorded in "$1"/tcpdump.*; do
-        [ ! -f "$recorded" ] || cp "$recorded" .
-    done
-    tool=$tools/mcaudit-$2
-    set -- "$1"
-    while IFS= read -r word || [ -n "$word" ]; do
-        set -- "$@" "$word"
-    done < "$1/args"
-    folder=$1
-    shift
-    ROUTER=routers/here "$shell" "$tool" "$@" < "$(expected_of "$folder/stdin" "$scratch/empty")" \
-        > stdout 2> stderr
-    status=$?
-    judge "$folder"
+# Reads all shell with shellcheck.
+check_shell() {
+    shellcheck "$tools"/mcaudit-* "$tools/mcaudit.bash" "$here"/*.sh "$here"/commands/* "$here"/../lab/run.sh
 }
 
-# Runs all cases with the awk that these words run, unless they were run with it.
-run_with() {
-    program=$(readlink -f "$1")
-    case $ran in
-        *" $program "*) return ;;
-    esac
-    ran="$ran$program "
-    commands=$scratch/commands
-    rm -rf "$commands"
-    cp -R "$here/commands" "$commands"
-    printf '#!/bin/sh\nexec %s "$@"\n' "$*" > "$commands/awk"
-    chmod +x "$commands/awk"
-    PATH=$commands:$system_path
-    for kind in collect reports; do
-        for folder in "$here/$kind"/*/; do
-            (run_case "${folder%/}" "$kind") > "$scratch/difference" 2>&1
-            count $? "$kind/$(basename "$folder") with $*"
-        done
-    done
-    PATH=$system_path
+# Runs the further words as a case of this name, or names it where the command $2 is not there.
+run_apart() {
+    name=$1
+    command=$2
+    shift 2
+    if ! command -v "$command" > /dev/null; then
+        echo "not tried: $name, since there is no $command"
+    elif ("$@") > "$scratch/difference" 2>&1; then
+        echo passed
+    else
+        echo "failed: $name"
+        cat "$scratch/difference"
+    fi > "$scratch/results/$name"
 }
 
-run_with "$(command -v awk)"
+begun=
+awk=$(command -v awk)
+dash=$(command -v dash || command -v sh)
+begin "$dash" "$awk"
 for other in mawk gawk original-awk; do
-    path=$(command -v "$other") && run_with "$path"
+    path=$(command -v "$other") && begin "$dash" "$path"
 done
-path=$(command -v busybox) && run_with "$path" awk
-if command -v bash > /dev/null; then
-    (complete_words) > "$scratch/difference" 2>&1
-    count $? 'completion'
-else
-    echo 'completion: not tried, since bash is not there'
-fi
+path=$(command -v busybox) && begin "$dash" "$path" awk
+path=$(command -v bash) && begin "$path" "$awk"
+path=$(command -v busybox) && begin "$path sh" "$awk"
+run_apart completion bash complete_words
+run_apart shellcheck shellcheck check_shell
+for other in dash bash busybox mawk gawk original-awk; do
+    command -v "$other" > /dev/null || echo "not tried: $other, which is not there"
+done
+wait
+cat "$scratch"/results/* 2> /dev/null | grep -v '^passed$'
+passed=$(cat "$scratch"/results/* 2> /dev/null | grep -c '^passed$')
+failed=$(cat "$scratch"/results/* 2> /dev/null | grep -c '^failed: ')
 echo "$passed passed, $failed failed"
 [ "$failed" -eq 0 ] && [ "$passed" -gt 0 ]

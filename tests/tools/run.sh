@@ -88,6 +88,8 @@ judge_site() {
     elif [ -d "$1/plain" ]; then
         [ ! -L "$site" ] || { echo "$site is a link"; return 1; }
         diff -r "$1/plain" "$site" || return 1
+    elif [ -L "$1/place/site" ]; then
+        [ "$(readlink site)" = "$(readlink "$1/place/site")" ] || { echo 'the link has changed'; return 1; }
     elif [ -e "$site" ] || [ -L "$site" ]; then
         echo "there is a $site"
         return 1
@@ -123,27 +125,26 @@ judge() {
     esac
 }
 
-# Whether the process is there, and not only not asked for yet.
+# Whether the process is still there after a while, and not only not asked for yet.
 is_alive() {
-    [ -r "/proc/$1/stat" ] && ! grep -q ') Z ' "/proc/$1/stat"
+    for _ in 1 2 3 4 5 6 7 8 9 10; do
+        case $(cat "/proc/$1/stat" 2> /dev/null) in
+            '' | *') Z '*) return 1 ;;
+        esac
+        sleep 0.1
+    done
 }
 
-# Mounts the case's small disk, of which only so much is free. Its status is 1 where that may not be.
-prepare_disk() {
-    [ -f "$1/disk.size" ] || return 0
-    mount -t tmpfs -o "size=$(cat "$1/disk.size")" tmpfs disk 2> /dev/null || return 1
-    mounted=$PWD/disk
-    [ ! -d "$1/place/disk" ] || cp -R "$1/place/disk/." disk
-    dd if=/dev/zero of=disk/filler bs=1k count="$(cat "$1/disk.filled")" 2> /dev/null
-}
-
-# Makes the folder in which the case's tool runs.
+# Makes the folder in which the case's tool runs. Its status is 2 where a disk can't be mounted.
 prepare() {
-    rm -rf "$place" && mkdir "$place" && cd "$place" || return 1
+    rm -rf "$place"
+    mkdir "$place" "$place/disk" && cd "$place" || return 1
+    if [ -f "$1/disk.size" ]; then
+        mount -t tmpfs -o "size=$(cat "$1/disk.size")" tmpfs disk 2> /dev/null || return 2
+        mounted=$PWD/disk
+    fi
     [ ! -d "$1/routers" ] || cp -R "$1/routers" routers
-    mkdir disk
     [ ! -d "$1/place" ] || cp -R "$1/place/." .
-    prepare_disk "$1" || return 2
     if [ -d "$1/plain" ]; then
         cp -R "$1/plain" "$site"
     elif [ -d "$1/before" ]; then
@@ -151,6 +152,8 @@ prepare() {
         cp -R "$1/before" "$site.sets/$first"
         ln -s "site.sets/$first" "$site"
     fi
+    [ ! -f "$1/disk.size" ] || dd if=/dev/zero of=disk/filler bs=1k count="$(cat "$1/disk.filled")" 2> dd.said
+    return 0
 }
 
 # Runs the tool with the case's limits and output, by the shell that is asked for.

@@ -1,4 +1,4 @@
-# mcaudit.bash: completes the words of mcaudit in bash.
+# mcaudit.bash: completes the words of mcaudit and of its tools in bash.
 
 _mcaudit() {
     local word=${COMP_WORDS[COMP_CWORD]}
@@ -27,4 +27,34 @@ _mcaudit() {
     esac
 }
 
+# Completes a word of a tool: one of the options of the further words, a file behind an option that takes
+# one, or else the name of the kind.
+_mcaudit_tool() {
+    local word=$1 before=$2 kind=$3
+    shift 3
+    COMPREPLY=()
+    case $before in
+        -o | --routers | --capture) kind='file' ;;
+        --readings | --pause | --timeout | --at-once | --ssh | --wait | --slack) return ;;
+    esac
+    case $word in
+        -*) mapfile -t COMPREPLY < <(compgen -W "$*" -- "$word") ;;
+        *)
+            compopt -o filenames 2> /dev/null
+            mapfile -t COMPREPLY < <(compgen -A "$kind" -- "$word") ;;
+    esac
+}
+
+_mcaudit_collect() {
+    _mcaudit_tool "${COMP_WORDS[COMP_CWORD]}" "${COMP_WORDS[COMP_CWORD - 1]}" directory \
+        --routers --adopt --readings --pause --timeout --at-once --ssh --help
+}
+
+_mcaudit_reports() {
+    _mcaudit_tool "${COMP_WORDS[COMP_CWORD]}" "${COMP_WORDS[COMP_CWORD - 1]}" file \
+        -o --capture --text --wait --slack --help
+}
+
 complete -F _mcaudit mcaudit
+complete -F _mcaudit_collect mcaudit-collect
+complete -F _mcaudit_reports mcaudit-reports

@@ -145,7 +145,7 @@ END
 
 # Gathers the reports of a LAN at a router's device, whose address asks.
 gather_reports() {
-    at "$2" sh "$tools/mcaudit-reports" --wait 20 "$3" > "$site/igmp-$1" 2> "$scratch/$1.said" &
+    at "$2" sh "$tools/mcaudit-reports" -o "$site/igmp-$1" --wait 20 "$3" 2> "$scratch/$1.said" &
     gathering=$!
     while kill -0 "$gathering" 2> /dev/null; do
         at "$2" python3 "$here/traffic.py" query "$4" 10
@@ -176,8 +176,9 @@ expect() {
     cat "$scratch/printed"
 }
 
+# Collects the routers into a new set; the first time the plain folder becomes a set before.
 collect() {
-    sh "$tools/mcaudit-collect" "$site" "r1=!ip netns exec $lab-r1" "r2=!ip netns exec $lab-r2" ||
+    sh "$tools/mcaudit-collect" --adopt "$site" "r1=!ip netns exec $lab-r1" "r2=!ip netns exec $lab-r2" ||
         fail 'the tables were not collected'
 }
 

@@ -10,6 +10,6 @@ while IFS= read -r line; do
     [[ $words != *' ' ]] || COMP_WORDS+=('')
     COMP_CWORD=$((${#COMP_WORDS[@]} - 1))
     COMPREPLY=()
-    _mcaudit
+    "$(complete -p "${COMP_WORDS[0]}" | sed 's/.*-F \([^ ]*\) .*/\1/')"
     echo "$words -> ${COMPREPLY[*]}"
 done

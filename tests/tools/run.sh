@@ -266,10 +266,10 @@ begin() {
     run_by "$by" "$scratch/run$runs" "$@" > "$scratch/results/$runs" &
 }
 
-# Completes the words of the file completion in a folder that has one folder.
+# Completes the words of the file completion in a folder that has one folder and one file.
 complete_words() {
     mkdir -p "$scratch/completing/folder"
-    cd "$scratch/completing" || return 1
+    cd "$scratch/completing" && : > file || return 1
     bash "$here/completion.sh" "$tools/mcaudit.bash" < "$here/completion" > ../completed
     diff "$here/completion" ../completed
 }

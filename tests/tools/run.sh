@@ -8,6 +8,7 @@
 # A case has, beside its note:
 #   args       the tool's words, one a line
 #   place/     files that lie where the tool runs: the stand-ins of commands/ say which they heed
+#   links      links that lie there, lines `name target`
 #   stdout     standard output (without it: empty); or stdout.has, of which it has each line's text
 #   stderr     standard error (without it: empty); or stderr.has
 #   status     the exit status (without it: 0)
@@ -88,8 +89,8 @@ judge_site() {
     elif [ -d "$1/plain" ]; then
         [ ! -L "$site" ] || { echo "$site is a link"; return 1; }
         diff -r "$1/plain" "$site" || return 1
-    elif [ -L "$1/place/site" ]; then
-        [ "$(readlink site)" = "$(readlink "$1/place/site")" ] || { echo 'the link has changed'; return 1; }
+    elif grep -q '^site ' "$(expected_of "$1/links" "$scratch/empty")"; then
+        [ "site $(readlink site)" = "$(grep '^site ' "$1/links")" ] || { echo 'the link has changed'; return 1; }
     elif [ -e "$site" ] || [ -L "$site" ]; then
         echo "there is a $site"
         return 1
@@ -145,6 +146,9 @@ prepare() {
     fi
     [ ! -d "$1/routers" ] || cp -R "$1/routers" routers
     [ ! -d "$1/place" ] || cp -R "$1/place/." .
+    while read -r name target; do
+        ln -s "$target" "$name"
+    done < "$(expected_of "$1/links" "$scratch/empty")"
     if [ -d "$1/plain" ]; then
         cp -R "$1/plain" "$site"
     elif [ -d "$1/before" ]; then

@@ -6,13 +6,14 @@
 
 It runs at the top of the repository, over what `rt check` and `rt lib` left there, or `rt ci`.
 
-An edit has the form that `rt` reads (`rt doc`). It changes the body of one function, and counts as
-refused only where a goal of this function is not proved. A check goes on past a refused function
+An edit has the form that `rt` reads (`rt doc`). It changes the body of one function, or a definition
+of specs/ that a law pins, and counts as refused only where a goal of this function is not proved. A check goes on past a refused function
 and holds its callers to its contract, so edits of different functions are tried in one copy of
 the crate. One that the check says nothing of is tried alone. Two lines more can stand in an edit:
 
-  fn: PATH       the function, where the edit changes text outside of bodies (such an edit is tried
-                 alone), or where the prover names the function otherwise than its place does
+  fn: PATH       the function, where the edit changes text outside of bodies, as a definition (such an
+                 edit is tried alone), or where the prover names the function otherwise than its
+                 place does
   clause: NAME   a clause of the contract: a goal that the prover names after it must be refused
 
 The last line is 'N passed, M failed'. The status is 0 only if none failed and one was tried.
@@ -113,8 +114,8 @@ class Edit:
         self.function = f"{crate.name}::{said.get('fn') or next(iter(hit), None)}"
         if not hit:
             self.fault = "it changes nothing"
-        elif any(not path.startswith("src/") for path in texts or ()):
-            self.fault = "it changes a file outside of src/"
+        elif any(not path.startswith(("src/", "specs/")) for path in texts or ()):
+            self.fault = "it changes a file outside of src/ and specs/"
         elif self.is_alone and "fn" not in said:
             self.fault = "it changes not one body alone: name the function in a line 'fn: PATH'"
 

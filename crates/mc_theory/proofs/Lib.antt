@@ -22,3 +22,6 @@ pub mod WorkedReasons
 pub mod WorkedTravels
 pub mod WorkedRuns
 pub mod WorkedPremises
+pub mod WorkedTables
+pub mod WorkedKept
+pub mod HeadlineInCounts

@@ -7,15 +7,15 @@ use Rattle.mc_theory.specs.Flights.{copies_on, start, run}
 use Rattle.mc_theory.specs.Reasons.{first_reason}
 use Rattle.mc_theory.specs.Findings.{IsTravel, handles}
 use Rattle.mc_theory.specs.Findings.Finding.{Duplicate, Missed}
-use Rattle.mc_theory.proofs.WorkedNetworks.{network, onward, chain_with, root_entry, first_entry}
-use Rattle.mc_theory.proofs.WorkedNetworks.{chain_entries}
+use Rattle.mc_theory.specs.Worked.{network, onward, line_with, root_entry, first_entry}
+use Rattle.mc_theory.specs.Worked.{line_entries}
 
 -- ---- a row with two pairs of one vif: the list is accepted, and l1 carries two copies
 
 abbrev repeated : Net
-repeated = chain_with ((0, Exact 0 ((1, 1) ∷ (1, 1) ∷ [])) ∷ (1, onward) ∷ []) 3
+repeated = line_with ((0, Exact 0 ((1, 1) ∷ (1, 1) ∷ [])) ∷ (1, onward) ∷ []) 3
 
-a-repeated-vif-is-accepted : first_reason repeated 3 chain_entries ≡ None
+a-repeated-vif-is-accepted : first_reason repeated 3 line_entries ≡ None
 unfolding below
 a-repeated-vif-is-accepted = refl
 
@@ -26,10 +26,10 @@ a-repeated-vif-duplicates = (refl, refl, refl)
 -- ---- a vif above 31: the list is accepted, and l2 is never reached
 
 abbrev beyond : Net
-beyond = network ((0, 0, 0) ∷ (0, 1, 1) ∷ (1, 40, 1) ∷ (1, 1, 2) ∷ [])
+beyond = network 3 ((0, 0, 0) ∷ (0, 1, 1) ∷ (1, 40, 1) ∷ (1, 1, 2) ∷ [])
     ((0, onward) ∷ (1, Exact 40 ((1, 1) ∷ [])) ∷ []) (λ l. l == 2) 3
 
-a-great-vif-is-accepted : first_reason beyond 3 chain_entries ≡ None
+a-great-vif-is-accepted : first_reason beyond 3 line_entries ≡ None
 unfolding below
 a-great-vif-is-accepted = refl
 
@@ -40,7 +40,7 @@ a-great-vif-misses = (refl, refl, refl)
 -- ---- a TTL above 255: a pair that is dead up to 255 sends, onto a LAN that no entry names
 
 abbrev dead : Net
-dead = network ((0, 0, 0) ∷ (0, 1, 1) ∷ (1, 0, 1) ∷ (1, 1, 2) ∷ [])
+dead = network 3 ((0, 0, 0) ∷ (0, 1, 1) ∷ (1, 0, 1) ∷ (1, 1, 2) ∷ [])
     ((0, onward) ∷ (1, Exact 0 ((1, 254) ∷ [])) ∷ []) (λ l. l == 1) 3
 
 a-dead-pair-is-accepted : first_reason dead 3 (root_entry ∷ first_entry ∷ []) ≡ None

@@ -5,7 +5,8 @@ use Rattle.mc_theory.specs.Nets.{Net, interfaces}
 use Rattle.mc_theory.specs.Flights.{Pick, copies_on, start, run}
 use Rattle.mc_theory.specs.Flights.Pick.{Handles, Loses}
 use Rattle.mc_theory.specs.Findings.{handles}
-use Rattle.mc_theory.proofs.WorkedNetworks.{chain, second_way, fork}
+use Rattle.mc_theory.specs.Worked.{line}
+use Rattle.mc_theory.proofs.WorkedNetworks.{second_way, branching}
 
 -- after these picks nothing waits, and the LANs from l0 on carried so many copies
 abbrev pub EndsWith : Net → ℕ → List Pick → List ℕ → List ℕ → Type 0
@@ -13,55 +14,55 @@ EndsWith n t ps ls counts =
     ((run n ps (start n t)).waiting ≡ [])
     × (map (copies_on (run n ps (start n t)).carried) ls ≡ counts)
 
-abbrev lans_of_chain : List ℕ
-lans_of_chain = 0 ∷ 1 ∷ 2 ∷ []
+abbrev lans_of_line : List ℕ
+lans_of_line = 0 ∷ 1 ∷ 2 ∷ []
 
-abbrev lans_of_fork : List ℕ
-lans_of_fork = 0 ∷ 1 ∷ 2 ∷ 3 ∷ []
+abbrev lans_of_branching : List ℕ
+lans_of_branching = 0 ∷ 1 ∷ 2 ∷ 3 ∷ []
 
--- ---- the fork has three complete orders, and all come to the same end
+-- ---- the branching has three complete orders, and all come to the same end
 
-the-fork-in-one-order : EndsWith (fork 3) 3 (handles (0 ∷ 0 ∷ 0 ∷ [])) lans_of_fork
+the-branching-in-one-order : EndsWith (branching 3) 3 (handles (0 ∷ 0 ∷ 0 ∷ [])) lans_of_branching
     (1 ∷ 1 ∷ 1 ∷ 1 ∷ [])
 unfolding below interfaces
-the-fork-in-one-order = (refl, refl)
+the-branching-in-one-order = (refl, refl)
 
-the-fork-in-another : EndsWith (fork 3) 3 (handles (0 ∷ 1 ∷ 0 ∷ [])) lans_of_fork
+the-branching-in-another : EndsWith (branching 3) 3 (handles (0 ∷ 1 ∷ 0 ∷ [])) lans_of_branching
     (1 ∷ 1 ∷ 1 ∷ 1 ∷ [])
 unfolding below interfaces
-the-fork-in-another = (refl, refl)
+the-branching-in-another = (refl, refl)
 
-the-fork-in-the-third : EndsWith (fork 3) 3 (handles (1 ∷ 0 ∷ 0 ∷ [])) lans_of_fork
+the-branching-in-the-third : EndsWith (branching 3) 3 (handles (1 ∷ 0 ∷ 0 ∷ [])) lans_of_branching
     (1 ∷ 1 ∷ 1 ∷ 1 ∷ [])
 unfolding below interfaces
-the-fork-in-the-third = (refl, refl)
+the-branching-in-the-third = (refl, refl)
 
 -- with TTL 2 all but l2, whose need is 3
-a-low-ttl-in-one-order : EndsWith (fork 3) 2 (handles (0 ∷ 0 ∷ 0 ∷ [])) lans_of_fork
+a-low-ttl-in-one-order : EndsWith (branching 3) 2 (handles (0 ∷ 0 ∷ 0 ∷ [])) lans_of_branching
     (1 ∷ 1 ∷ 0 ∷ 1 ∷ [])
 unfolding below interfaces
 a-low-ttl-in-one-order = (refl, refl)
 
-a-low-ttl-in-another : EndsWith (fork 3) 2 (handles (0 ∷ 1 ∷ 0 ∷ [])) lans_of_fork
+a-low-ttl-in-another : EndsWith (branching 3) 2 (handles (0 ∷ 1 ∷ 0 ∷ [])) lans_of_branching
     (1 ∷ 1 ∷ 0 ∷ 1 ∷ [])
 unfolding below interfaces
 a-low-ttl-in-another = (refl, refl)
 
-a-low-ttl-in-the-third : EndsWith (fork 3) 2 (handles (1 ∷ 0 ∷ 0 ∷ [])) lans_of_fork
+a-low-ttl-in-the-third : EndsWith (branching 3) 2 (handles (1 ∷ 0 ∷ 0 ∷ [])) lans_of_branching
     (1 ∷ 1 ∷ 0 ∷ 1 ∷ [])
 unfolding below interfaces
 a-low-ttl-in-the-third = (refl, refl)
 
 -- ---- losses
 
-the-chain-loses-its-first-copy : EndsWith (chain 3) 3 (Loses 0 ∷ []) lans_of_chain (1 ∷ 0 ∷ 0 ∷ [])
+the-line-loses-its-first-copy : EndsWith (line 3) 3 (Loses 0 ∷ []) lans_of_line (1 ∷ 0 ∷ 0 ∷ [])
 unfolding below interfaces
-the-chain-loses-its-first-copy = (refl, refl)
+the-line-loses-its-first-copy = (refl, refl)
 
-the-fork-loses-one-branch : EndsWith (fork 3) 3 (Loses 0 ∷ Handles 0 ∷ []) lans_of_fork
+the-branching-loses-one-branch : EndsWith (branching 3) 3 (Loses 0 ∷ Handles 0 ∷ []) lans_of_branching
     (1 ∷ 0 ∷ 0 ∷ 1 ∷ [])
 unfolding below interfaces
-the-fork-loses-one-branch = (refl, refl)
+the-branching-loses-one-branch = (refl, refl)
 
 -- the loss of the second way's copy hides the fault
 the-second-way-loses-its-copy : copies_on (run (second_way 3) (Loses 1 ∷ Handles 0 ∷ Handles 0 ∷ [])

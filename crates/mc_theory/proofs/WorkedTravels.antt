@@ -8,7 +8,8 @@ use Rattle.mc_theory.specs.Events.Outcome.{OtherVif, Sent}
 use Rattle.mc_theory.specs.Findings.{IsTravel, handles}
 use Rattle.mc_theory.specs.Findings.Finding.{Clean, Duplicate, Loop, Missed}
 use Rattle.mc_theory.specs.Made.{entries_of}
-use Rattle.mc_theory.proofs.WorkedNetworks.{chain, chain_entries, second_way, way_back, onto_itself}
+use Rattle.mc_theory.specs.Worked.{line, line_entries}
+use Rattle.mc_theory.proofs.WorkedNetworks.{second_way, way_back, onto_itself}
 
 -- r's vif took a copy with this TTL, and sent so many on, none astray
 abbrev sent : ℕ → ℕ → ℕ → ℕ → Event
@@ -18,7 +19,7 @@ sent r v t copies = record { router = r; vif = v; ttl = t; outcome = Sent copies
 abbrev other_vif : ℕ → ℕ → ℕ → Event
 other_vif r v t = record { router = r; vif = v; ttl = t; outcome = OtherVif }
 
--- ---- the chain
+-- ---- the line
 
 abbrev two_firsts : List ℕ
 two_firsts = 0 ∷ 0 ∷ []
@@ -30,22 +31,22 @@ abbrev four_firsts : List ℕ
 four_firsts = 0 ∷ 0 ∷ 0 ∷ 0 ∷ []
 
 -- at TTL 2 r2 doesn't send on, since 1 isn't greater than its threshold 1
-too-low-a-ttl-misses-l2 : IsTravel (chain 2) 3 [] false two_firsts (start (chain 2) 2) (Missed 2)
+too-low-a-ttl-misses-l2 : IsTravel (line 2) 3 [] false two_firsts (start (line 2) 2) (Missed 2)
 unfolding below interfaces
 too-low-a-ttl-misses-l2 = (refl, refl, (refl, refl, refl))
 
-what-is-seen-of-it : events (chain 2) two_firsts (start (chain 2) 2) ≡ sent 0 0 2 1 ∷ sent 1 0 1 0
+what-is-seen-of-it : events (line 2) two_firsts (start (line 2) 2) ≡ sent 0 0 2 1 ∷ sent 1 0 1 0
     ∷ []
 unfolding below interfaces
 what-is-seen-of-it = refl
 
-at-255-the-chain-is-clean : IsTravel (chain 2) 3 [] false two_firsts (start (chain 2) 255) Clean
+at-255-the-line-is-clean : IsTravel (line 2) 3 [] false two_firsts (start (line 2) 255) Clean
 unfolding below interfaces
-at-255-the-chain-is-clean = (refl, refl, (refl, refl, refl))
+at-255-the-line-is-clean = (refl, refl, (refl, refl, refl))
 
--- and makes the chain's certificate
-its-copies-make-the-certificate : entries_of (chain 3) (run (chain 3) (handles two_firsts)
-    (start (chain 3) 255)).carried ≡ chain_entries
+-- and makes the line's certificate
+its-copies-make-the-certificate : entries_of (line 3) (run (line 3) (handles two_firsts)
+    (start (line 3) 255)).carried ≡ line_entries
 unfolding below interfaces
 its-copies-make-the-certificate = refl
 

@@ -9,3 +9,4 @@ pub mod Findings
 pub mod Origins
 pub mod Made
 pub mod Shown
+pub mod Worked

@@ -2,18 +2,24 @@
 //! flow, and why a certificate covers every order in which routers handle copies.
 //!
 //! The definitions stand in `specs/`, to be read in this order: `Nets`, `Flights`, `Headline`,
-//! `Certificates`, `Reasons`, `Events`, `Findings`, `Shown`, `Origins`, `Made`. Nothing here runs:
-//! each function below is a law about them.
+//! `Certificates`, `Reasons`, `Events`, `Findings`, `Shown`, `Origins`, `Made`; `Worked` has small
+//! networks to try them on. Nothing here runs: each function below is a law about them.
 
 #![tactic(auto)]
 
 mod certificate_laws;
+mod headline_laws;
 mod travel_laws;
 
 pub use certificate_laws::{
     a_flow_has_a_certificate_exactly_if_it_is_right, a_right_flow_is_accepted,
     an_accepted_flow_is_right, every_complete_run_delivers, every_run_is_safe,
     no_reason_is_acceptance, order_of_entries_does_not_matter, the_headline_holds,
+};
+pub use headline_laws::{
+    a_copy_that_leaves_is_wrong, a_lan_that_is_not_served_is_wrong,
+    a_lan_that_is_served_twice_is_wrong, the_fork_needs_its_threshold, the_headline_in_counts,
+    the_line_is_right,
 };
 pub use travel_laws::{
     a_clean_travel_makes_a_tree, a_finding_says_what_the_flight_shows, a_finding_shows,

@@ -1,0 +1,21 @@
+-- A count by a test is the length of what passes it, and a run that only handles loses none.
+use Rattle.std.proofs.Common.{◌≡◌, ℕ, suc, Bool, true, false, cond, List, [], ◌∷◌, filter, length}
+use Rattle.std.proofs.Common.{map, refl, ap}
+use Rattle.mc_theory.specs.Lists.{count_of}
+use Rattle.mc_theory.specs.Flights.{Pick, IsLossless}
+use Rattle.mc_theory.specs.Flights.Pick.{Handles}
+
+count_step : {A : Type 0} (p : A → Bool) (x : A) (xs : List A) (b : Bool) →
+    length (filter p xs) ≡ count_of p xs →
+    length (cond b (x ∷ filter p xs) (filter p xs)) ≡ cond b (suc (count_of p xs)) (count_of p xs)
+count_step p x xs true h = ap suc h
+count_step p x xs false h = h
+
+pub filtered-count : {A : Type 0} (p : A → Bool) (xs : List A) →
+    length (filter p xs) ≡ count_of p xs
+filtered-count p [] = refl
+filtered-count p (x ∷ xs) = count_step p x xs (p x) (filtered-count p xs)
+
+pub handled-lossless : (is : List ℕ) → IsLossless (map Handles is)
+handled-lossless [] = tt
+handled-lossless (i ∷ is) = handled-lossless is

@@ -1,0 +1,64 @@
+-- The worked networks that keep the headline.
+use Rattle.std.proofs.Common.{◌≡◌, ℕ, ◌<◌, ◌≤◌, true, ◌||◌, ◌==◌, inl, inr, refl, arith, eqb-true}
+use Rattle.std.proofs.lemmas.Bool.{or_cases}
+use Rattle.mc_theory.specs.Lists.{below}
+use Rattle.mc_theory.specs.Nets.{WantsBelow, IsNet}
+use Rattle.mc_theory.specs.Certificates.{IsAccepted, IsRight}
+use Rattle.mc_theory.specs.Headline.{HeadlineHolds}
+use Rattle.mc_theory.specs.Worked.{onward, line, line_places, line_rows, line_entries}
+use Rattle.mc_theory.specs.Worked.{diamond, diamond_places, diamond_rows, diamond_entries}
+use Rattle.mc_theory.specs.Worked.{fork, fork_places, fork_rows, fork_entries}
+use Rattle.mc_theory.proofs.WorkedTables.{IsApart, table-net}
+use Rattle.mc_theory.proofs.Judged.{judged}
+use Rattle.mc_theory.proofs.Headline.{headline}
+use Rattle.mc_theory.proofs.Delivery.{right}
+
+onward-apart : IsApart onward
+onward-apart = ((λ z. z), tt)
+
+line-wants : WantsBelow (line 3) 3
+line-wants l h = let e = eqb-true l 2 h in omega (arith, e)
+
+line-net : IsNet (line 3)
+line-net = table-net 2 line_places line_rows (λ l. l == 2) 3 refl (onward-apart, (onward-apart, tt))
+
+line-accepted : IsAccepted (line 3) line_entries
+unfolding below
+line-accepted = (judged (line 3) 3 line_entries line-net line-wants).0 refl
+
+pub line-kept : HeadlineHolds (line 3) 3
+line-kept = headline (line 3) line_entries line-net (omega arith) line-accepted
+
+pub line-right : IsRight (line 3)
+line-right = right (line 3) line_entries line-net (omega arith) line-accepted
+
+diamond-wants : WantsBelow diamond 4
+diamond-wants l h = let e = eqb-true l 3 h in omega (arith, e)
+
+diamond-net : IsNet diamond
+diamond-net = table-net 4 diamond_places diamond_rows (λ l. l == 3) 3 refl
+    (onward-apart, (onward-apart, (onward-apart, tt)))
+
+diamond-accepted : IsAccepted diamond diamond_entries
+unfolding below
+diamond-accepted = (judged diamond 4 diamond_entries diamond-net diamond-wants).0 refl
+
+pub diamond-kept : HeadlineHolds diamond 4
+diamond-kept = headline diamond diamond_entries diamond-net (omega arith) diamond-accepted
+
+fork-wants : WantsBelow (fork 65) 3
+fork-wants l h = elim (or_cases (l == 1) (l == 2) h) [
+  | inl q ↦ (let e = eqb-true l 1 q in omega (arith, e))
+  | inr q ↦ (let e = eqb-true l 2 q in omega (arith, e))
+]
+
+fork-net : IsNet (fork 65)
+fork-net = table-net 1 fork_places fork_rows (λ l. (l == 1) || (l == 2)) 65 refl
+    (((λ h. elim h [ inl q ↦ absurd cc | inr z ↦ z ]), ((λ z. z), tt)), tt)
+
+fork-accepted : IsAccepted (fork 65) fork_entries
+unfolding below
+fork-accepted = (judged (fork 65) 3 fork_entries fork-net fork-wants).0 refl
+
+pub fork-kept : HeadlineHolds (fork 65) 3
+fork-kept = headline (fork 65) fork_entries fork-net (omega arith) fork-accepted

@@ -4,4 +4,4 @@ mod FilesLemmas
 mod FilesStand
 mod InputLemmas
 mod ReadLemmas
-mod OneInput
+pub mod OneInput

@@ -278,8 +278,8 @@ wrote_yes fs travels all written bytes k (Some xs) (Some ys) a same puts (front,
     ≡ front ++ (codes "verdict yes" ++ (rest ++ drop k bytes)) =
     sym a.audited.spelled ∙ sym same ∙ sym (take-append-drop k bytes)
     ∙ ap (λ zs. zs ++ drop k bytes) part ∙ append_assoc front more (drop k bytes) in
-    a.audited.answer ∙ audit_says travels t examined (are_certified examined) front
-    (rest ++ drop k bytes) a.means.rules.topology starts whole
+    a.audited.answer ∙ (audit_says travels t examined (are_certified examined) front
+    (rest ++ drop k bytes) a.means.rules.topology starts whole).0
 
 -- the headline, after a part of the text was written,
 pub part_says : (told : Option (List FileText)) (travels all : Bool) (written bytes : List ℕ)

@@ -183,11 +183,11 @@ flows_other travels t (f ∷ fs) (x ∷ xs) ok =
     both_other (flow_told travels t f x) (flows_told travels t fs xs) (flow_other travels t f x ok)
     (flows_other travels t fs xs ok)
 
--- `verdict yes` stands at a line's start only where all flows are certified
+-- `verdict yes` stands at a line's start only where all flows are certified, and then last
 pub audit_says : (travels : Bool) (t : TopologyValue) (xs : List Examined) (all : Bool)
     (front rest : List ℕ) → IsTopology t → IsLineStart front
     → flows_told travels t t.flows xs ++ last_line all ≡ front ++ (codes "verdict yes" ++ rest)
-    → all ≡ true
+    → (all ≡ true) × (rest ≡ codes "\n")
 audit_says travels t xs all front rest ok starts same =
     let l = flows_other travels t t.flows xs ok front rest (last_line all) starts same in
     last_says all l.front rest l.starts l.is

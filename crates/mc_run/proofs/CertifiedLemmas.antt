@@ -1,9 +1,9 @@
 -- A certificate that `mcaudit make` writes is one that `mcaudit check` says yes to.
 use Rattle.std.proofs.Common.{◌≡◌, ℕ, zero, suc, ◌+◌, ◌<◌, ◌≤◌, ◌==◌, max, All, Bool, true, false}
 use Rattle.std.proofs.Common.{List, [], ◌∷◌, ◌++◌}
-use Rattle.std.proofs.Common.{length, map, Option, Some, None, Result, Ok, refl, sym, ap, subst}
+use Rattle.std.proofs.Common.{length, map, Option, Some, None, Ok, refl, sym, ap, subst}
 use Rattle.std.proofs.Common.{◌∙◌, arith, length-append}
-use Rattle.std.specs.Prelude.{◌↔◌, IsSome, IsTrue, slice_get, slice_index_or}
+use Rattle.std.specs.Prelude.{IsSome, slice_get}
 use Rattle.std.specs.List.{AllByRecursion}
 use Rattle.std.proofs.lemmas.Bool.{eqb-true, eq-eqb, false≢true}
 use Rattle.std.proofs.lemmas.List.{length-map}
@@ -12,12 +12,6 @@ use Rattle.json.proofs.Printed.Utf8.{IsUtf8-are_ascii}
 use Rattle.mc_text.specs.Bundle.{PartText, IsBundle, max_part}
 use Rattle.mc_text.proofs.BundleLaws.{same_parts}
 use Rattle.mc_igmp.specs.declared.record.Record.{Record}
-use Rattle.mc_igmp.specs.ReportList.{IsReportList}
-use Rattle.mc_igmp.specs.Wants.{Wants}
-use Rattle.mc_igmp.proofs.ListLemmas.{read_list-again}
-use Rattle.mc_tables.proofs.LawLemmas.{one_cache, one_vif_table}
-use Rattle.mc_topology.proofs.ReadLemmas.{one_topology}
-use Rattle.mc_topology.specs.Stands.{TopologyStands}
 use Rattle.mc_theory.specs.Lists.{In}
 use Rattle.mc_theory.specs.Nets.{Net, Interface}
 use Rattle.mc_theory.specs.Certificates.{Entry, IsAccepted, IsTree, source_entry_of}
@@ -25,8 +19,7 @@ use Rattle.mc_theory.proofs.InLists.{same-by_image, slice_get-map_some}
 use Rattle.mc_theory.proofs.Judged.{judged}
 use Rattle.mc_topology.specs.Rows.{RouterRow}
 use Rattle.mc_topology.specs.Topology.{TopologyValue}
-use Rattle.mc_forward.specs.Assembling.{IsAssembled}
-use Rattle.mc_forward.specs.Domains.{DomainValue, IsDomain, TablesValue, net_of, wants_of}
+use Rattle.mc_forward.specs.Domains.{DomainValue, IsDomain, TablesValue, net_of}
 use Rattle.mc_forward.proofs.DomainLemmas.{net-of_domain, wanting-within}
 use Rattle.mc_input.specs.Input.{InputValue, PartsStand, TellTables, TellReports}
 use Rattle.mc_cert.specs.Certificate.{Tree, IsOfBytes}
@@ -50,6 +43,7 @@ use Rattle.mc_run.specs.MakeRun.{AreExamined, IsMadeText, are_certified, lists_o
 use Rattle.mc_run.specs.MakeRun.{with_certificate}
 use Rattle.mc_run.specs.VerdictText.{AreVerdicts, IsVerdict, are_yes, check_text}
 use Rattle.mc_run.proofs.LineFeed.{read_fed}
+use Rattle.mc_run.proofs.OneDomain.{one_of_bundle, some_is}
 use Rattle.mc_run.proofs.MakeLemmas.{at as at_place, each_list, lists_belong, lists_kept, within}
 
 -- ---- the numbers of an accepted list are bytes
@@ -276,183 +270,6 @@ yes_told text written bundle parts m is more =
       },
     )
 
--- ---- a bundle means one domain
-
-ok_same : {A E : Type 0} {x y : A} → (let r : Result A E = Ok x in r) ≡ Ok y → x ≡ y
-ok_same e = cc
-
-one_list : (text : List ℕ) (a b : List Record) → IsReportList text a → IsReportList text b → a ≡ b
-one_list text a b p q = ok_same (sym (read_list-again text a p) ∙ read_list-again text b q)
-
-tables_same : (rs : List RouterRow) (parts : List PartText) (ts us : List TablesValue)
-    (rest other : List PartText) → TellTables rs parts ts rest → TellTables rs parts us other
-    → (ts ≡ us) × (rest ≡ other)
-tables_same [] parts [] [] rest other a b = (refl, sym a ∙ b)
-tables_same [] parts [] (u ∷ us) rest other a b = absurd b
-tables_same [] parts (t ∷ ts) us rest other a b = absurd a
-tables_same (r ∷ rs) [] ts us rest other a b = absurd a
-tables_same (r ∷ rs) (vif ∷ []) ts us rest other a b = absurd a
-tables_same (r ∷ rs) (vif ∷ cache ∷ parts) [] us rest other a b = absurd a
-tables_same (r ∷ rs) (vif ∷ cache ∷ parts) (t ∷ ts) [] rest other a b = absurd b
-tables_same (r ∷ rs) (vif ∷ cache ∷ parts) (t ∷ ts) (u ∷ us) rest other a b =
-    let vifs : t.vifs ≡ u.vifs = one_vif_table vif.bytes t.vifs u.vifs a.0.vifs b.0.vifs in
-    let entries : t.cache ≡ u.cache =
-    one_cache r.order cache.bytes t.cache u.cache a.0.entries b.0.entries in
-    let first : t ≡ u = λ i. record { vifs = vifs i; cache = entries i } in
-    let more = tables_same rs parts ts us rest other a.1 b.1 in
-    let all : (t ∷ ts) ≡ (u ∷ us) = λ i. first i ∷ more.0 i in
-    (all, more.1)
-
-reports_same : (lans : List (List ℕ)) (parts : List PartText) (xs ys : List (List Record))
-    (rest other : List PartText) → TellReports lans parts xs rest → TellReports lans parts ys other
-    → (xs ≡ ys) × (rest ≡ other)
-reports_same [] parts [] [] rest other a b = (refl, sym a ∙ b)
-reports_same [] parts [] (y ∷ ys) rest other a b = absurd b
-reports_same [] parts (x ∷ xs) ys rest other a b = absurd a
-reports_same (lan ∷ lans) [] xs ys rest other a b = absurd a
-reports_same (lan ∷ lans) (part ∷ parts) [] ys rest other a b = absurd a
-reports_same (lan ∷ lans) (part ∷ parts) (x ∷ xs) [] rest other a b = absurd b
-reports_same (lan ∷ lans) (part ∷ parts) (x ∷ xs) (y ∷ ys) rest other a b =
-    let first : x ≡ y = one_list part.bytes x y a.0.stands b.0.stands in
-    let more = reports_same lans parts xs ys rest other a.1 b.1 in
-    let all : (x ∷ xs) ≡ (y ∷ ys) = λ i. first i ∷ more.0 i in
-    (all, more.1)
-
-first_text : List PartText → List ℕ
-first_text [] = []
-first_text (part ∷ parts) = part.bytes
-
-others : List PartText → List PartText
-others [] = []
-others (part ∷ parts) = parts
-
--- the same parts tell one input and one certificate
-record AreTold (v w : InputValue) (a b : List ℕ) : Type 0 where
-  pub value : v ≡ w
-  pub certificate : a ≡ b
-
-parts_same : (parts : List PartText) (v w : InputValue) (a b : List ℕ) → PartsStand parts v (Some a)
-    → PartsStand parts w (Some b) → AreTold v w a b
-unfolding first_text others
-parts_same parts v w a b p q =
-    let order = sym p.in_order ∙ q.in_order in
-    let text : p.topology ≡ q.topology = ap first_text order in
-    let routers : p.of_routers ≡ q.of_routers = ap others order in
-    let topology : v.topology ≡ w.topology =
-    one_topology p.topology v.topology w.topology p.topology_stands
-    (subst (λ (s : List ℕ). TopologyStands s w.topology) (sym text) q.topology_stands) in
-    let tables = tables_same v.topology.routers p.of_routers v.tables w.tables p.of_lans q.of_lans
-    p.tables
-    (subst (λ (ps : List PartText). TellTables v.topology.routers ps w.tables q.of_lans)
-    (sym routers)
-    (subst (λ (t : TopologyValue). TellTables t.routers q.of_routers w.tables q.of_lans)
-    (sym topology)
-    q.tables)) in
-    let reports = reports_same v.topology.lans p.of_lans v.reports w.reports p.last q.last p.reports
-    (subst (λ (ps : List PartText). TellReports v.topology.lans ps w.reports q.last) (sym tables.1)
-    (subst (λ (t : TopologyValue). TellReports t.lans q.of_lans w.reports q.last) (sym topology)
-    q.reports)) in
-    let told = sym p.certificate_told ∙ reports.1 ∙ q.certificate_told in
-    record {
-      value = λ i. record { topology = topology i; tables = tables.0 i; reports = reports.0 i };
-      certificate = ap first_text told;
-    }
-
-lists_same : {A : Type 0} (xs ys : List A) → length xs ≡ length ys
-    → ((k : ℕ) (x y : A) → slice_get xs k ≡ Some x → slice_get ys k ≡ Some y → x ≡ y) → xs ≡ ys
-lists_same [] [] count each = refl
-lists_same [] (y ∷ ys) count each = absurd (omega (arith, count))
-lists_same (x ∷ xs) [] count each = absurd (omega (arith, count))
-lists_same (x ∷ xs) (y ∷ ys) count each =
-    let first : x ≡ y = each 0 x y refl refl in
-    let rest = lists_same xs ys (omega (arith, count)) (λ k a b p q. each (suc k) a b p q) in
-    λ i. first i ∷ rest i
-
-same_answer : (a b : Bool) (W : Type 0) → (IsTrue a ↔ W) → (IsTrue b ↔ W) → a ≡ b
-same_answer true true W p q = refl
-same_answer true false W p q = sym (q.1 (p.0 refl))
-same_answer false true W p q = p.1 (q.0 refl)
-same_answer false false W p q = refl
-
-index_is : {A : Type 0} (xs : List A) (k : ℕ) (x y : A) → slice_get xs k ≡ Some x
-    → slice_index_or xs k y ≡ x
-index_is [] k x y at = absurd cc
-index_is (z ∷ xs) zero x y at = cc
-index_is (z ∷ xs) (suc k) x y at = index_is xs k x y at
-
-wants_is : (d : DomainValue) (lan flow : ℕ) (row : List Bool) (b : Bool)
-    → slice_get d.wants lan ≡ Some row
-    → slice_get row flow ≡ Some b → wants_of d flow lan ≡ b
-wants_is d lan flow row b at here =
-    ap (λ (bs : List Bool). slice_index_or bs flow false) (index_is d.wants lan row [] at)
-    ∙ index_is row flow b false here
-
-reports_count : (lans : List (List ℕ)) (here : List PartText) (all : List (List Record))
-    (rest : List PartText)
-    → TellReports lans here all rest → length all ≡ length lans
-reports_count [] here [] rest h = refl
-reports_count [] here (records ∷ all) rest h = absurd h
-reports_count (lan ∷ lans) [] all rest h = absurd h
-reports_count (lan ∷ lans) (part ∷ here) [] rest h = absurd h
-reports_count (lan ∷ lans) (part ∷ here) (records ∷ all) rest h =
-    ap suc (reports_count lans here all rest h.1)
-
-wants_same : (v : InputValue) (d e : DomainValue) → IsDomain d → IsDomain e
-    → length v.reports ≡ length v.topology.lans → IsAssembled v.topology v.tables v.reports d
-    → IsAssembled v.topology v.tables v.reports e → d.wants ≡ e.wants
-wants_same v d e ok_d ok_e count is_d is_e =
-    let lans_d : length d.wants ≡ length v.topology.lans =
-    ok_d.lans ∙ ap (λ (t : TopologyValue). length t.lans) is_d.topology in
-    let lans_e : length e.wants ≡ length v.topology.lans =
-    ok_e.lans ∙ ap (λ (t : TopologyValue). length t.lans) is_e.topology in
-    lists_same d.wants e.wants (lans_d ∙ sym lans_e) (λ lan row other at at'.
-    let flows_d : length row ≡ length v.topology.flows =
-    ok_d.flows lan row at ∙ ap (λ (t : TopologyValue). length t.flows) is_d.topology in
-    let flows_e : length other ≡ length v.topology.flows =
-    ok_e.flows lan other at' ∙ ap (λ (t : TopologyValue). length t.flows) is_e.topology in
-    let lt = within d.wants lan row at in
-    let records = at_place v.reports lan (omega (arith, lt, lans_d, count)) in
-    lists_same row other (flows_d ∙ sym flows_e) (λ flow a b here here'.
-    let less = within row flow a here in
-    let f = at_place v.topology.flows flow (omega (arith, less, flows_d)) in
-    let W : Type 0 = Wants records.0 f.0.group f.0.source in
-    same_answer a b W
-    (subst (λ (x : Bool). IsTrue x ↔ W) (wants_is d lan flow row a at here)
-    (is_d.wants lan flow records.0 f.0 records.1 f.1))
-    (subst (λ (x : Bool). IsTrue x ↔ W) (wants_is e lan flow other b at' here')
-    (is_e.wants lan flow records.0 f.0 records.1 f.1))))
-
-domain_same : (v : InputValue) (d e : DomainValue) → IsDomain d → IsDomain e
-    → length v.reports ≡ length v.topology.lans → IsAssembled v.topology v.tables v.reports d
-    → IsAssembled v.topology v.tables v.reports e → d ≡ e
-domain_same v d e ok_d ok_e count is_d is_e =
-    let topology : d.topology ≡ e.topology = is_d.topology ∙ sym is_e.topology in
-    let tables : d.tables ≡ e.tables = is_d.tables ∙ sym is_e.tables in
-    let wants : d.wants ≡ e.wants = wants_same v d e ok_d ok_e count is_d is_e in
-    λ i. record { topology = topology i; tables = tables i; wants = wants i }
-
--- and so one domain
-record AreSame (d e : DomainValue) (a b : List ℕ) : Type 0 where
-  pub domain : d ≡ e
-  pub certificate : a ≡ b
-
-means_same : (text a b : List ℕ) (d e : DomainValue) → MeansDomain text (Some a) d
-    → MeansDomain text (Some b) e → AreSame d e a b
-means_same text a b d e m n =
-    let parts = same_parts text n.parts.parts m.parts.parts n.parts.bundle m.parts.bundle in
-    let other = subst (λ (ps : List PartText). PartsStand ps n.input (Some b)) parts
-    n.parts.stand in
-    let told = parts_same m.parts.parts m.input n.input a b m.parts.stand other in
-    let stand = m.parts.stand in
-    let count = reports_count m.input.topology.lans stand.of_lans m.input.reports stand.last
-    stand.reports in
-    record {
-      domain = domain_same m.input d e m.rules n.rules count m.assembled
-          (subst (λ (v : InputValue). IsAssembled v.topology v.tables v.reports e)
-          (sym told.value) n.assembled);
-      certificate = told.certificate;
-    }
-
 -- ---- so whatever verdict text the bundle has, it says yes
 
 is_said_yes : (d : DomainValue) (flow : ℕ) (es : Tree) (v : Verdict) → IsDomain d
@@ -493,12 +310,13 @@ only_yes text written bundle parts all told m is more v =
     let lists = lists_of m.examined in
     let few = certificate_fits bundle parts written more in
     let mine = means_with text bundle parts written d m.means is more in
-    let same = means_same bundle v.means.certificate written v.domain d v.means.domain mine in
+    let same = one_of_bundle bundle (Some v.means.certificate) (Some written) v.domain d refl
+    v.means.domain mine in
     let theirs : AreOf v.domain v.means.certificate v.lists v.verdicts =
     record { stand = v.means.lists_stand; are = v.are_verdicts } in
     let here : AreOf d written v.lists v.verdicts =
-    subst (λ (c : List ℕ). AreOf d c v.lists v.verdicts) same.certificate
-    (subst (λ (e : DomainValue). AreOf e v.means.certificate v.lists v.verdicts) same.domain
+    subst (λ (c : List ℕ). AreOf d c v.lists v.verdicts) (some_is same.1)
+    (subst (λ (e : DomainValue). AreOf e v.means.certificate v.lists v.verdicts) same.0
     theirs) in
     let one : v.lists ≡ lists =
     one_certificate d.topology written v.lists lists here.stand (made_stands text written m few) in

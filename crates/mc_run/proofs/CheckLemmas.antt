@@ -316,8 +316,9 @@ wrote_yes taken all written bytes k (Some xs) (Some ys) v same puts (front, rest
     ≡ front ++ (codes "verdict yes" ++ (rest ++ drop k bytes)) =
     sym v.spelled ∙ sym same ∙ sym (take-append-drop k bytes)
     ∙ ap (λ zs. zs ++ drop k bytes) part ∙ append_assoc front more (drop k bytes) in
-    v.answer ∙ lines_say v.domain.topology v.domain.topology.flows v.verdicts (are_yes v.verdicts)
-    front (rest ++ drop k bytes) v.means.domain.rules.topology starts whole
+    v.answer ∙ (lines_say v.domain.topology v.domain.topology.flows v.verdicts
+    (are_yes v.verdicts) front (rest ++ drop k bytes) v.means.domain.rules.topology starts
+    whole).0
 
 -- the headline, after a part of the text was written,
 pub part_says : (told : Option (List ℕ)) (taken : List ℕ) (all : Bool) (written bytes : List ℕ)

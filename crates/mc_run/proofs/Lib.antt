@@ -6,9 +6,11 @@ pub mod CertifiedLemmas
 pub mod CheckLemmas
 pub mod LineFeed
 pub mod MakeLemmas
+pub mod OneDomain
 pub mod PackingLemmas
 pub mod ReplayLemmas
 pub mod RunLemmas
 pub mod TextLemmas
 pub mod VerdictLines
 pub mod WantsLemmas
+pub mod YesLines

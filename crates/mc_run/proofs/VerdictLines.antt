@@ -4,7 +4,7 @@ use Rattle.std.proofs.Common.{◌≡◌, ℕ, zero, suc, ◌+◌, ◌/◌, ◌%�
 use Rattle.std.proofs.Common.{cond, eqb, List, [], ◌∷◌, ◌++◌, ◌⊎◌, inl, inr, Some}
 use Rattle.std.proofs.Common.{refl, sym, ap, subst, ◌∙◌, arith, append_assoc}
 use Rattle.std.specs.Prelude.{◌==◌, not, nat_lt, codes, slice_index, decimal, IsTrue, slice_get}
-use Rattle.std.specs.Prelude.{unwrap_or, option_map}
+use Rattle.std.specs.Prelude.{drop, unwrap_or, option_map}
 use Rattle.std.specs.Fmt.{digits, digits_onto, digit_glyph}
 use Rattle.std.specs.List.{list_all}
 use Rattle.std.proofs.lemmas.Bool.{and_parts, ne_eqb}
@@ -177,10 +177,21 @@ none_after : (ys more : List ℕ) → [] ≡ ys ++ (10 ∷ more) → ⊥
 none_after [] more same = none_at 10 more same
 none_after (y ∷ ys) more same = none_at y (ys ++ (10 ∷ more)) same
 
--- the last line begins with `verdict yes` only if all are yes
+-- the last line begins with `verdict yes` only if all are yes, and ends with it
 pub last_says : (all : Bool) (front rest : List ℕ) → IsLineStart front
-    → last_line all ≡ front ++ (codes "verdict yes" ++ rest) → all ≡ true
-last_says true front rest starts same = refl
+    → last_line all ≡ front ++ (codes "verdict yes" ++ rest) → (all ≡ true) × (rest ≡ codes "\n")
+last_says true front rest (inl none) same =
+    let here : codes "verdict yes\n" ≡ codes "verdict yes" ++ rest =
+    same ∙ ap (λ xs. xs ++ (codes "verdict yes" ++ rest)) none in
+    (refl, sym (ap (λ (xs : List ℕ). drop 11 xs) here))
+last_says true front rest (inr (before, is)) same =
+    let more = codes "verdict yes" ++ rest in
+    let whole : codes "verdict yes" ++ (10 ∷ []) ≡ before ++ (10 ∷ more) =
+    same ∙ ap (λ xs. xs ++ more) is ∙ append_assoc before (10 ∷ []) more in
+    elim (first_feed (codes "verdict yes") [] before more (plain (codes "verdict yes") refl) whole) [
+      | inl e ↦ absurd (none_at _ _ e)
+      | inr g ↦ absurd (none_after g.rest more g.goes_on)
+    ]
 last_says false front rest (inl none) same =
     let here : codes "verdict no\n" ≡ codes "verdict yes" ++ rest =
     same ∙ ap (λ xs. xs ++ (codes "verdict yes" ++ rest)) none in
@@ -201,7 +212,8 @@ apart xs ys same = let bad : 102 ≡ 118 = ap (λ (zs : List ℕ). slice_index z
 
 pub lines_say : (t : TopologyValue) (fs : List Flow) (vs : List Verdict) (all : Bool)
     (front rest : List ℕ) → IsTopology t → IsLineStart front
-    → flow_lines t fs vs ++ last_line all ≡ front ++ (codes "verdict yes" ++ rest) → all ≡ true
+    → flow_lines t fs vs ++ last_line all ≡ front ++ (codes "verdict yes" ++ rest)
+    → (all ≡ true) × (rest ≡ codes "\n")
 lines_say t [] vs all front rest ok starts same = last_says all front rest starts same
 lines_say t (f ∷ fs) [] all front rest ok starts same = last_says all front rest starts same
 lines_say t (f ∷ fs) (v ∷ vs) all front rest ok (inl none) same =

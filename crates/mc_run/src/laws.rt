@@ -1,12 +1,17 @@
 //! What follows from the definitions of the runs alone, for whoever runs one after the other.
 
-ghost use Rattle.std.specs.Prelude.{◌≡◌, ◌≤◌, ℕ, Bool, true, List, Ok, Some, length, slice_get};
+ghost use Rattle.std.specs.Prelude.{◌≡◌, ◌≤◌, ◌++◌, ℕ, Bool, true, List, Ok, Option, Some};
+ghost use Rattle.std.specs.Prelude.{codes, is_some, length, slice_get};
 ghost use Rattle.mc_text.specs.Bundle.{PartText, IsBundle};
 ghost use Rattle.mc_theory.specs.Certificates.{IsAccepted};
-ghost use Rattle.mc_forward.specs.Domains.{net_of};
+ghost use Rattle.mc_files.specs.Files.{FileText};
+ghost use Rattle.mc_forward.specs.Domains.{DomainValue, net_of};
 ghost use Rattle.mc_cert.specs.Certificate.{Tree};
 ghost use Rattle.mc_cert.specs.Reading.{reading_of};
-ghost use Rattle.mc_run.specs.CheckRun.{IsVerdictText};
+ghost use Rattle.mc_run.specs.AuditRun.{IsAuditText};
+ghost use Rattle.mc_run.specs.BundleMeaning.{MeansCertified, MeansDomain};
+ghost use Rattle.mc_run.specs.CheckRun.{IsLineStart, IsVerdictText, WroteYes};
+ghost use Rattle.mc_run.specs.FilesMeaning.{MeansFiles};
 ghost use Rattle.mc_run.specs.MakeRun.{IsMadeText, lists_of, with_certificate};
 
 /// What `make` writes where it answers true, `check` says yes to.
@@ -31,4 +36,38 @@ pub fn made_certificates_are_accepted()
         IsMadeText text true written → IsBundle text parts →
         IsBundle bundle (with_certificate parts written) → IsVerdictText bundle all told
         → all ≡ true }
+{}
+
+/// The text of a bundle, and the files of a folder, mean one domain at most.
+pub fn one_domain_at_most()
+    // Of a bundle without a certificate, or with one, the domain and the certificate's text,
+    ensures bundle { (text : List ℕ) (a b : Option (List ℕ)) (d e : DomainValue)
+        → is_some b ≡ is_some a → MeansDomain text a d → MeansDomain text b e → (d ≡ e) × (a ≡ b) }
+    // and the lists that the certificate stands for;
+    ensures certified { (text : List ℕ) (d e : DomainValue) (xs ys : List Tree)
+        → MeansCertified text d xs → MeansCertified text e ys → (d ≡ e) × (xs ≡ ys) }
+    // of a folder's files the domain.
+    ensures files { (files : List FileText) (d e : DomainValue)
+        → MeansFiles files d → MeansFiles files e → d ≡ e }
+{}
+
+/// The line `verdict yes`, by which a reader knows a yes, stands in what is written exactly where
+/// every flow's list is accepted.
+pub fn the_line_that_says_yes()
+    // Where all are, `check` writes it at a line's start.
+    ensures says { (text written old : List ℕ) → IsVerdictText text true written
+        → WroteYes (Some old) (Some (old ++ written)) }
+    // Where it stands at a line's start all are, and it is the last line, so that it stands once.
+    ensures last { (text written front rest : List ℕ) (all : Bool)
+        → IsVerdictText text all written → IsLineStart front
+        → written ≡ front ++ (codes "verdict yes" ++ rest)
+        → (all ≡ true) × (rest ≡ codes "\n") }
+    // The same holds of `audit`.
+    ensures audit_says { (files : List FileText) (travels : Bool) (written old : List ℕ)
+        → IsAuditText files travels true written → WroteYes (Some old) (Some (old ++ written)) }
+    ensures audit_last { (files : List FileText) (travels all : Bool)
+        (written front rest : List ℕ)
+        → IsAuditText files travels all written → IsLineStart front
+        → written ≡ front ++ (codes "verdict yes" ++ rest)
+        → (all ≡ true) × (rest ≡ codes "\n") }
 {}

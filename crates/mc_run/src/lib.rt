@@ -17,7 +17,7 @@ mod wants;
 pub use audit::run_audit;
 pub use check::run_check;
 pub use fault::RunFault;
-pub use laws::made_certificates_are_accepted;
+pub use laws::{made_certificates_are_accepted, one_domain_at_most, the_line_that_says_yes};
 pub use make::run_make;
 pub use pack::run_pack;
 pub use replay::run_replay;

@@ -1,0 +1,136 @@
+-- A bundle, and a folder's files, mean one domain at most.
+use Rattle.std.proofs.Common.{◌≡◌, ℕ, zero, suc, Bool, true, false, List, [], ◌∷◌, length, Option}
+use Rattle.std.proofs.Common.{Some, None, refl, sym, ap, subst, ◌∙◌, arith}
+use Rattle.std.specs.Prelude.{◌↔◌, IsTrue, is_some, slice_get, slice_index_or}
+use Rattle.mc_text.specs.Bundle.{PartText}
+use Rattle.mc_igmp.specs.declared.record.Record.{Record}
+use Rattle.mc_igmp.specs.Wants.{Wants}
+use Rattle.mc_files.specs.Files.{FileText}
+use Rattle.mc_topology.specs.Topology.{TopologyValue}
+use Rattle.mc_forward.specs.Assembling.{IsAssembled}
+use Rattle.mc_forward.specs.Domains.{DomainValue, IsDomain, wants_of}
+use Rattle.mc_cert.specs.Certificate.{Tree}
+use Rattle.mc_cert.specs.Stands.{CertificateStands}
+use Rattle.mc_cert.proofs.ReadLemmas.{one_certificate}
+use Rattle.mc_input.specs.Input.{InputValue, PartsStand, TellReports}
+use Rattle.mc_input.proofs.OneInput.{one_input, one_input_of_files}
+use Rattle.mc_run.specs.BundleMeaning.{MeansDomain, MeansCertified}
+use Rattle.mc_run.specs.FilesMeaning.{MeansFiles}
+use Rattle.mc_run.proofs.MakeLemmas.{at as at_place, within}
+
+-- ---- what is assembled of an input is one domain
+
+lists_same : {A : Type 0} (xs ys : List A) → length xs ≡ length ys
+    → ((k : ℕ) (x y : A) → slice_get xs k ≡ Some x → slice_get ys k ≡ Some y → x ≡ y) → xs ≡ ys
+lists_same [] [] count each = refl
+lists_same [] (y ∷ ys) count each = absurd (omega (arith, count))
+lists_same (x ∷ xs) [] count each = absurd (omega (arith, count))
+lists_same (x ∷ xs) (y ∷ ys) count each =
+    let first : x ≡ y = each 0 x y refl refl in
+    let rest = lists_same xs ys (omega (arith, count)) (λ k a b p q. each (suc k) a b p q) in
+    λ i. first i ∷ rest i
+
+same_answer : (a b : Bool) (W : Type 0) → (IsTrue a ↔ W) → (IsTrue b ↔ W) → a ≡ b
+same_answer true true W p q = refl
+same_answer true false W p q = sym (q.1 (p.0 refl))
+same_answer false true W p q = p.1 (q.0 refl)
+same_answer false false W p q = refl
+
+index_is : {A : Type 0} (xs : List A) (k : ℕ) (x y : A) → slice_get xs k ≡ Some x
+    → slice_index_or xs k y ≡ x
+index_is [] k x y at = absurd cc
+index_is (z ∷ xs) zero x y at = cc
+index_is (z ∷ xs) (suc k) x y at = index_is xs k x y at
+
+wants_is : (d : DomainValue) (lan flow : ℕ) (row : List Bool) (b : Bool)
+    → slice_get d.wants lan ≡ Some row
+    → slice_get row flow ≡ Some b → wants_of d flow lan ≡ b
+wants_is d lan flow row b at here =
+    ap (λ (bs : List Bool). slice_index_or bs flow false) (index_is d.wants lan row [] at)
+    ∙ index_is row flow b false here
+
+reports_count : (lans : List (List ℕ)) (here : List PartText) (all : List (List Record))
+    (rest : List PartText)
+    → TellReports lans here all rest → length all ≡ length lans
+reports_count [] here [] rest h = refl
+reports_count [] here (records ∷ all) rest h = absurd h
+reports_count (lan ∷ lans) [] all rest h = absurd h
+reports_count (lan ∷ lans) (part ∷ here) [] rest h = absurd h
+reports_count (lan ∷ lans) (part ∷ here) (records ∷ all) rest h =
+    ap suc (reports_count lans here all rest h.1)
+
+wants_same : (v : InputValue) (d e : DomainValue) → IsDomain d → IsDomain e
+    → length v.reports ≡ length v.topology.lans → IsAssembled v.topology v.tables v.reports d
+    → IsAssembled v.topology v.tables v.reports e → d.wants ≡ e.wants
+wants_same v d e ok_d ok_e count is_d is_e =
+    let lans_d : length d.wants ≡ length v.topology.lans =
+    ok_d.lans ∙ ap (λ (t : TopologyValue). length t.lans) is_d.topology in
+    let lans_e : length e.wants ≡ length v.topology.lans =
+    ok_e.lans ∙ ap (λ (t : TopologyValue). length t.lans) is_e.topology in
+    lists_same d.wants e.wants (lans_d ∙ sym lans_e) (λ lan row other at at'.
+    let flows_d : length row ≡ length v.topology.flows =
+    ok_d.flows lan row at ∙ ap (λ (t : TopologyValue). length t.flows) is_d.topology in
+    let flows_e : length other ≡ length v.topology.flows =
+    ok_e.flows lan other at' ∙ ap (λ (t : TopologyValue). length t.flows) is_e.topology in
+    let lt = within d.wants lan row at in
+    let records = at_place v.reports lan (omega (arith, lt, lans_d, count)) in
+    lists_same row other (flows_d ∙ sym flows_e) (λ flow a b here here'.
+    let less = within row flow a here in
+    let f = at_place v.topology.flows flow (omega (arith, less, flows_d)) in
+    let W : Type 0 = Wants records.0 f.0.group f.0.source in
+    same_answer a b W
+    (subst (λ (x : Bool). IsTrue x ↔ W) (wants_is d lan flow row a at here)
+    (is_d.wants lan flow records.0 f.0 records.1 f.1))
+    (subst (λ (x : Bool). IsTrue x ↔ W) (wants_is e lan flow other b at' here')
+    (is_e.wants lan flow records.0 f.0 records.1 f.1))))
+
+domain_same : (v : InputValue) (d e : DomainValue) → IsDomain d → IsDomain e
+    → length v.reports ≡ length v.topology.lans → IsAssembled v.topology v.tables v.reports d
+    → IsAssembled v.topology v.tables v.reports e → d ≡ e
+domain_same v d e ok_d ok_e count is_d is_e =
+    let topology : d.topology ≡ e.topology = is_d.topology ∙ sym is_e.topology in
+    let tables : d.tables ≡ e.tables = is_d.tables ∙ sym is_e.tables in
+    let wants : d.wants ≡ e.wants = wants_same v d e ok_d ok_e count is_d is_e in
+    λ i. record { topology = topology i; tables = tables i; wants = wants i }
+
+-- the domains of two inputs that are the same
+same_of : (v w : InputValue) (c : Option (List ℕ)) (parts : List PartText) (d e : DomainValue)
+    → v ≡ w → PartsStand parts v c → IsDomain d → IsDomain e
+    → IsAssembled v.topology v.tables v.reports d → IsAssembled w.topology w.tables w.reports e
+    → d ≡ e
+same_of v w c parts d e same stand ok_d ok_e is_d is_e =
+    domain_same v d e ok_d ok_e
+    (reports_count v.topology.lans stand.of_lans v.reports stand.last stand.reports) is_d
+    (subst (λ (x : InputValue). IsAssembled x.topology x.tables x.reports e) (sym same) is_e)
+
+-- ---- and so the text and the files mean one
+
+pub one_of_bundle : (text : List ℕ) (a b : Option (List ℕ)) (d e : DomainValue)
+    → is_some b ≡ is_some a → MeansDomain text a d → MeansDomain text b e → (d ≡ e) × (a ≡ b)
+one_of_bundle text a b d e is m n =
+    let one = one_input text m.input n.input a b is m.parts n.parts in (
+      same_of m.input n.input a m.parts.parts d e one.0 m.parts.stand m.rules n.rules m.assembled
+          n.assembled,
+      one.1,
+    )
+
+pub one_of_files : (files : List FileText) (d e : DomainValue) → MeansFiles files d
+    → MeansFiles files e → d ≡ e
+one_of_files files d e m n =
+    same_of m.input n.input None m.stand.parts d e
+    (one_input_of_files files m.input n.input m.stand n.stand) m.stand.stand m.rules n.rules
+    m.assembled n.assembled
+
+pub some_is : {A : Type 0} {x y : A} → (let o : Option A = Some x in o) ≡ Some y → x ≡ y
+some_is e = cc
+
+pub one_of_certified : (text : List ℕ) (d e : DomainValue) (xs ys : List Tree)
+    → MeansCertified text d xs → MeansCertified text e ys → (d ≡ e) × (xs ≡ ys)
+one_of_certified text d e xs ys m n =
+    let same = one_of_bundle text (Some m.certificate) (Some n.certificate) d e refl m.domain
+    n.domain in
+    let theirs = subst (λ (c : List ℕ). CertificateStands d.topology c ys)
+    (sym (some_is same.1))
+    (subst (λ (x : DomainValue). CertificateStands x.topology n.certificate ys) (sym same.0)
+    n.lists_stand) in
+    (same.0, one_certificate d.topology m.certificate xs ys m.lists_stand theirs)

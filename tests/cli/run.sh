@@ -5,12 +5,15 @@
 #   args        its words, one a line
 #   links       what stands in its folder by a link, lines `name target`: the case's folder is copied with
 #               these beside its files, and the word `FOLDER` of args is the copy's path
+#   folder.sh   writes files of its folder: it is run with the path of such a copy, which is empty where the
+#               case has no folder, before the program runs
 #   stdin       its standard input (without it: empty); or stdin.sh, which writes it; or stdin.pipe, which
 #               writes it while the program runs, and may go on without end; or stdin.path, the path of
 #               what is opened as standard input, from the top of the repository
 #   stdout      its standard output (without it: empty); or stdout.path, where it goes and isn't compared
 #   stdout.same the path of a file that is its standard output, from the top of the repository
 #   stderr      its standard error (without it: empty); or stderr.has, of which it has each line's text
+#   memory      the most KiB of memory that it may take (without it: as much as there is)
 #   status      its exit status (without it: 0)
 #
 # The last line counts the cases: N passed, M failed. The status is 0 if none failed and one was run.
@@ -27,29 +30,30 @@ expected_of() {
     if [ -f "$1" ]; then echo "$1"; else echo "$scratch/empty"; fi
 }
 
-copy_with_links() {
+copied() {
     rm -rf "$2"
-    cp -R "$1/folder" "$2"
+    if [ -d "$1/folder" ]; then cp -R "$1/folder" "$2"; else mkdir "$2"; fi
     while read -r name target; do
         ln -s "$target" "$2/$name"
-    done < "$1/links"
+    done < "$(expected_of "$1/links")"
+    if [ -f "$1/folder.sh" ]; then sh "$1/folder.sh" "$2"; fi
 }
 
 run_case() {
     folder=$1
     set --
-    linked=
-    if [ -f "$folder/links" ]; then
-        linked=$scratch/linked
-        copy_with_links "$folder" "$linked"
+    copy=
+    if [ -f "$folder/links" ] || [ -f "$folder/folder.sh" ]; then
+        copy=$scratch/copy
+        copied "$folder" "$copy"
     fi
     while IFS= read -r word || [ -n "$word" ]; do
-        if [ "$word" = FOLDER ] && [ -n "$linked" ]; then word=$linked; fi
+        if [ "$word" = FOLDER ] && [ -n "$copy" ]; then word=$copy; fi
         set -- "$@" "$word"
     done < "$folder/args"
     input=$(expected_of "$folder/stdin")
     if [ -f "$folder/stdin.sh" ]; then
-        sh "$folder/stdin.sh" > "$scratch/stdin"
+        sh "$folder/stdin.sh" > "$scratch/stdin" || { echo "stdin.sh failed"; return 1; }
         input=$scratch/stdin
     elif [ -f "$folder/stdin.path" ]; then
         input=$(cat "$folder/stdin.path")
@@ -59,10 +63,12 @@ run_case() {
     if [ -f "$folder/stdout.path" ]; then
         output=$(cat "$folder/stdout.path")
     fi
+    limit=unlimited
+    [ ! -f "$folder/memory" ] || limit=$(cat "$folder/memory")
     if [ -f "$folder/stdin.pipe" ]; then
         sh "$folder/stdin.pipe" | "$program" "$@" > "$output" 2> "$scratch/stderr"
     else
-        "$program" "$@" < "$input" > "$output" 2> "$scratch/stderr"
+        (ulimit -v "$limit" && exec "$program" "$@") < "$input" > "$output" 2> "$scratch/stderr"
     fi
     status=$?
     wanted=0

@@ -49,3 +49,19 @@ pub fn domain_of(
     let parts = parts_of(alloc, routers, lans)?;
     domain_over(alloc, topology, parts)
 }
+
+/// What is told of the domain of these texts, which is lent: the one place that drops a domain.
+pub fn with_domain<F: FnOnce(&Domain) -> Result<(), Fail> + Drop>(
+    alloc: Global,
+    topology: &str,
+    routers: &[(&str, &str)],
+    lans: &[&str],
+    told: F,
+) -> Result<(), Fail>
+    requires { F.IsAlwaysCallable told }
+{
+    match domain_of(alloc, topology, routers, lans) {
+        Ok(domain) => told(&domain),
+        Err(fail) => Err(fail),
+    }
+}

@@ -8,7 +8,7 @@ mod parts;
 mod tables;
 mod texts;
 
-pub use domain::{Parts, assembled, domain_of, parts_of};
+pub use domain::{Parts, assembled, domain_of, parts_of, with_domain};
 pub use flows::{BESIDE, two_flows};
 pub use parts::{NamedBytes, NamedText, chain_files, chain_parts};
 pub use texts::{CACHE, CACHE_HEADER, CERTIFICATE, CHAIN, FORWARDS, ROW, VIFS, WANTED};

@@ -1,14 +1,170 @@
-//! Verdicts on lists of entries for small domains, and how they are written.
+//! What the checker says of entries that no certificate holds, and of names that no topology has.
+//! The other lists of entries are rows of the command line's tables `check_*`.
 
-mod all_flows;
-mod branches;
-mod entries;
-mod network;
-mod routers;
-mod rows;
-mod served;
-mod shown;
-mod third_router;
-mod thresholds;
-mod topologies;
-mod vifs;
+use mc_cert::Reached;
+use mc_check::{Reason, Verdict, check_flow};
+use mc_forward::Domain;
+use mc_samples::{VIFS, WANTED, with_domain};
+use mc_topology::{LanNo, RouterNo, Topology};
+use std::alloc::Global;
+use std::fmt::Write;
+use std::process::Abort;
+use std::test::Fail;
+
+/// LANs l0 to l2, r1 from l0 to l1, r2 from l1 to l2, and two flows.
+const TOPOLOGY: &str = r#"version = 1
+lans = ["l0", "l1", "l2"]
+router = [{name = "r1"}, {name = "r2"}]
+interface = [
+{router = "r1", device = "eth0", lan = "l0"},
+{router = "r1", device = "eth1", lan = "l1"},
+{router = "r2", device = "eth0", lan = "l1"},
+{router = "r2", device = "eth1", lan = "l2"},
+]
+source = [{address = "10.0.0.5", lan = "l0"}, {address = "10.0.0.6", lan = "l0"}]
+flow = [
+{source = "10.0.0.5", group = "239.1.2.3", ttl = 3},
+{source = "10.0.0.6", group = "239.1.2.3", ttl = 3},
+]
+"#;
+
+/// Both routers forward the first flow, and r1 alone the second.
+const FIRST: (&str, &str) = (
+    VIFS,
+    "030201EF 0500000A 0 0 0 0 1:1\n030201EF 0600000A 0 0 0 0 1:1\n",
+);
+
+const SECOND: (&str, &str) = (VIFS, "030201EF 0500000A 0 0 0 0 1:1\n");
+
+/// The entry of the source's LAN, with this need.
+fn of_source(need: u8) -> Reached {
+    Reached {
+        lan: LanNo(0),
+        rank: 0,
+        need,
+        forwarder: None,
+    }
+}
+
+/// The entry of another LAN, whose number is its rank.
+fn behind(lan: u8, need: u8, router: u32, vif: u8) -> Reached {
+    Reached {
+        lan: LanNo(lan.into()),
+        rank: lan,
+        need,
+        forwarder: Some((RouterNo(router), vif)),
+    }
+}
+
+/// The verdict on these entries for a flow.
+fn judges(
+    rt: &impl Abort,
+    alloc: Global,
+    domain: &Domain,
+    flow: u32,
+    entries: &[Reached],
+    wanted: &str,
+) -> Result<(), Fail> {
+    let lans = domain.topology().lans();
+    assert!(rt; flow < domain.topology().flows());
+    assert!(rt; entries.iter().all(|entry| entry.lan.0 < lans));
+    let verdict = check_flow(alloc, domain, flow, entries)?;
+    let shown = verdict.shown(domain.topology()).to_string(alloc)?;
+    assert!(rt; shown.as_str() == wanted, "{shown}");
+    Ok(())
+}
+
+/// The verdict on the entry of the source's LAN with this need, that of l1 and this one of l2.
+fn says(
+    rt: &impl Abort,
+    alloc: Global,
+    domain: &Domain,
+    flow: u32,
+    entries: (u8, Reached),
+    wanted: &str,
+) -> Result<(), Fail> {
+    let entries = [of_source(entries.0), behind(1, 2, 0, 1), entries.1];
+    judges(rt, alloc, domain, flow, &entries, wanted)
+}
+
+/// Needs of 0, routers that the topology hasn't, and a vif past the greatest.
+fn judges_entries(rt: &impl Abort, alloc: Global, domain: &Domain) -> Result<(), Fail> {
+    let nowhere = behind(2, 3, 2, 1);
+    says(
+        rt,
+        alloc,
+        domain,
+        0,
+        (0, behind(2, 3, 1, 1)),
+        "no BadSource",
+    )?;
+    says(rt, alloc, domain, 0, (1, nowhere), "no Extra r2 1 l2")?;
+    says(
+        rt,
+        alloc,
+        domain,
+        0,
+        (1, behind(2, 0, 1, 1)),
+        "no WrongNeed l2",
+    )?;
+    says(rt, alloc, domain, 1, (1, nowhere), "no Unfed l2")?;
+    says(
+        rt,
+        alloc,
+        domain,
+        1,
+        (1, behind(2, 3, u32::MAX, 255)),
+        "no Unfed l2",
+    )?;
+    says(
+        rt,
+        alloc,
+        domain,
+        1,
+        (1, behind(2, 3, 0, 255)),
+        "no Unfed l2",
+    )
+}
+
+/// Reasons and a verdict as they are written, a line each.
+fn lines_of(alloc: Global, topology: &Topology) -> Result<String, Fail> {
+    let mut text = String::new(alloc);
+    for reason in [
+        Reason::Missed(LanNo(3)),
+        Reason::Stray(RouterNo(2), 255),
+        Reason::Extra(RouterNo(2), 1, LanNo(3)),
+        Reason::Low(LanNo(u32::MAX)),
+        Reason::Low(LanNo(0)),
+    ] {
+        writeln!(text, "{}", reason.shown(topology))?;
+    }
+    write!(text, "{}", Verdict::Yes { copies: 1024 }.shown(topology))?;
+    Ok(text)
+}
+
+fn shows_reasons(rt: &impl Abort, alloc: Global, topology: &Topology) -> Result<(), Fail> {
+    let lines = lines_of(alloc, topology)?;
+    assert_eq!(rt;
+        lines.as_str(),
+        "Missed \nStray  255\nExtra  1 \nLow \nLow l0\nyes copies 1024"
+    );
+    Ok(())
+}
+
+#[test]
+fn entries_that_no_certificate_holds(rt: HostRuntime) -> Result<(), Fail> {
+    let alloc = rt.alloc();
+    let lans = ["", "", WANTED];
+    with_domain(alloc, TOPOLOGY, &[FIRST, SECOND], &lans, |domain| {
+        judges_entries(&rt, alloc, domain)
+    })
+}
+
+#[test]
+fn names_that_the_topology_has_not(rt: HostRuntime) -> Result<(), Fail> {
+    let alloc = rt.alloc();
+    let lans = ["", "", WANTED];
+    with_domain(alloc, TOPOLOGY, &[FIRST, SECOND], &lans, |domain| {
+        shows_reasons(&rt, alloc, domain.topology())
+    })
+}

@@ -1,5 +1,5 @@
+mod counts;
 mod kernel;
 mod losses;
 mod memory;
 mod network;
-mod steps;

@@ -1,218 +1,177 @@
-//! A chain of two routers as a bundle, and bundles that tell no domain.
+//! What the program doesn't show of reading a domain: the values that a bundle and a folder's files tell, and
+//! a source of files that fails half-way.
 
-mod files;
-
-use mc_igmp::{ListFault, ListFaultKind};
+use mc_files::{FaultyFiles, FileSource, MapFiles};
 use mc_input::*;
-use mc_samples::{CACHE, CHAIN, NamedText, VIFS, WANTED, chain_parts};
-use mc_tables::{TableFault, TableFaultKind};
-use mc_text::{BundleFault, PartName};
-use mc_topology::{Section, TopologyFault, TopologyFaultKind};
-use std::alloc::{AllocError, Global};
+use mc_samples::{CERTIFICATE, NamedBytes, chain_files};
+use std::alloc::Global;
 use std::process::Abort;
 use std::test::Fail;
 
-pub(crate) const NO_FLOW: &str = "version = 1\nlans = [\"l0\"]\nflow = []\n";
+/// Two routers from l0 over l1 to l2, where a host wants the one flow, with the certificate of its
+/// tree.
+pub(crate) const CHAIN: &str = "mcaudit bundle 1\n\
+part topology 385\n\
+version = 1\n\
+lans = [\"l0\", \"l1\", \"l2\"]\n\
+router = [{name = \"r1\"}, {name = \"r2\"}]\n\
+interface = [\n\
+{router = \"r1\", device = \"eth0\", lan = \"l0\"},\n\
+{router = \"r1\", device = \"eth1\", lan = \"l1\"},\n\
+{router = \"r2\", device = \"eth0\", lan = \"l1\"},\n\
+{router = \"r2\", device = \"eth1\", lan = \"l2\"},\n\
+]\n\
+source = [{address = \"10.0.0.5\", lan = \"l0\"}]\n\
+flow = [{source = \"10.0.0.5\", group = \"239.1.2.3\", ttl = 3}]\n\
+\n\
+part vif/r1 139\n\
+Interface BytesIn PktsIn BytesOut PktsOut Flags Local Remote\n\
+0 eth0 0 0 0 0 00000 00000000 00000000\n\
+1 eth1 0 0 0 0 00000 00000000 00000000\n\
+\n\
+part cache/r1 69\n\
+Group Origin Iif Pkts Bytes Wrong Oifs\n\
+030201EF 0500000A 0 0 0 0 1:1\n\
+\n\
+part vif/r2 139\n\
+Interface BytesIn PktsIn BytesOut PktsOut Flags Local Remote\n\
+0 eth0 0 0 0 0 00000 00000000 00000000\n\
+1 eth1 0 0 0 0 00000 00000000 00000000\n\
+\n\
+part cache/r2 69\n\
+Group Origin Iif Pkts Bytes Wrong Oifs\n\
+030201EF 0500000A 0 0 0 0 1:1\n\
+\n\
+part igmp/l0 0\n\
+\n\
+part igmp/l1 0\n\
+\n\
+part igmp/l2 33\n\
+2200eaf90000000102000000ef010203\n\
+\n\
+part certificate 215\n\
+{\"flows\":[{\"group\":\"239.1.2.3\",\"reached\":[{\"lan\":\"l0\",\"need\":1,\"rank\":0},{\"lan\":\"l1\",\"need\":2,\"rank\":1,\"router\":\"r1\",\"vif\":1},{\"lan\":\"l2\",\"need\":3,\"rank\":2,\"router\":\"r2\",\"vif\":1}],\"source\":\"10.0.0.5\"}],\"version\":1}\n\
+\n\
+end\n\
+";
 
-const UNENDED: &str = "Group Origin Iif Pkts Bytes Wrong Oifs\n030201EF 0500000A 0 0 0 0 1:1";
+/// Two ways from l0 to l2: by r1, l1 and r2, and by r3.
+pub(crate) const TWO_WAYS: &str = "mcaudit bundle 1\n\
+part topology 492\n\
+version = 1\n\
+lans = [\"l0\", \"l1\", \"l2\"]\n\
+router = [{name = \"r1\"}, {name = \"r2\"}, {name = \"r3\"}]\n\
+interface = [\n\
+{router = \"r1\", device = \"eth0\", lan = \"l0\"},\n\
+{router = \"r1\", device = \"eth1\", lan = \"l1\"},\n\
+{router = \"r2\", device = \"eth0\", lan = \"l1\"},\n\
+{router = \"r2\", device = \"eth1\", lan = \"l2\"},\n\
+{router = \"r3\", device = \"eth0\", lan = \"l0\"},\n\
+{router = \"r3\", device = \"eth1\", lan = \"l2\"},\n\
+]\n\
+source = [{address = \"10.0.0.5\", lan = \"l0\"}]\n\
+flow = [{source = \"10.0.0.5\", group = \"239.1.2.3\", ttl = 3}]\n\
+\n\
+part vif/r1 139\n\
+Interface BytesIn PktsIn BytesOut PktsOut Flags Local Remote\n\
+0 eth0 0 0 0 0 00000 00000000 00000000\n\
+1 eth1 0 0 0 0 00000 00000000 00000000\n\
+\n\
+part cache/r1 69\n\
+Group Origin Iif Pkts Bytes Wrong Oifs\n\
+030201EF 0500000A 0 0 0 0 1:1\n\
+\n\
+part vif/r2 139\n\
+Interface BytesIn PktsIn BytesOut PktsOut Flags Local Remote\n\
+0 eth0 0 0 0 0 00000 00000000 00000000\n\
+1 eth1 0 0 0 0 00000 00000000 00000000\n\
+\n\
+part cache/r2 69\n\
+Group Origin Iif Pkts Bytes Wrong Oifs\n\
+030201EF 0500000A 0 0 0 0 1:1\n\
+\n\
+part vif/r3 139\n\
+Interface BytesIn PktsIn BytesOut PktsOut Flags Local Remote\n\
+0 eth0 0 0 0 0 00000 00000000 00000000\n\
+1 eth1 0 0 0 0 00000 00000000 00000000\n\
+\n\
+part cache/r3 69\n\
+Group Origin Iif Pkts Bytes Wrong Oifs\n\
+030201EF 0500000A 0 0 0 0 1:1\n\
+\n\
+part igmp/l0 0\n\
+\n\
+part igmp/l1 0\n\
+\n\
+part igmp/l2 33\n\
+2200eaf90000000102000000ef010203\n\
+\n\
+end\n\
+";
 
-pub(crate) const BAD_THRESHOLD: &str =
-    "Group Origin Iif Pkts Bytes Wrong Oifs\n030201EF 0500000A 0 0 0 0 1:255\n";
-
-const CERTIFICATE: &str = "a certificate's text";
-
-// The parts, the certificate last.
-fn parts(alloc: Global) -> Result<Vec<NamedText>, AllocError> {
-    let mut parts = chain_parts(alloc)?;
-    parts.push(("certificate", CERTIFICATE))?;
-    Ok(parts)
+/// A domain of three LANs and this many routers is told, with this certificate or with none.
+fn is_told(input: &BundleInput<'_>, routers: usize, certificate: Option<&[u8]>) -> bool {
+    input.topology.lans() == 3
+        && input.topology.routers() as usize == routers
+        && input.tables.len() == routers
+        && input.reports.len() == 3
+        && input.certificate == certificate
 }
 
-// The parts with one of them another one.
-fn with_part(alloc: Global, place: usize, part: NamedText) -> Result<Vec<NamedText>, AllocError> {
-    let mut parts = parts(alloc)?;
-    if let Some(changed) = parts.get_mut(place) {
-        *changed = part;
-    }
-    Ok(parts)
-}
-
-// The text of a bundle of the parts.
-fn bundle_of(alloc: Global, parts: &[NamedText]) -> Result<String, Fail> {
-    let mut text = String::new(alloc);
-    text.push_str("mcaudit bundle 1\n")?;
-    for (name, content) in parts {
-        let part = format!(in alloc; "part {name} {}\n{content}\n", content.len())?;
-        text.push_str(&part)?;
-    }
-    text.push_str("end\n")?;
-    Ok(text)
-}
-
-// What the chain's bundle tells, with this certificate or with none.
-fn check_chain(rt: &impl Abort, input: &BundleInput<'_>, certificate: Option<&[u8]>) {
-    assert!(rt; input.topology.lans() == 3 && input.topology.routers() == 2);
-    assert!(rt; input.tables.len() == 2 && input.reports.len() == 3);
-    assert!(rt; input.certificate == certificate);
-}
-
-// The parts tell the chain.
+/// The bundle tells that.
 fn check_told(
     rt: &impl Abort,
     alloc: Global,
-    parts: &[NamedText],
+    bundle: &str,
+    routers: usize,
     certificate: Option<&[u8]>,
-) -> Result<(), Fail> {
-    let text = bundle_of(alloc, parts)?;
-    let input = read_input(alloc, text.as_bytes(), certificate.is_some())?;
-    check_chain(rt, &input, certificate);
+) -> Result<(), InputFault> {
+    let input = read_input(alloc, bundle.as_bytes(), certificate.is_some())?;
+    assert!(rt; is_told(&input, routers, certificate));
     Ok(())
 }
 
 #[test]
-fn chain_is_told(rt: HostRuntime) -> Result<(), Fail> {
-    let whole = parts(rt.alloc())?;
-    check_told(&rt, rt.alloc(), &whole, Some(CERTIFICATE.as_bytes()))?;
-    let uncertified = chain_parts(rt.alloc())?;
-    check_told(&rt, rt.alloc(), &uncertified, None)
-}
-
-// A bundle of the parts is refused for this.
-fn check_refused(
-    rt: &impl Abort,
-    alloc: Global,
-    parts: &[NamedText],
-    certified: bool,
-    wanted: Option<InputFault>,
-) -> Result<(), Fail> {
-    let text = bundle_of(alloc, parts)?;
-    let fault = read_input(alloc, text.as_bytes(), certified).err();
-    assert!(rt; fault == wanted);
+fn bundles_are_told(rt: HostRuntime) -> Result<(), Fail> {
+    check_told(&rt, rt.alloc(), CHAIN, 2, Some(CERTIFICATE.as_bytes()))?;
+    check_told(&rt, rt.alloc(), TWO_WAYS, 3, None)?;
     Ok(())
 }
 
-// So is the chain's with one part another one, where a certificate is to be there.
-fn check_part(
-    rt: &impl Abort,
-    alloc: Global,
-    place: usize,
-    part: NamedText,
-    wanted: Option<InputFault>,
-) -> Result<(), Fail> {
-    let parts = with_part(alloc, place, part)?;
-    check_refused(rt, alloc, &parts, true, wanted)
+/// What a source that gives so many of the chain's files and then fails tells of it.
+fn check_source(rt: &impl Abort, alloc: Global, files: &[NamedBytes], count: usize) {
+    let mut source = FaultyFiles::new(files, count);
+    let fault = read_files(alloc, &mut source).err();
+    let want = (count < 8).then_some(FilesFault::Read);
+    assert!(rt; fault == want, "after {count}");
+    assert_eq!(rt; FileSource::failures(&source), u64::from(count < 8));
 }
 
-// So is the chain's with the part at this place another one, for its name.
-fn check_name(rt: &impl Abort, alloc: Global, place: u32, part: NamedText) -> Result<(), Fail> {
-    let wanted = Some(InputFault::Parts(place.saturating_add(1)));
-    check_part(rt, alloc, place as usize, part, wanted)
-}
-
-#[test]
-fn other_names_are_refused_by_place(rt: HostRuntime) -> Result<(), Fail> {
-    let alloc = rt.alloc();
-    check_name(&rt, alloc, 0, ("topologies", CHAIN))?;
-    check_name(&rt, alloc, 1, ("vif/r2", VIFS))?;
-    check_name(&rt, alloc, 2, ("cache/r10", CACHE))?;
-    check_name(&rt, alloc, 4, ("vif/r2", CACHE))?;
-    check_name(&rt, alloc, 5, ("igmp/l", ""))?;
-    check_name(&rt, alloc, 7, ("igmp/l20", WANTED))?;
-    check_name(&rt, alloc, 8, ("certificates", CERTIFICATE))
-}
-
-#[test]
-fn other_counts_are_refused_by_place(rt: HostRuntime) -> Result<(), Fail> {
-    let parts = parts(rt.alloc())?;
-    for (count, certified, place) in [(0usize, true, 1u32), (8, true, 9), (9, false, 9)] {
-        let wanted = Some(InputFault::Parts(place));
-        let front = parts.get(..count).unwrap_or_default();
-        check_refused(&rt, rt.alloc(), front, certified, wanted)?;
+/// The chain is told.
+fn is_chain(answer: &Result<FilesInput, FilesFault>) -> bool {
+    match answer {
+        Ok(input) => {
+            input.topology.lans() == 3
+                && input.topology.routers() == 2
+                && input.tables.len() == 2
+                && input.reports.len() == 3
+        }
+        Err(_) => false,
     }
-    Ok(())
+}
+
+/// The files of the chain tell it.
+fn check_files(rt: &impl Abort, alloc: Global, files: &[NamedBytes]) {
+    let answer = read_files(alloc, &mut MapFiles::new(files));
+    assert!(rt; is_chain(&answer));
 }
 
 #[test]
-fn topologies_are_refused(rt: HostRuntime) -> Result<(), Fail> {
-    let no_flow = TopologyFault {
-        section: Section::Flow,
-        number: 0,
-        kind: TopologyFaultKind::NoFlow,
-    };
-    let wanted = Some(InputFault::Topology(no_flow));
-    check_part(&rt, rt.alloc(), 0, ("topology", NO_FLOW), wanted)
-}
-
-#[test]
-fn caches_are_refused_by_part(rt: HostRuntime) -> Result<(), Fail> {
-    let name = PartName::new(b"cache/r1").ok_or("a name")?;
-    for (text, kind) in [
-        (UNENDED, TableFaultKind::Unended),
-        (BAD_THRESHOLD, TableFaultKind::BadThreshold),
-    ] {
-        let wanted = Some(InputFault::Cache(name, TableFault { line: 2, kind }));
-        check_part(&rt, rt.alloc(), 2, ("cache/r1", text), wanted)?;
+fn files_are_told(rt: HostRuntime) -> Result<(), Fail> {
+    let files = chain_files(rt.alloc())?;
+    for count in 0..9usize {
+        check_source(&rt, rt.alloc(), &files, count);
     }
-    Ok(())
-}
-
-#[test]
-fn vif_tables_are_refused_by_part(rt: HostRuntime) -> Result<(), Fail> {
-    let name = PartName::new(b"vif/r2").ok_or("a name")?;
-    let kind = TableFaultKind::NoHeader;
-    let wanted = Some(InputFault::Vif(name, TableFault { line: 1, kind }));
-    check_part(&rt, rt.alloc(), 3, ("vif/r2", CACHE), wanted)
-}
-
-#[test]
-fn reports_are_refused_by_part(rt: HostRuntime) -> Result<(), Fail> {
-    let name = PartName::new(b"igmp/l1").ok_or("a name")?;
-    let list = ListFault {
-        line: 1,
-        record_no: 0,
-        kind: ListFaultKind::BadHex,
-    };
-    let wanted = Some(InputFault::Reports(name, list));
-    check_part(&rt, rt.alloc(), 6, ("igmp/l1", "zz\n"), wanted)
-}
-
-// The parts with one of them another one, and with another name for the list of l2.
-fn with_last_list(
-    alloc: Global,
-    place: usize,
-    part: NamedText,
-) -> Result<Vec<NamedText>, AllocError> {
-    let mut parts = with_part(alloc, place, part)?;
-    if let Some(changed) = parts.get_mut(7) {
-        *changed = ("igmp/l9", WANTED);
-    }
-    Ok(parts)
-}
-
-// Two parts of the chain other ones: their names come before what they hold.
-#[test]
-fn names_come_before_contents(rt: HostRuntime) -> Result<(), Fail> {
-    let parts = with_last_list(rt.alloc(), 2, ("cache/r1", UNENDED))?;
-    let wanted = Some(InputFault::Parts(8));
-    check_refused(&rt, rt.alloc(), &parts, true, wanted)
-}
-
-// The topology's contents come before the names that follow from it.
-#[test]
-fn topology_comes_before_names(rt: HostRuntime) -> Result<(), Fail> {
-    let parts = with_last_list(rt.alloc(), 0, ("topology", ""))?;
-    let text = bundle_of(rt.alloc(), &parts)?;
-    let fault = read_input(rt.alloc(), text.as_bytes(), true).err();
-    assert!(rt; matches!(fault, Some(InputFault::Topology(_))));
-    Ok(())
-}
-
-#[test]
-fn framing_comes_before_all(rt: HostRuntime) -> Result<(), Fail> {
-    let parts = with_part(rt.alloc(), 0, ("topology", ""))?;
-    let text = bundle_of(rt.alloc(), &parts)?;
-    let cut = text.as_bytes().strip_suffix(b"end\n").unwrap_or(b"");
-    let fault = read_input(rt.alloc(), cut, true).err();
-    assert!(rt; fault == Some(InputFault::Bundle(BundleFault::NoEnd)));
+    check_files(&rt, rt.alloc(), &files);
     Ok(())
 }

@@ -1,3 +1,79 @@
-mod network;
-mod orders;
-mod travels;
+//! Travels by pickers that no command has. The others are cases and rows of the command line's.
+
+use mc_forward::Domain;
+use mc_replay::{First, Numbers, Picker, Travel, replay, shown_event};
+use mc_samples::{BESIDE, FORWARDS, WANTED, two_flows, with_domain};
+use mc_topology::Topology;
+use std::alloc::Global;
+use std::fmt::Write;
+use std::process::Abort;
+use std::test::Fail;
+
+/// The events of a travel, a line each, and what it finds.
+fn text_of(alloc: Global, topology: &Topology, travel: &Travel) -> Result<String, Fail> {
+    let mut text = String::new(alloc);
+    for event in &travel.events {
+        writeln!(text, "{}", shown_event(*event, topology))?;
+    }
+    write!(text, "{}", travel.finding.shown(topology))?;
+    Ok(text)
+}
+
+/// The packet of the first flow with this TTL has this travel.
+fn travels<P: Picker>(
+    rt: &impl Abort,
+    alloc: Global,
+    domain: &Domain,
+    ttl: u8,
+    picker: &mut P,
+    wanted: &str,
+) -> Result<(), Fail> {
+    assert!(rt; 0 < domain.topology().flows());
+    assert!(rt; ttl > 0);
+    let travel = replay(alloc, domain, 0, ttl, picker)?;
+    let text = text_of(alloc, domain.topology(), &travel)?;
+    assert!(rt; text.as_str() == wanted, "{text}");
+    Ok(())
+}
+
+/// Numbers pick, and then the first: with two copies waiting 7 picks the same as 1.
+fn picks(rt: &impl Abort, alloc: Global, domain: &Domain) -> Result<(), Fail> {
+    for number in [1, 7] {
+        let mut picker = Numbers::new(vec![in alloc; number]?);
+        travels(
+            rt,
+            alloc,
+            domain,
+            3,
+            &mut picker,
+            "r3 0 ttl 3 sent 1 strayed 0
+r1 0 ttl 3 sent 1 strayed 0
+r2 1 ttl 2 other vif
+r2 0 ttl 2 sent 1 strayed 0
+Duplicate l2",
+        )?;
+    }
+    travels(
+        rt,
+        alloc,
+        domain,
+        2,
+        &mut &mut First,
+        "r1 0 ttl 2 sent 1 strayed 0
+r3 0 ttl 2 sent 1 strayed 0
+r2 0 ttl 1 sent 0 strayed 0
+r2 1 ttl 1 other vif
+Clean",
+    )
+}
+
+/// Each router forwards: r3 from l0 to l2, beside the chain of r1 and r2.
+#[test]
+fn numbers_pick_and_a_picker_is_lent(rt: HostRuntime) -> Result<(), Fail> {
+    let alloc = rt.alloc();
+    let topology = two_flows(alloc, BESIDE, 3)?;
+    let routers = [FORWARDS, FORWARDS, FORWARDS];
+    with_domain(alloc, &topology, &routers, &["", "", WANTED], |domain| {
+        picks(&rt, alloc, domain)
+    })
+}

@@ -1,9 +1,6 @@
-//! Outside values: certificates of a small network in both versions, each fault with its place,
-//! limits, what is read and what is written.
+//! What no clause says and no run of the program shows: a text that is too long, and certificates as
+//! they are written after others that were read.
 
-mod faults;
 mod limits;
-mod lists;
 mod network;
-mod values;
 mod written;

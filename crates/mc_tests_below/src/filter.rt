@@ -1,186 +1,114 @@
-//! What no clause says: worked merges, and that each call gives its answer where there is memory.
+//! What the program doesn't show of source filters: their modes and lists, and that each call gives its
+//! answer where there is memory.
 
 use mc_filter::*;
 use mc_igmp::ReportList;
 use mc_text::{Addr, Memory};
-use std::alloc::{AllocError, Global};
-use std::fmt::Write;
+use std::alloc::Global;
 use std::process::Abort;
 use std::test::Fail;
 
-const GROUP: [u8; 4] = [239, 1, 2, 3];
+// Reports of one record, of each group of 239.1.2.0/24 one after the other. With A, B and C for
+// 10.0.0.1, 10.0.0.2 and 10.0.0.3 they are: none; INCLUDE AB, INCLUDE BC; EXCLUDE AB, EXCLUDE BC;
+// EXCLUDE AB, EXCLUDE BC, INCLUDE B; INCLUDE B, EXCLUDE BC, EXCLUDE AB; INCLUDE A, EXCLUDE AB;
+// EXCLUDE AB, INCLUDE A; EXCLUDE A, INCLUDE A; INCLUDE A, EXCLUDE A; EXCLUDE AB, type 9 A; INCLUDE BAB.
+const REPORTS: &[u8] = b"\
+2200d7f60000000101000002ef0102010a0000010a000002\n\
+2200d7f40000000101000002ef0102010a0000020a000003\n\
+2200d6f50000000102000002ef0102020a0000010a000002\n\
+2200d6f30000000102000002ef0102020a0000020a000003\n\
+2200d6f40000000102000002ef0102030a0000010a000002\n\
+2200d6f20000000102000002ef0102030a0000020a000003\n\
+2200e1f60000000101000001ef0102030a000002\n\
+2200e1f50000000101000001ef0102040a000002\n\
+2200d6f10000000102000002ef0102040a0000020a000003\n\
+2200d6f30000000102000002ef0102040a0000010a000002\n\
+2200e1f50000000101000001ef0102050a000001\n\
+2200d6f20000000102000002ef0102050a0000010a000002\n\
+2200d6f10000000102000002ef0102060a0000010a000002\n\
+2200e1f40000000101000001ef0102060a000001\n\
+2200e0f30000000102000001ef0102070a000001\n\
+2200e1f30000000101000001ef0102070a000001\n\
+2200e1f20000000101000001ef0102080a000001\n\
+2200e0f20000000102000001ef0102080a000001\n\
+2200d6ee0000000102000002ef0102090a0000010a000002\n\
+2200d9f10000000109000001ef0102090a000001\n\
+2200cdea0000000101000003ef01020a0a0000020a0000010a000002\n";
 
-// The mode and the sources of a filter.
-fn shown(alloc: Global, filter: &Filter) -> Result<String, AllocError> {
-    let mut out = String::new(alloc);
-    let mode = filter.mode();
-    write!(out, "{mode:?}")?;
-    for source in filter.sources() {
-        write!(out, " {source}")?;
+// The filter that the records of each group merge to: I for Include or E for Exclude, and the last numbers
+// of the sources.
+const FILTERS: &str = "I;I123;E2;E;E;E2;E2;E;E;E12;I12";
+
+// Whether the sources are those with these last numbers.
+fn are_sources(sources: &[Addr], digits: &[u8]) -> bool {
+    for (source, digit) in sources.iter().zip(digits) {
+        if source.octets() != [10, 0, 0, *digit & 15] {
+            return false;
+        }
     }
-    Ok(out)
+    sources.len() == digits.len()
 }
 
-// Lists of reports of one record for 239.1.2.3, and their filters. Before a list stands what its
-// records say, where A, B and C are 10.0.0.1, 10.0.0.2 and 10.0.0.3.
-const MERGES: &str = "\
-||Include;\
-INCLUDE AB, INCLUDE BC|2200d7f40000000101000002ef0102030a0000010a000002\n\
-2200d7f20000000101000002ef0102030a0000020a000003\n|Include 10.0.0.1 10.0.0.2 10.0.0.3;\
-EXCLUDE AB, EXCLUDE BC|2200d6f40000000102000002ef0102030a0000010a000002\n\
-2200d6f20000000102000002ef0102030a0000020a000003\n|Exclude 10.0.0.2;\
-EXCLUDE AB, EXCLUDE BC, INCLUDE B|2200d6f40000000102000002ef0102030a0000010a000002\n\
-2200d6f20000000102000002ef0102030a0000020a000003\n2200e1f60000000101000001ef0102030a000002\n\
-|Exclude;\
-INCLUDE B, EXCLUDE BC, EXCLUDE AB|2200e1f60000000101000001ef0102030a000002\n\
-2200d6f20000000102000002ef0102030a0000020a000003\n\
-2200d6f40000000102000002ef0102030a0000010a000002\n|Exclude;\
-INCLUDE A, EXCLUDE AB|2200e1f70000000101000001ef0102030a000001\n\
-2200d6f40000000102000002ef0102030a0000010a000002\n|Exclude 10.0.0.2;\
-EXCLUDE AB, INCLUDE A|2200d6f40000000102000002ef0102030a0000010a000002\n\
-2200e1f70000000101000001ef0102030a000001\n|Exclude 10.0.0.2;\
-EXCLUDE A, INCLUDE A|2200e0f70000000102000001ef0102030a000001\n\
-2200e1f70000000101000001ef0102030a000001\n|Exclude;\
-INCLUDE A, EXCLUDE A|2200e1f70000000101000001ef0102030a000001\n\
-2200e0f70000000102000001ef0102030a000001\n|Exclude;\
-EXCLUDE AB, type 9 A|2200d6f40000000102000002ef0102030a0000010a000002\n\
-2200d9f70000000109000001ef0102030a000001\n|Exclude 10.0.0.1 10.0.0.2;\
-INCLUDE BAB|2200cdf10000000101000003ef0102030a0000020a0000010a000002\n|Include 10.0.0.1 10.0.0.2";
+// Whether the filter is the one that is written so.
+fn is_wanted(filter: &Filter, wanted: &str) -> bool {
+    match wanted.as_bytes() {
+        [b'I', digits @ ..] => filter.mode() == Mode::Include
+            && are_sources(filter.sources(), digits),
+        [b'E', digits @ ..] => filter.mode() == Mode::Exclude
+            && are_sources(filter.sources(), digits),
+        _ => false,
+    }
+}
 
-// The filter of each record of a list, one merged after the other.
-fn merged(alloc: Global, list: &ReportList) -> Result<Filter, Memory> {
+// The filter of each record of a group, one merged after the other.
+fn merged(alloc: Global, list: &ReportList, group: Addr) -> Result<Filter, Memory> {
     let mut filter = Filter::none(alloc);
     for told in list.records() {
-        filter.merge(&told)?;
+        if told.group == group {
+            filter.merge(&told)?;
+        }
     }
     Ok(filter)
 }
 
-// Merges the records of a list, one after the other and all at once.
-fn check_merged(
+// Merges the records of a group, one after the other and all at once.
+fn check_group(
     rt: &impl Abort,
     alloc: Global,
     list: &ReportList,
-    expected: &str,
+    last: u8,
+    wanted: &str,
 ) -> Result<(), Memory> {
-    let filter = merged(alloc, list)?;
-    assert!(rt; shown(alloc, &filter)?.as_str() == expected);
-    let wants = wants_of(alloc, list, Addr::from_octets(GROUP))?;
-    assert!(rt; shown(alloc, &wants)?.as_str() == expected);
+    let group = Addr::from_octets([239, 1, 2, last]);
+    assert!(rt;
+        is_wanted(&merged(alloc, list, group)?, wanted),
+        "merged, of {last}"
+    );
+    assert!(rt;
+        is_wanted(&wants_of(alloc, list, group)?, wanted),
+        "of {last}"
+    );
     Ok(())
 }
 
-// Merges the records of a list's text.
-fn check_merges(rt: &impl Abort, alloc: Global, text: &str, expected: &str) -> Result<(), Fail> {
-    let list = ReportList::read(alloc, text.as_bytes())?;
-    check_merged(rt, alloc, &list, expected)?;
-    Ok(())
-}
-
-#[test]
-fn merges(rt: HostRuntime) -> Result<(), Fail> {
-    for case in MERGES.split(';') {
-        let (_, rest) = case.split_once('|').expect(&rt, "a list");
-        let (text, expected) = rest.split_once('|').expect(&rt, "a filter");
-        check_merges(&rt, rt.alloc(), text, expected)?;
-    }
-    Ok(())
-}
-
-// Whether the LAN of a list wants what 10.0.0.5 sends to 239.1.2.3, or the list's fault.
-fn wanted(alloc: Global, text: &str) -> Result<String, Fail> {
-    let list = match ReportList::read(alloc, text.as_bytes()) {
-        Ok(list) => list,
-        Err(fault) => return Ok(fault.to_string(alloc)?),
-    };
-    let filter = wants_of(alloc, &list, Addr::from_octets(GROUP))?;
-    let answer = if filter.admits(Addr::from_octets([10, 0, 0, 5])) {
-        "wanted"
-    } else {
-        "not wanted"
-    };
-    Ok(String::from_str(alloc, answer)?)
-}
-
-// Lists, and whether their LAN wants it. After those of version 3 come a record of an unknown type,
-// a query and a leave; then reports of version 2 and of version 1, one with a byte more, one for
-// another group, a wrong one; and last what a Linux kernel sent of version 2 on a LAN, after another
-// querier's query.
-const WANTS: &str = "\
-|not wanted;\
-2200eaf90000000102000000ef010203\n|wanted;\
-2200EAF90000000102000000EF010203\n|wanted;\
-2200e0f30000000102000001ef0102030a000005\n|not wanted;\
-2200e0f30000000102000001ef0102030a000005\n2200e1f30000000101000001ef0102030a000005\n|wanted;\
-2200e1f30000000101000001ef0102030a000005\n2200e0f30000000102000001ef0102030a000005\n|wanted;\
-2200eaf80000000102000000ef010203\n|line 1 record 0: BadChecksum;\
-2200ebf80000000102000000ef010203ff\n|wanted;\
-2200e0f20000000102000002ef0102030a000005\n|line 1 record 1: Truncated;\
-2200e9f90000000103000000ef010203\n|line 1 record 1: StateChange;\
-2200e5f90000000107000000ef010203\n|not wanted;\
-1164ee9b00000000\n|not wanted;\
-1700f7faef010203\n|not wanted;\
-1600f8faef010203\n|wanted;\
-1200fcfaef010203\n|wanted;\
-1600f7faef01020301\n|wanted;\
-1600f8f9ef010204\n|not wanted;\
-1600f8fbef010203\n|line 1 record 0: BadChecksum;\
-2200e0f30000000102000001ef0102030a000005\n1600f8faef010203\n|wanted;\
-1101ecfe0000000002000000\n1600f8faef010203\n|wanted;\
-1101ecfe0000000002000000\n|not wanted";
-
-// Whether it is wanted as is expected.
-fn check_wanted(rt: &impl Abort, alloc: Global, text: &str, expected: &str) -> Result<(), Fail> {
-    let answer = wanted(alloc, text)?;
-    assert!(rt; answer.as_str() == expected, "{answer} at {text}");
-    Ok(())
-}
-
-#[test]
-fn wants_of_lists(rt: HostRuntime) -> Result<(), Fail> {
-    for case in WANTS.split(';') {
-        let (text, expected) = case.split_once('|').expect(&rt, "an answer");
-        check_wanted(&rt, rt.alloc(), text, expected)?;
-    }
-    Ok(())
-}
-
-// INCLUDE of 10.0.0.3 for 239.1.2.4, and EXCLUDE of 10.0.0.2 and 10.0.0.3 for 239.1.2.3.
-const TWO_GROUPS: &[u8] = b"2200e1f40000000101000001ef0102040a000003\n\
-2200d6f20000000102000002ef0102030a0000020a000003\n";
-
-#[test]
-fn wants_of_one_group(rt: HostRuntime) -> Result<(), Fail> {
-    let list = ReportList::read(rt.alloc(), TWO_GROUPS)?;
-    let wants = wants_of(rt.alloc(), &list, Addr::from_octets(GROUP))?;
-    assert!(rt; wants.admits(Addr::from_octets([10, 0, 0, 1])));
-    assert!(rt; !wants.admits(Addr::from_octets([10, 0, 0, 3])));
-    Ok(())
-}
-
-// Reports of three hosts, as a Linux kernel sent them, for two groups. Of a third one nothing is
-// told.
-const THREE_HOSTS: &[u8] = b"\
-2200e2de0000000201000001e80101010a00000902000002ef0102030a0000050a000006\n\
-2200e1e00000000202000001e80101010a00000502000002ef0102030a0000060a000007\n\
-2200e0f20000000102000001ef0102030a000006\n";
-
-// What those of a list want of three groups, and of none.
+// Merges the records of three groups in one walk over the list, and those of no group.
 fn check_groups(rt: &impl Abort, alloc: Global, list: &ReportList) -> Result<(), Memory> {
-    let groups = [[232, 1, 1, 1], [239, 1, 2, 2], [239, 1, 2, 3]].map(Addr::from_octets);
+    let groups = [[239, 1, 2, 0], [239, 1, 2, 2], [239, 1, 2, 10]].map(Addr::from_octets);
     let filters = wants_of_groups(alloc, list, &groups)?;
-    let expected = ["Exclude 10.0.0.5", "Include", "Exclude 10.0.0.6"];
-    assert!(rt; filters.len() == expected.len());
-    for (filter, expected) in filters.iter().zip(expected) {
-        assert!(rt; shown(alloc, filter)?.as_str() == expected);
+    assert!(rt; filters.len() == 3);
+    for (filter, wanted) in filters.iter().zip(["I", "E2", "I12"]) {
+        assert!(rt; is_wanted(filter, wanted), "{wanted}");
     }
     assert!(rt; wants_of_groups(alloc, list, &[])?.is_empty());
     Ok(())
 }
 
 #[test]
-fn wants_of_several_groups(rt: HostRuntime) -> Result<(), Fail> {
-    let list = ReportList::read(rt.alloc(), THREE_HOSTS)?;
+fn merges(rt: HostRuntime) -> Result<(), Fail> {
+    let list = ReportList::read(rt.alloc(), REPORTS)?;
+    for (last, wanted) in (0..11).zip(FILTERS.split(';')) {
+        check_group(&rt, rt.alloc(), &list, last, wanted)?;
+    }
     check_groups(&rt, rt.alloc(), &list)?;
     Ok(())
 }

@@ -1,6 +1,4 @@
-//! What no clause says: worked texts, and texts of a kernel.
+//! What the program doesn't show of a router's forwarding tables.
 
-mod caches;
-mod kernel;
+mod faults;
 mod memory;
-mod vifs;

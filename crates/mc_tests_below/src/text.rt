@@ -1,7 +1,6 @@
-//! What no clause says: worked values, and devices that fail.
+//! What no clause says and no run of the program shows: worked values, the greatest bundles, and
+//! devices that fail.
 
 mod bundle_writes;
-mod bundles;
 mod devices;
-mod network;
 mod texts;

@@ -1,8 +1,6 @@
-//! What no clause says: which of two broken rules is answered, other spellings, limits and
+//! What no clause says and no run of the program shows: a text that is too long, want of memory, and
 //! look-ups.
 
-mod faults;
 mod limits;
 mod memory;
 pub(crate) mod network;
-mod spellings;

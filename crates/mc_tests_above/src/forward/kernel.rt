@@ -1,7 +1,9 @@
-//! Domains of the texts of real Linux kernels, and of the reports that hosts sent.
+//! Domains of the texts of real Linux kernels, and of the reports that hosts sent: what lies where,
+//! and which LAN wants what. Where the routers send, the command line's cases show of the same texts
+//! (`make_kernel_texts_*`).
 
-use mc_forward::{Domain, RowFor};
-use mc_samples::{WANTED, domain_of};
+use mc_forward::Domain;
+use mc_samples::{WANTED, with_domain};
 use mc_topology::{LanNo, RouterNo};
 use std::alloc::Global;
 use std::process::Abort;
@@ -97,34 +99,6 @@ fn placed(rt: &impl Abort, domain: &Domain, vif: u8) -> Option<LanNo> {
     domain.placed(RouterNo(0), vif)
 }
 
-/// Whether a LAN wants a flow.
-fn wants(rt: &impl Abort, domain: &Domain, lan: u32, flow: u32) -> bool {
-    assert!(rt; lan < domain.topology().lans());
-    assert!(rt; flow < domain.topology().flows());
-    domain.wants(LanNo(lan), flow)
-}
-
-/// The outgoing vifs of the first router for a flow, where its row is exact and from vif 0.
-fn sent_to(rt: &impl Abort, domain: &Domain, flow: u32, vifs: &[u8]) -> bool {
-    assert!(rt; domain.topology().routers() > 0);
-    assert!(rt; flow < domain.topology().flows());
-    match domain.entry(RouterNo(0), flow) {
-        RowFor::Exact(entry) => {
-            let oifs = entry.oifs.as_slice();
-            entry.iif == 0
-                && oifs.len() == vifs.len()
-                && oifs.iter().zip(vifs).all(|(oif, vif)| oif.vif == *vif)
-        }
-        RowFor::Open | RowFor::NoRow => false,
-    }
-}
-
-/// A router with a register vif.
-fn registers(alloc: Global) -> Result<Domain, Fail> {
-    let tables = (REGISTER_VIFS, REGISTER_CACHE);
-    domain_of(alloc, REGISTER_TOPOLOGY, &[tables], &["", WANTED])
-}
-
 /// Vifs 0 and 1 lie on the LANs of their devices, and no other vif on any.
 fn has_two_placed(rt: &impl Abort, domain: &Domain) {
     assert!(rt; placed(rt, domain, 0) == Some(LanNo(0)));
@@ -136,83 +110,43 @@ fn has_two_placed(rt: &impl Abort, domain: &Domain) {
 
 #[test]
 fn register_vif_lies_on_no_lan(rt: HostRuntime) -> Result<(), Fail> {
-    let domain = registers(rt.alloc())?;
-    has_two_placed(&rt, &domain);
-    Ok(())
+    let tables = (REGISTER_VIFS, REGISTER_CACHE);
+    with_domain(
+        rt.alloc(),
+        REGISTER_TOPOLOGY,
+        &[tables],
+        &["", WANTED],
+        |domain| {
+            has_two_placed(&rt, domain);
+            Ok(())
+        },
+    )
 }
 
-#[test]
-fn register_vif_is_not_sent_to(rt: HostRuntime) -> Result<(), Fail> {
-    let domain = registers(rt.alloc())?;
-    assert!(rt; sent_to(&rt, &domain, 0, &[1]));
-    Ok(())
-}
-
-/// A router whose three LANs' hosts reported filters of five flows.
-fn filters(alloc: Global) -> Result<Domain, Fail> {
-    let tables = (FILTERS_VIFS, FILTERS_CACHE);
-    let lans = [FILTERS_L0, FILTERS_L1, FILTERS_L2];
-    domain_of(alloc, FILTERS_TOPOLOGY, &[tables], &lans)
-}
-
-/// A LAN wants the flows, from the first on, as these words say. Of `-` nothing is said.
-fn wants_these(rt: &impl Abort, domain: &Domain, lan: u32, words: &str) {
+/// A LAN has one interface, at this vif of the first router, and it wants the flows, from the first
+/// on, as these words say. Of `-` nothing is said.
+fn has_and_wants(rt: &impl Abort, domain: &Domain, lan: u32, vif: u8, words: &str) {
+    assert!(rt; lan < domain.topology().lans());
+    let mut interfaces = domain.interfaces(LanNo(lan));
+    assert!(rt; interfaces.next() == Some((RouterNo(0), vif)));
+    assert!(rt; interfaces.next().is_none());
     for (flow, word) in (0..5u32).zip(words.split(' ')) {
         if word != "-" {
-            let found = wants(rt, domain, lan, flow);
+            assert!(rt; flow < domain.topology().flows());
+            let found = domain.wants(LanNo(lan), flow);
             assert!(rt; found == (word == "yes"), "LAN {lan} flow {flow}");
         }
     }
 }
 
-/// Which LANs want which flows.
-fn wants_by_filters(rt: &impl Abort, domain: &Domain) {
-    wants_these(rt, domain, 0, "no - - - no");
-    wants_these(rt, domain, 1, "yes yes no yes no");
-    wants_these(rt, domain, 2, "yes no yes no yes");
-}
-
 #[test]
 fn reports_of_three_hosts(rt: HostRuntime) -> Result<(), Fail> {
-    let domain = filters(rt.alloc())?;
-    wants_by_filters(&rt, &domain);
-    Ok(())
-}
-
-/// Where the router sends each of the five flows.
-fn sends_five_flows(rt: &impl Abort, domain: &Domain) {
-    assert!(rt; sent_to(rt, domain, 0, &[1, 2]));
-    assert!(rt; sent_to(rt, domain, 1, &[1]));
-    assert!(rt; sent_to(rt, domain, 2, &[2]));
-    assert!(rt; sent_to(rt, domain, 3, &[1]));
-    assert!(rt; sent_to(rt, domain, 4, &[1, 2]));
-}
-
-#[test]
-fn rows_of_five_flows(rt: HostRuntime) -> Result<(), Fail> {
-    let domain = filters(rt.alloc())?;
-    sends_five_flows(&rt, &domain);
-    Ok(())
-}
-
-/// A LAN has one interface, at this vif of the first router.
-fn has_one_interface(rt: &impl Abort, domain: &Domain, lan: u32, vif: u8) {
-    assert!(rt; lan < domain.topology().lans());
-    let mut interfaces = domain.interfaces(LanNo(lan));
-    assert!(rt; interfaces.next() == Some((RouterNo(0), vif)));
-    assert!(rt; interfaces.next().is_none());
-}
-
-/// Each vif has its LAN.
-fn has_three_interfaces(rt: &impl Abort, domain: &Domain) {
-    for (lan, vif) in [(0u32, 0u8), (1, 1), (2, 2)] {
-        has_one_interface(rt, domain, lan, vif);
-    }
-}
-
-#[test]
-fn interface_of_each_lan(rt: HostRuntime) -> Result<(), Fail> {
-    let domain = filters(rt.alloc())?;
-    has_three_interfaces(&rt, &domain);
-    Ok(())
+    let tables = (FILTERS_VIFS, FILTERS_CACHE);
+    let lans = [FILTERS_L0, FILTERS_L1, FILTERS_L2];
+    with_domain(rt.alloc(), FILTERS_TOPOLOGY, &[tables], &lans, |domain| {
+        has_and_wants(&rt, domain, 0, 0, "no - - - no");
+        has_and_wants(&rt, domain, 1, 1, "yes yes no yes no");
+        has_and_wants(&rt, domain, 2, 2, "yes no yes no yes");
+        Ok(())
+    })
 }

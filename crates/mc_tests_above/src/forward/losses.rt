@@ -1,116 +1,133 @@
-//! Losses, and orders of handling.
+//! Losses, and orders of handling, in three networks of one domain.
 
 use super::network::*;
-use mc_forward::Domain;
-use mc_samples::{CHAIN, FORWARDS, WANTED, domain_of};
+use mc_forward::{Domain, Flight};
+use mc_samples::{VIFS, WANTED, with_domain};
 use std::alloc::Global;
 use std::process::Abort;
 use std::test::Fail;
 
-/// The chain with a third router: r3 from l0 to l3.
-const BRANCHES: &str = r#"version = 1
-lans = ["l0", "l1", "l2", "l3"]
-router = [{name = "r1"}, {name = "r2"}, {name = "r3"}]
+/// The chain of r1 and r2 from l0 over l1 to l2; branches, of r3 and r4 from l3 over l4 to l5, and
+/// of r5 from l3 to l6; and two ways, of r6 and r7 from l7 over l8 to l9, and of r8 from l7 to l9.
+/// Each has its flow.
+const TOPOLOGY: &str = r#"version = 1
+lans = ["l0", "l1", "l2", "l3", "l4", "l5", "l6", "l7", "l8", "l9"]
+router = [
+{name = "r1"}, {name = "r2"}, {name = "r3"}, {name = "r4"},
+{name = "r5"}, {name = "r6"}, {name = "r7"}, {name = "r8"},
+]
 interface = [
 {router = "r1", device = "eth0", lan = "l0"},
 {router = "r1", device = "eth1", lan = "l1"},
 {router = "r2", device = "eth0", lan = "l1"},
 {router = "r2", device = "eth1", lan = "l2"},
-{router = "r3", device = "eth0", lan = "l0"},
-{router = "r3", device = "eth1", lan = "l3"},
+{router = "r3", device = "eth0", lan = "l3"},
+{router = "r3", device = "eth1", lan = "l4"},
+{router = "r4", device = "eth0", lan = "l4"},
+{router = "r4", device = "eth1", lan = "l5"},
+{router = "r5", device = "eth0", lan = "l3"},
+{router = "r5", device = "eth1", lan = "l6"},
+{router = "r6", device = "eth0", lan = "l7"},
+{router = "r6", device = "eth1", lan = "l8"},
+{router = "r7", device = "eth0", lan = "l8"},
+{router = "r7", device = "eth1", lan = "l9"},
+{router = "r8", device = "eth0", lan = "l7"},
+{router = "r8", device = "eth1", lan = "l9"},
 ]
-source = [{address = "10.0.0.5", lan = "l0"}]
-flow = [{source = "10.0.0.5", group = "239.1.2.3", ttl = 3}]
+source = [
+{address = "10.0.0.5", lan = "l0"},
+{address = "10.0.0.6", lan = "l3"},
+{address = "10.0.0.7", lan = "l7"},
+]
+flow = [
+{source = "10.0.0.5", group = "239.1.2.3", ttl = 3},
+{source = "10.0.0.6", group = "239.1.2.3", ttl = 3},
+{source = "10.0.0.7", group = "239.1.2.3", ttl = 3},
+]
 "#;
 
-/// The chain with a third router: r3 from l0 to l2.
-const TWO_WAYS: &str = r#"version = 1
-lans = ["l0", "l1", "l2"]
-router = [{name = "r1"}, {name = "r2"}, {name = "r3"}]
-interface = [
-{router = "r1", device = "eth0", lan = "l0"},
-{router = "r1", device = "eth1", lan = "l1"},
-{router = "r2", device = "eth0", lan = "l1"},
-{router = "r2", device = "eth1", lan = "l2"},
-{router = "r3", device = "eth0", lan = "l0"},
-{router = "r3", device = "eth1", lan = "l2"},
-]
-source = [{address = "10.0.0.5", lan = "l0"}]
-flow = [{source = "10.0.0.5", group = "239.1.2.3", ttl = 3}]
-"#;
+/// A router that forwards all three flows from vif 0 to vif 1.
+const ROUTER: (&str, &str) = (
+    VIFS,
+    "030201EF 0500000A 0 0 0 0 1:1
+030201EF 0600000A 0 0 0 0 1:1
+030201EF 0700000A 0 0 0 0 1:1
+",
+);
 
-/// Each LAN of the first flow's packet with this TTL, whose copies are handled in this order, ends
-/// with so many copies.
+/// The waiting copies with these indexes are handled, one after the other.
+fn handles(rt: &impl Abort, flight: &mut Flight<'_>, indexes: &[usize]) -> Result<(), Fail> {
+    for index in indexes {
+        let _event = handled(rt, flight, *index)?;
+    }
+    Ok(())
+}
+
+/// One copy is lost where a loss is told, copies are handled in this order, and then so many were
+/// carried on these LANs, with no stray.
+fn goes(
+    rt: &impl Abort,
+    flight: &mut Flight<'_>,
+    steps: (Option<usize>, &[usize]),
+    carried: &[(u32, u32)],
+) -> Result<(), Fail> {
+    if let Some(loss) = steps.0 {
+        assert!(rt; loss < flight.waiting());
+        flight.lose(loss);
+    }
+    handles(rt, flight, steps.1)?;
+    assert!(rt; flight.strays().is_empty());
+    ends_with(rt, flight, carried);
+    Ok(())
+}
+
+/// The same of a new packet.
 fn ends_after(
     rt: &impl Abort,
     alloc: Global,
     domain: &Domain,
-    ttl: u8,
-    indexes: &[usize],
+    packet: (u32, u8),
+    steps: (Option<usize>, &[usize]),
     carried: &[(u32, u32)],
 ) -> Result<(), Fail> {
-    let mut flight = flight_of(rt, alloc, domain, ttl)?;
-    handles(rt, &mut flight, indexes)?;
-    ends_with(rt, &flight, carried);
-    Ok(())
+    let mut flight = flight_of(rt, alloc, domain, packet)?;
+    goes(rt, &mut flight, steps, carried)
 }
 
-/// Each LAN of the first flow's packet with TTL 3, of which a waiting copy is lost before the
-/// others are handled in this order, ends with so many copies.
-fn ends_after_loss(
-    rt: &impl Abort,
-    alloc: Global,
-    domain: &Domain,
-    loss: usize,
-    indexes: &[usize],
-    carried: &[(u32, u32)],
-) -> Result<(), Fail> {
-    let mut flight = flight_of(rt, alloc, domain, 3)?;
-    lost(rt, &mut flight, loss);
-    handles(rt, &mut flight, indexes)?;
-    ends_with(rt, &flight, carried);
-    Ok(())
-}
-
-/// The domain of the branches, of which l2 and l3 want the flow.
-fn branches(alloc: Global) -> Result<Domain, Fail> {
-    let routers = [FORWARDS, FORWARDS, FORWARDS];
-    domain_of(alloc, BRANCHES, &routers, &["", "", WANTED, WANTED])
-}
-
-#[test]
-fn first_copy_is_lost(rt: HostRuntime) -> Result<(), Fail> {
-    let alloc = rt.alloc();
-    let domain = domain_of(alloc, CHAIN, &[FORWARDS, FORWARDS], &["", "", WANTED])?;
-    let carried = [(0, 1), (1, 0), (2, 0)];
-    ends_after_loss(&rt, alloc, &domain, 0, &[], &carried)
-}
-
-#[test]
-fn branches_in_every_order(rt: HostRuntime) -> Result<(), Fail> {
-    let alloc = rt.alloc();
-    let domain = branches(alloc)?;
-    let once = [(0, 1), (1, 1), (2, 1), (3, 1)];
+/// A TTL of 2 is below the need of l5.
+fn branches_in_every_order(rt: &impl Abort, alloc: Global, domain: &Domain) -> Result<(), Fail> {
+    let once = [(3, 1), (4, 1), (5, 1), (6, 1)];
+    let low = [(3, 1), (4, 1), (5, 0), (6, 1)];
     for indexes in [[0, 0, 0], [0, 1, 0], [1, 0, 0]] {
-        ends_after(&rt, alloc, &domain, 3, &indexes, &once)?;
+        ends_after(rt, alloc, domain, (1, 3), (None, &indexes), &once)?;
+        ends_after(rt, alloc, domain, (1, 2), (None, &indexes), &low)?;
     }
-    let low = [(0, 1), (1, 1), (2, 0), (3, 1)];
-    ends_after(&rt, alloc, &domain, 2, &[0, 0, 0], &low)
+    Ok(())
+}
+
+/// The first copy of the chain, one branch, and one of two ways.
+fn copies_are_lost(rt: &impl Abort, alloc: Global, domain: &Domain) -> Result<(), Fail> {
+    let first = [(0, 1), (1, 0), (2, 0)];
+    ends_after(rt, alloc, domain, (0, 3), (Some(0), &[]), &first)?;
+    let branch = [(3, 1), (4, 0), (5, 0), (6, 1)];
+    ends_after(rt, alloc, domain, (1, 3), (Some(0), &[0]), &branch)?;
+    let second = [(7, 1), (8, 1), (9, 1)];
+    ends_after(rt, alloc, domain, (2, 3), (Some(1), &[0, 0, 0]), &second)
+}
+
+fn flights_end(rt: &impl Abort, alloc: Global, domain: &Domain) -> Result<(), Fail> {
+    branches_in_every_order(rt, alloc, domain)?;
+    copies_are_lost(rt, alloc, domain)?;
+    // with TTL 2 the chain's r2 sends no copy
+    let low = [(0, 1), (1, 1), (2, 0)];
+    ends_after(rt, alloc, domain, (0, 2), (None, &[0, 0]), &low)
 }
 
 #[test]
-fn one_branch_is_lost(rt: HostRuntime) -> Result<(), Fail> {
+fn orders_and_losses(rt: HostRuntime) -> Result<(), Fail> {
     let alloc = rt.alloc();
-    let domain = branches(alloc)?;
-    let carried = [(0, 1), (1, 0), (2, 0), (3, 1)];
-    ends_after_loss(&rt, alloc, &domain, 0, &[0], &carried)
-}
-
-#[test]
-fn loss_spares_a_second_copy(rt: HostRuntime) -> Result<(), Fail> {
-    let alloc = rt.alloc();
-    let routers = [FORWARDS, FORWARDS, FORWARDS];
-    let domain = domain_of(alloc, TWO_WAYS, &routers, &["", "", WANTED])?;
-    let carried = [(0, 1), (1, 1), (2, 1)];
-    ends_after_loss(&rt, alloc, &domain, 1, &[0, 0, 0], &carried)
+    let lans = ["", "", WANTED, "", "", WANTED, WANTED, "", "", WANTED];
+    with_domain(alloc, TOPOLOGY, &[ROUTER; 8], &lans, |domain| {
+        flights_end(&rt, alloc, domain)
+    })
 }

@@ -1,4 +1,4 @@
-//! One LAN alone and a router without a row through `run_audit`, and devices that fail.
+//! One LAN alone and a router without a row through `run_audit`, from files and to an output that fail.
 
 use super::*;
 use mc_files::{FaultyFiles, FileSource, MapFiles};
@@ -49,44 +49,6 @@ flow = [{source = \"10.0.0.5\", group = \"239.1.2.3\", ttl = 2}]\n",
     ("igmp-l0", b""),
     ("igmp-l1", b"2200eaf90000000102000000ef010203\n"),
 ];
-
-/// What is written of it, without the travel and with it.
-const FOUND: &str = "\
-flow 10.0.0.5 239.1.2.3 ttl 2 no certificate
-found ttl 255 Missed l1
-verdict no
-";
-
-const TRAVELLED: &str = "\
-flow 10.0.0.5 239.1.2.3 ttl 2 no certificate
-found ttl 255 Missed l1
-event r1 0 ttl 255 no row
-verdict no
-";
-
-/// What the run answers for files, and what it writes.
-fn audited(
-    alloc: Global,
-    files: &[(&str, &[u8])],
-    travels: bool,
-) -> (Result<bool, RunFault>, Vec<u8>) {
-    let mut source = MapFiles::new(files);
-    let mut output = ToWriter::new(Vec::new(alloc));
-    let result = run_audit(alloc, &mut source, travels, &mut output);
-    (result, output.into_inner())
-}
-
-#[test]
-fn files_of_domains(rt: HostRuntime) {
-    let (result, written) = audited(rt.alloc(), &ONE_LAN, true);
-    assert_eq!(rt; result, Ok(true));
-    assert_eq!(rt; written.as_slice(), CERTIFIED.as_bytes());
-    for (travels, told) in [(false, FOUND), (true, TRAVELLED)] {
-        let (result, written) = audited(rt.alloc(), &NO_ROW, travels);
-        assert_eq!(rt; result, Ok(false));
-        assert_eq!(rt; written.as_slice(), told.as_bytes());
-    }
-}
 
 /// A file that isn't there or can't be read is told before any later one is judged.
 #[test]

@@ -1,7 +1,5 @@
-//! One LAN alone and a domain with two ways to its last LAN through `run_make`, and devices that
-//! fail.
+//! One LAN alone through `run_make`, and devices that fail.
 
-use super::replay::TWO_WAYS;
 use super::*;
 use mc_run::run_make;
 
@@ -21,32 +19,6 @@ end\n\
 /// Its certificate.
 const CERTIFICATE: &str =
     "{\"flows\":[{\"group\":\"239.1.2.3\",\"source\":\"10.0.0.5\",\"tree\":0}],\"trees\":[[{\"lan\":\"l0\",\"need\":1,\"rank\":0}]],\"version\":2}\n";
-
-/// What is written of the two ways.
-const FOUND: &str = "\
-flow 10.0.0.5 239.1.2.3 ttl 3 no certificate
-found ttl 255 Duplicate l2
-";
-
-#[test]
-fn source_alone_has_a_certificate(rt: HostRuntime) {
-    let mut input = FromReader::new(ONE_LAN.as_bytes());
-    let mut output = ToWriter::new(Vec::new(rt.alloc()));
-    let result = run_make(rt.alloc(), &mut input, &mut output);
-    assert_eq!(rt; result, Ok(true));
-    let written = output.into_inner();
-    assert_eq!(rt; written.as_slice(), CERTIFICATE.as_bytes());
-}
-
-#[test]
-fn two_ways_have_none(rt: HostRuntime) {
-    let mut input = FromReader::new(TWO_WAYS.as_bytes());
-    let mut output = ToWriter::new(Vec::new(rt.alloc()));
-    let result = run_make(rt.alloc(), &mut input, &mut output);
-    assert_eq!(rt; result, Ok(false));
-    let written = output.into_inner();
-    assert_eq!(rt; written.as_slice(), FOUND.as_bytes());
-}
 
 #[test]
 fn bundle_that_breaks_off(rt: HostRuntime) {

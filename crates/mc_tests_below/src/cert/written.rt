@@ -1,109 +1,97 @@
-//! Certificates as they are written.
+//! Certificates as they are written after others that were read.
 
-use super::network::{NETWORK, TWO_FLOWS, VERSION_ONE, VERSION_TWO};
+ghost use Rattle.mc_cert.specs.Certificate.{BelongsTo};
+
+use super::network::{NETWORK, TWO_FLOWS};
 use crate::topology::network::on_topology;
 use mc_cert::*;
 use mc_topology::Topology;
 use std::alloc::{AllocError, Global};
+use std::process::Abort;
 use std::test::Fail;
 
-/// The text of the certificate that a text stands for, over a topology.
-fn rewritten_over(alloc: Global, topology: &Topology, text: &str) -> Result<String, Fail> {
+/// Whether a text is that of a certificate.
+fn is_written(alloc: Global, topology: &Topology, certificate: &Certificate, wanted: &str) -> bool
+    requires { BelongsTo topology.now certificate.now }
+{
+    match certificate.to_json(alloc, topology) {
+        Ok(text) => text.as_str() == wanted,
+        Err(_) => false,
+    }
+}
+
+/// Whether the certificate that a text stands for is written as this one, over a topology.
+fn is_rewritten_over(alloc: Global, topology: &Topology, text: &str, wanted: &str) -> bool {
     texts_stand_for_certificates();
-    let certificate = Certificate::read(alloc, text.as_bytes(), topology)?;
-    Ok(certificate.to_json(alloc, topology)?)
+    match Certificate::read(alloc, text.as_bytes(), topology) {
+        Ok(certificate) => is_written(alloc, topology, &certificate, wanted),
+        Err(_) => false,
+    }
 }
 
-/// The text of the certificate that a text stands for, over the topology of a network.
-fn rewritten(alloc: Global, network: &str, text: &str) -> Result<String, Fail> {
-    on_topology(alloc, network.as_bytes(), |topology| {
-        rewritten_over(alloc, topology, text)
-    })?
+/// The same, over the topology of a network.
+fn is_rewritten(alloc: Global, network: &str, text: &str, wanted: &str) -> bool {
+    let found = on_topology(alloc, network.as_bytes(), |topology| {
+        is_rewritten_over(alloc, topology, text, wanted)
+    });
+    matches!(found, Ok(true))
 }
 
-/// A network, the text of one of its certificates, and how it is written.
-struct Case {
-    network: &'static str,
-    text: &'static str,
-    written: &'static str,
+/// Certificates of the network, each after a comment, and how each is written.
+const OF_ONE_FLOW: &str = r#"# version 1
+{"flows":[{"group":"239.1.2.3","reached":[{"lan":"l0","need":1,"rank":0},{"lan":"l1","need":2,"rank":1,"router":"r1","vif":1},{"lan":"l2","need":3,"rank":2,"router":"r2","vif":1}],"source":"10.0.0.5"}],"version":1}
+{"flows":[{"group":"239.1.2.3","source":"10.0.0.5","tree":0}],"trees":[[{"lan":"l0","need":1,"rank":0},{"lan":"l1","need":2,"rank":1,"router":"r1","vif":1},{"lan":"l2","need":3,"rank":2,"router":"r2","vif":1}]],"version":2}
+
+# version 2
+{"flows":[{"group":"239.1.2.3","source":"10.0.0.5","tree":0}],"trees":[[{"lan":"l0","need":1,"rank":0},{"lan":"l1","need":2,"rank":1,"router":"r1","vif":1},{"lan":"l2","need":3,"rank":2,"router":"r2","vif":1}]],"version":2}
+{"flows":[{"group":"239.1.2.3","source":"10.0.0.5","tree":0}],"trees":[[{"lan":"l0","need":1,"rank":0},{"lan":"l1","need":2,"rank":1,"router":"r1","vif":1},{"lan":"l2","need":3,"rank":2,"router":"r2","vif":1}]],"version":2}
+
+# no entries
+{"flows":[{"group":"239.1.2.3","reached":[],"source":"10.0.0.5"}],"version":1}
+{"flows":[{"group":"239.1.2.3","source":"10.0.0.5","tree":0}],"trees":[[]],"version":2}"#;
+
+/// The same of two flows.
+const OF_TWO_FLOWS: &str = r#"# equal lists of two flows are one tree
+{"flows":[{"group":"239.1.2.3","reached":[{"lan":"l0","need":1,"rank":0}],"source":"10.0.0.5"},{"group":"239.1.2.4","reached":[{"lan":"l0","need":1,"rank":0}],"source":"10.0.0.5"}],"version":1}
+{"flows":[{"group":"239.1.2.3","source":"10.0.0.5","tree":0},{"group":"239.1.2.4","source":"10.0.0.5","tree":0}],"trees":[[{"lan":"l0","need":1,"rank":0}]],"version":2}
+
+# one tree of both
+{"flows":[{"group":"239.1.2.3","source":"10.0.0.5","tree":0},{"group":"239.1.2.4","source":"10.0.0.5","tree":0}],"trees":[[{"lan":"l0","need":1,"rank":0}]],"version":2}
+{"flows":[{"group":"239.1.2.3","source":"10.0.0.5","tree":0},{"group":"239.1.2.4","source":"10.0.0.5","tree":0}],"trees":[[{"lan":"l0","need":1,"rank":0}]],"version":2}
+
+# equal trees that are given twice are one
+{"flows":[{"group":"239.1.2.3","source":"10.0.0.5","tree":0},{"group":"239.1.2.4","source":"10.0.0.5","tree":1}],"trees":[[{"lan":"l0","need":1,"rank":0}],[{"lan":"l0","need":1,"rank":0}]],"version":2}
+{"flows":[{"group":"239.1.2.3","source":"10.0.0.5","tree":0},{"group":"239.1.2.4","source":"10.0.0.5","tree":0}],"trees":[[{"lan":"l0","need":1,"rank":0}]],"version":2}
+
+# trees that no flow names are left out
+{"flows":[{"group":"239.1.2.3","source":"10.0.0.5","tree":1},{"group":"239.1.2.4","source":"10.0.0.5","tree":1}],"trees":[[],[{"lan":"l0","need":1,"rank":0}],[]],"version":2}
+{"flows":[{"group":"239.1.2.3","source":"10.0.0.5","tree":0},{"group":"239.1.2.4","source":"10.0.0.5","tree":0}],"trees":[[{"lan":"l0","need":1,"rank":0}]],"version":2}
+
+# the order is that of first use, and a tree may be empty
+{"flows":[{"group":"239.1.2.3","source":"10.0.0.5","tree":1},{"group":"239.1.2.4","source":"10.0.0.5","tree":0}],"trees":[[{"lan":"l0","need":1,"rank":0}],[]],"version":2}
+{"flows":[{"group":"239.1.2.3","source":"10.0.0.5","tree":0},{"group":"239.1.2.4","source":"10.0.0.5","tree":1}],"trees":[[],[{"lan":"l0","need":1,"rank":0}]],"version":2}
+
+# each flow's own tree
+{"flows":[{"group":"239.1.2.3","source":"10.0.0.5","tree":0},{"group":"239.1.2.4","source":"10.0.0.5","tree":1}],"trees":[[],[{"lan":"l0","need":1,"rank":0}]],"version":2}
+{"flows":[{"group":"239.1.2.3","source":"10.0.0.5","tree":0},{"group":"239.1.2.4","source":"10.0.0.5","tree":1}],"trees":[[],[{"lan":"l0","need":1,"rank":0}]],"version":2}
+
+# trees of the same entries in another order are two
+{"flows":[{"group":"239.1.2.3","source":"10.0.0.5","tree":0},{"group":"239.1.2.4","source":"10.0.0.5","tree":1}],"trees":[[{"lan":"l0","need":1,"rank":0},{"lan":"l2","need":255,"rank":255,"router":"r2","vif":31}],[{"lan":"l2","need":255,"rank":255,"router":"r2","vif":31},{"lan":"l0","need":1,"rank":0}]],"version":2}
+{"flows":[{"group":"239.1.2.3","source":"10.0.0.5","tree":0},{"group":"239.1.2.4","source":"10.0.0.5","tree":1}],"trees":[[{"lan":"l0","need":1,"rank":0},{"lan":"l2","need":255,"rank":255,"router":"r2","vif":31}],[{"lan":"l2","need":255,"rank":255,"router":"r2","vif":31},{"lan":"l0","need":1,"rank":0}]],"version":2}"#;
+
+/// Each certificate of the blocks is written so.
+fn check(rt: &impl Abort, alloc: Global, network: &str, blocks: &str) {
+    for block in blocks.split("\n\n") {
+        let (_, texts) = block.split_once('\n').expect(rt, "a comment");
+        let (text, wanted) = texts.split_once('\n').expect(rt, "two texts");
+        assert!(rt; is_rewritten(alloc, network, text, wanted), "at {text}");
+    }
 }
-
-/// Both flows over one tree of one entry.
-const SHARED: &str =
-    r#"{"flows":[{"group":"239.1.2.3","source":"10.0.0.5","tree":0},{"group":"239.1.2.4","source":"10.0.0.5","tree":0}],"trees":[[{"lan":"l0","need":1,"rank":0}]],"version":2}"#;
-
-/// Each flow over a tree of its own, the first one without entries.
-const OWN: &str =
-    r#"{"flows":[{"group":"239.1.2.3","source":"10.0.0.5","tree":0},{"group":"239.1.2.4","source":"10.0.0.5","tree":1}],"trees":[[],[{"lan":"l0","need":1,"rank":0}]],"version":2}"#;
-
-/// Trees that have the same entries in another order.
-const ORDERED: &str =
-    r#"{"flows":[{"group":"239.1.2.3","source":"10.0.0.5","tree":0},{"group":"239.1.2.4","source":"10.0.0.5","tree":1}],"trees":[[{"lan":"l0","need":1,"rank":0},{"lan":"l2","need":255,"rank":255,"router":"r2","vif":31}],[{"lan":"l2","need":255,"rank":255,"router":"r2","vif":31},{"lan":"l0","need":1,"rank":0}]],"version":2}"#;
-
-const CASES: &[Case] = &[
-    Case {
-        network: NETWORK,
-        text: VERSION_ONE,
-        written: VERSION_TWO,
-    },
-    Case {
-        network: NETWORK,
-        text: VERSION_TWO,
-        written: VERSION_TWO,
-    },
-    Case {
-        network: NETWORK,
-        text: r#"{"flows":[{"group":"239.1.2.3","reached":[],"source":"10.0.0.5"}],"version":1}"#,
-        written: r#"{"flows":[{"group":"239.1.2.3","source":"10.0.0.5","tree":0}],"trees":[[]],"version":2}"#,
-    },
-    // Equal lists of two flows are one tree,
-    Case {
-        network: TWO_FLOWS,
-        text: r#"{"flows":[{"group":"239.1.2.3","reached":[{"lan":"l0","need":1,"rank":0}],"source":"10.0.0.5"},{"group":"239.1.2.4","reached":[{"lan":"l0","need":1,"rank":0}],"source":"10.0.0.5"}],"version":1}"#,
-        written: SHARED,
-    },
-    Case {
-        network: TWO_FLOWS,
-        text: SHARED,
-        written: SHARED,
-    },
-    // and so are equal trees that are given twice.
-    Case {
-        network: TWO_FLOWS,
-        text: r#"{"flows":[{"group":"239.1.2.3","source":"10.0.0.5","tree":0},{"group":"239.1.2.4","source":"10.0.0.5","tree":1}],"trees":[[{"lan":"l0","need":1,"rank":0}],[{"lan":"l0","need":1,"rank":0}]],"version":2}"#,
-        written: SHARED,
-    },
-    // A tree that no flow names is left out.
-    Case {
-        network: TWO_FLOWS,
-        text: r#"{"flows":[{"group":"239.1.2.3","source":"10.0.0.5","tree":1},{"group":"239.1.2.4","source":"10.0.0.5","tree":1}],"trees":[[],[{"lan":"l0","need":1,"rank":0}],[]],"version":2}"#,
-        written: SHARED,
-    },
-    // The order is that of first use.
-    Case {
-        network: TWO_FLOWS,
-        text: r#"{"flows":[{"group":"239.1.2.3","source":"10.0.0.5","tree":1},{"group":"239.1.2.4","source":"10.0.0.5","tree":0}],"trees":[[{"lan":"l0","need":1,"rank":0}],[]],"version":2}"#,
-        written: OWN,
-    },
-    Case {
-        network: TWO_FLOWS,
-        text: OWN,
-        written: OWN,
-    },
-    Case {
-        network: TWO_FLOWS,
-        text: ORDERED,
-        written: ORDERED,
-    },
-];
 
 #[test]
-fn certificates_are_written_in_version_two(rt: HostRuntime) -> Result<(), Fail> {
-    for case in CASES {
-        let written = rewritten(rt.alloc(), case.network, case.text)?;
-        assert_eq!(rt; written.as_str(), case.written);
-    }
-    Ok(())
+fn certificates_are_written_in_version_two(rt: HostRuntime) {
+    check(&rt, rt.alloc(), NETWORK, OF_ONE_FLOW);
+    check(&rt, rt.alloc(), TWO_FLOWS, OF_TWO_FLOWS);
 }
 
 /// A network of the greatest number of flows.
@@ -125,19 +113,20 @@ fn many_flows(alloc: Global) -> Result<String, AllocError> {
 
 /// Their certificate: one tree of the greatest number of entries.
 fn one_tree(alloc: Global) -> Result<String, AllocError> {
-    let mut text = String::from_str(alloc, r#"{"flows":["#)?;
-    for number in 0..4096u32 {
+    let mut text = String::from_str(
+        alloc,
+        r#"{"flows":[{"group":"239.1.0.0","source":"10.0.0.5","tree":0}"#,
+    )?;
+    for number in 1..4096u32 {
         let (third, fourth) = (number / 256, number % 256);
-        let comma = if number > 0 { "," } else { "" };
         write!(
             text,
-            r#"{comma}{{"group":"239.1.{third}.{fourth}","source":"10.0.0.5","tree":0}}"#
+            r#",{{"group":"239.1.{third}.{fourth}","source":"10.0.0.5","tree":0}}"#
         )?;
     }
-    text.push_str(r#"],"trees":[["#)?;
-    for number in 0..1024u32 {
-        let comma = if number > 0 { "," } else { "" };
-        write!(text, r#"{comma}{{"lan":"l0","need":1,"rank":0}}"#)?;
+    text.push_str(r#"],"trees":[[{"lan":"l0","need":1,"rank":0}"#)?;
+    for _ in 1..1024u32 {
+        text.push_str(r#",{"lan":"l0","need":1,"rank":0}"#)?;
     }
     text.push_str(r#"]],"version":2}"#)?;
     Ok(text)
@@ -147,7 +136,7 @@ fn one_tree(alloc: Global) -> Result<String, AllocError> {
 fn many_flows_share_a_tree(rt: HostRuntime) -> Result<(), Fail> {
     let network = many_flows(rt.alloc())?;
     let text = one_tree(rt.alloc())?;
-    let written = rewritten(rt.alloc(), network.as_str(), text.as_str())?;
-    assert!(rt; written.as_str() == text.as_str());
+    let found = is_rewritten(rt.alloc(), network.as_str(), text.as_str(), text.as_str());
+    assert!(rt; found);
     Ok(())
 }

@@ -1,5 +1,5 @@
 //! Want of memory: each reader answers it, at line 0, in place of a table. With every growth
-//! granted these tests read each text once. `rt try --test --fail-alloc N`, for N from 1 on,
+//! granted these tests read each text once, and look things up in what was read. `rt try --test --fail-alloc N`, for N from 1 on,
 //! refuses one growth after the other: the text is then read again.
 
 use mc_tables::{CacheTable, Oif, TableFault, TableFaultKind, VifTable};
@@ -8,21 +8,23 @@ use std::alloc::Global;
 use std::process::Abort;
 use std::test::Fail;
 
-/// Vifs 0 to 8.
-const VIFS: &[u8] = b"Interface
-0 eth0 0 0 0 0 00000 00000000 00000000
-1 eth1 0 0 0 0 00000 00000000 00000000
-2 eth2 0 0 0 0 00000 00000000 00000000
+/// Vifs with all that a line may have, their indexes in no order.
+const VIFS: &[u8] = b"Interface      BytesIn  PktsIn  BytesOut PktsOut Flags Local    Remote
+31 pimreg            -1 -00000000000000000007 18446744073709551615 0 f0000004 00000000 00000000
+ 0 eth0           1200      12         0       0 00000 0100000A 00000000
+007 none 0 0 0 0 00000 00000000 00000000
+ 2 a.name_of15byte 0 0 0 0 0800b 010014ac FFFFffff
+ 1 none 0 0 0 0 00000008 00000002 00000000
 3 eth3 0 0 0 0 00000 00000000 00000000
 4 eth4 0 0 0 0 00000 00000000 00000000
 5 eth5 0 0 0 0 00000 00000000 00000000
 6 eth6 0 0 0 0 00000 00000000 00000000
-7 eth7 0 0 0 0 00000 00000000 00000000
 8 eth8 0 0 0 0 00000 00000000 00000000
 ";
 
 /// Rows of 239.1.2.3 for 10.0.0.1 to 10.0.0.13, and rows of 239.1.0.1 to 239.1.0.13 for every
-/// source.
+/// source; and behind these rows for one source, for every source and unresolved ones, in an order and
+/// with a count of -1 that no kernel prints.
 const ROWS: &[u8] = b"Group
 030201EF 0100000A 0 0 0 0 5:1 4:1 3:1 2:1 1:1
 030201EF 0200000A 0 0 0 0 5:1 4:1 3:1 2:1 1:1
@@ -50,6 +52,13 @@ const ROWS: &[u8] = b"Group
 0B0001EF 00000000 0 0 0 0 1:1
 0C0001EF 00000000 0 0 0 0 1:1
 0D0001EF 00000000 0 0 0 0 1:1
+040201EF 0500000A 31         0 -1 18446744073709551615 31:254 0:1    7:3  
+050201EF 0500000A 0 -1 0 0
+060201EF 00000000 0          0        0        0  1:1  
+060201EF 00000000 1          0        0        0  0:1  
+070201EF 00000000 -1         0        0        0
+3C0008EF 0500000A -1         0        0        0
+3C0008EF 0500000A -1         0        0        0
 ";
 
 /// Whether a growth was refused. What then is answered names no line.
@@ -77,11 +86,38 @@ fn rows_at_last(rt: &impl Abort, alloc: Global) -> Result<CacheTable, TableFault
     }
 }
 
-fn check_vifs(rt: &impl Abort, table: &VifTable) {
-    for index in 0..9 {
-        assert!(rt; table.vif(index).is_some(), "at {index}");
+/// The devices of the vifs from 0 on. Vif 2 is a tunnel, and none of them a register.
+const DEVICES: &str = "eth0 none a.name_of15byte eth3 eth4 eth5 eth6 none eth8";
+
+/// Whether the table has this vif.
+fn has_vif(table: &VifTable, index: u8, device: &str, tunnel: bool, register: bool) -> bool {
+    match table.vif(index) {
+        Some(vif) => {
+            vif.device() == device.as_bytes()
+                && vif.tunnel() == tunnel
+                && vif.register() == register
+        }
+        None => false,
     }
+}
+
+/// What the table of those vifs answers.
+fn check_vifs(rt: &impl Abort, table: &VifTable) {
+    for (index, device) in (0..9).zip(DEVICES.split(' ')) {
+        assert!(rt;
+            has_vif(table, index, device, index == 2, false),
+            "at {index}"
+        );
+    }
+    assert!(rt; has_vif(table, 31, "pimreg", false, true));
+    assert!(rt; table.vif(9).is_none());
+    assert!(rt; table.vif(32).is_none());
+    assert!(rt; table.vif(255).is_none());
+    assert!(rt; table.index_of(b"pimreg") == Some(31));
+    assert!(rt; table.index_of(b"eth0") == Some(0));
     assert!(rt; table.index_of(b"eth8") == Some(8));
+    assert!(rt; table.index_of(b"none").is_none());
+    assert!(rt; table.index_of(b"eth1").is_none());
 }
 
 #[test]
@@ -91,47 +127,59 @@ fn vifs_are_read_after_a_refused_growth(rt: HostRuntime) -> Result<(), Fail> {
     Ok(())
 }
 
-/// What each of the rows for one source sends on.
-const OIFS: [Oif; 5] = [
-    Oif {
-        vif: 1,
-        threshold: 1,
-    },
-    Oif {
-        vif: 2,
-        threshold: 1,
-    },
-    Oif {
-        vif: 3,
-        threshold: 1,
-    },
-    Oif {
-        vif: 4,
-        threshold: 1,
-    },
-    Oif {
-        vif: 5,
-        threshold: 1,
-    },
-];
+/// An outgoing vif.
+const fn oif(vif: u8, threshold: u8) -> Oif {
+    Oif { vif, threshold }
+}
 
-/// Whether the row for a source sends on to these vifs.
-fn has_oifs(table: &CacheTable, source: Addr, group: Addr) -> bool {
-    match table.exact(source, group) {
-        Some(entry) => entry.oifs.as_slice() == OIFS.as_slice(),
+/// Whether the table has an entry for 10.0.0.0/24 and a group, with this incoming vif and these
+/// outgoing ones.
+fn has_entry(table: &CacheTable, last: u8, group: [u8; 4], iif: u8, oifs: &[Oif]) -> bool {
+    let source = Addr::from_octets([10, 0, 0, last]);
+    match table.exact(source, Addr::from_octets(group)) {
+        Some(entry) => entry.iif == iif && entry.oifs.as_slice() == oifs,
         None => false,
     }
 }
 
+/// Whether the table has an entry for this source and group.
+fn has_any(table: &CacheTable, source: [u8; 4], group: [u8; 4]) -> bool {
+    table
+        .exact(Addr::from_octets(source), Addr::from_octets(group))
+        .is_some()
+}
+
+/// Whether the table has a row of a group for every source.
+fn is_wildcard(table: &CacheTable, group: [u8; 4]) -> bool {
+    table.wildcard(Addr::from_octets(group))
+}
+
+/// What the table answers of the rows behind the others.
+fn check_mixed(rt: &impl Abort, table: &CacheTable) {
+    let ascending = [oif(0, 1), oif(7, 3), oif(31, 254)];
+    assert!(rt; has_entry(table, 5, [239, 1, 2, 4], 31, &ascending));
+    assert!(rt; has_entry(table, 5, [239, 1, 2, 5], 0, &[]));
+    assert!(rt;
+        !has_any(table, [10, 0, 0, 5], [239, 8, 0, 60]),
+        "unresolved"
+    );
+    assert!(rt; !has_any(table, [0, 0, 0, 0], [239, 1, 2, 6]));
+    assert!(rt; !has_any(table, [239, 1, 2, 3], [10, 0, 0, 5]));
+    assert!(rt; is_wildcard(table, [239, 1, 2, 6]));
+    assert!(rt; !is_wildcard(table, [239, 1, 2, 7]), "unresolved");
+    assert!(rt; !is_wildcard(table, [239, 1, 2, 3]));
+}
+
 fn check_rows(rt: &impl Abort, table: &CacheTable) {
-    let group = Addr::from_octets([239, 1, 2, 3]);
+    let oifs = [oif(1, 1), oif(2, 1), oif(3, 1), oif(4, 1), oif(5, 1)];
     for last in 1..14 {
-        let source = Addr::from_octets([10, 0, 0, last]);
-        assert!(rt; has_oifs(table, source, group), "of {last}");
-        let for_every_source = Addr::from_octets([239, 1, 0, last]);
-        assert!(rt; table.wildcard(for_every_source), "of {last}");
+        assert!(rt;
+            has_entry(table, last, [239, 1, 2, 3], 0, &oifs),
+            "of {last}"
+        );
+        assert!(rt; is_wildcard(table, [239, 1, 0, last]), "of {last}");
     }
-    assert!(rt; !table.wildcard(group));
+    check_mixed(rt, table);
 }
 
 #[test]

@@ -1,68 +1,11 @@
-//! Bundles that are written: within the limits, past them, and to outputs that fail.
+//! Bundles that are written: within the limits, past them, and to outputs that fail; and what is
+//! printed of them.
 
 ghost use Rattle.std.specs.Prelude.{None};
 
 use mc_text::*;
-use std::alloc::Global;
+use std::process::Abort;
 use std::test::Fail;
-
-/// The bundle of these parts.
-fn written(alloc: Global, parts: &[Part<'_>]) -> Result<Vec<u8>, BundleFault> {
-    let mut output = ToWriter::new(Vec::new(alloc));
-    write_bundle(parts, &mut output)?;
-    Ok(output.into_inner())
-}
-
-/// Whether the bundle has these parts and no other.
-fn has_parts(bundle: &Bundle<'_>, parts: &[Part<'_>]) -> bool {
-    if bundle.count() != parts.len() {
-        return false;
-    }
-    for (place, wanted) in parts.iter().enumerate() {
-        let found = bundle.part(place);
-        if found.name != wanted.name || found.bytes != wanted.bytes {
-            return false;
-        }
-    }
-    true
-}
-
-#[test]
-fn writes_what_is_read_again(rt: HostRuntime) -> Result<(), Fail> {
-    let topology = PartName::new(b"topology").ok_or("a name")?;
-    let cache = PartName::new(b"cache/r1").ok_or("a name")?;
-    let parts = [
-        Part {
-            name: topology,
-            bytes: b"version = 1\n",
-        },
-        Part {
-            name: cache,
-            bytes: b"",
-        },
-    ];
-    let text = written(rt.alloc(), &parts)?;
-    let want = b"mcaudit bundle 1\npart topology 12\nversion = 1\n\npart cache/r1 0\n\nend\n";
-    assert!(rt; text.as_slice() == want.as_slice());
-    let bundle = Bundle::read(rt.alloc(), &text)?;
-    assert!(rt; has_parts(&bundle, &parts));
-    Ok(())
-}
-
-#[test]
-fn writes_nothing_past_a_limit(rt: HostRuntime) -> Result<(), Fail> {
-    let name = PartName::new(b"a").ok_or("a name")?;
-    let parts = vec![in rt.alloc(); Part { name, bytes: b"" }; 1539]?;
-    let mut output = ToWriter::new(Vec::new(rt.alloc()));
-    assert_eq!(rt;
-        write_bundle(&parts, &mut output),
-        Err(BundleFault::TooLarge)
-    );
-    assert!(rt; write_bundle(&parts[..1538], &mut output).is_ok());
-    assert_eq!(rt; Output::failures(&output), 0);
-    assert_eq!(rt; output.into_inner().len(), 17 + 1538 * 10 + 4);
-    Ok(())
-}
 
 /// Takes every byte, and keeps only how many they were.
 #[derive(Drop)]
@@ -85,64 +28,49 @@ impl Output for Counter {
     }
 }
 
-#[test]
-fn the_greatest_part_is_written_and_read(rt: HostRuntime) -> Result<(), Fail> {
-    let name = PartName::new(b"a").ok_or("a name")?;
-    let bytes = vec![in rt.alloc(); b'x'; 16_777_216]?;
-    let parts = [Part {
-        name,
-        bytes: &bytes,
-    }];
-    let text = written(rt.alloc(), &parts)?;
-    let bundle = Bundle::read(rt.alloc(), &text)?;
-    assert!(rt; has_parts(&bundle, &parts));
-    Ok(())
-}
-
-#[test]
-fn a_greater_part_is_not_written(rt: HostRuntime) -> Result<(), Fail> {
-    let name = PartName::new(b"a").ok_or("a name")?;
-    let bytes = vec![in rt.alloc(); b'x'; 16_777_217]?;
-    let parts = [Part {
-        name,
-        bytes: &bytes,
-    }];
+/// The bundle of these parts passes a limit, and nothing of it is written.
+fn check_refused(rt: &impl Abort, parts: &[Part<'_>]) {
     let mut output = Counter { taken: 0 };
-    assert_eq!(rt;
-        write_bundle(&parts, &mut output),
-        Err(BundleFault::TooLarge)
-    );
-    assert_eq!(rt; output.taken, 0);
+    let answer = write_bundle(parts, &mut output);
+    assert!(rt; answer == Err(BundleFault::TooLarge));
+    assert!(rt; output.taken == 0);
+}
+
+/// The bundle of these parts is written, and has so many bytes.
+fn check_written(rt: &impl Abort, parts: &[Part<'_>], length: usize) {
+    let mut output = Counter { taken: 0 };
+    assert!(rt; write_bundle(parts, &mut output).is_ok());
+    assert!(rt; output.taken == length);
+}
+
+#[test]
+fn at_most_1538_parts_are_written(rt: HostRuntime) -> Result<(), Fail> {
+    let name = PartName::new(b"a").ok_or("a name")?;
+    let parts = vec![in rt.alloc(); Part { name, bytes: b"" }; 1539]?;
+    check_refused(&rt, &parts);
+    check_written(&rt, &parts[..1538], 17 + 1538 * 10 + 4);
     Ok(())
 }
 
+/// A part with the first bytes of these, so many.
+fn part_of<'a>(name: PartName, bytes: &'a [u8], length: usize) -> Part<'a> {
+    Part {
+        name,
+        bytes: bytes.get(..length).unwrap_or_default(),
+    }
+}
+
+/// A part of 16,777,217 bytes is too large, and a bundle of 268,435,457.
 #[test]
 fn the_greatest_bundle_is_written(rt: HostRuntime) -> Result<(), Fail> {
     let name = PartName::new(b"a").ok_or("a name")?;
-    let bytes = vec![in rt.alloc(); b'x'; 16_777_216]?;
-    let part = Part {
-        name,
-        bytes: &bytes,
-    };
-    let beyond = Part {
-        name,
-        bytes: bytes.get(..16_776_924).unwrap_or_default(),
-    };
-    let greatest = Part {
-        name,
-        bytes: bytes.get(..16_776_923).unwrap_or_default(),
-    };
-    let mut output = Counter { taken: 0 };
-    let mut parts = vec![in rt.alloc(); part; 16]?;
-    parts[15] = beyond;
-    assert_eq!(rt;
-        write_bundle(&parts, &mut output),
-        Err(BundleFault::TooLarge)
-    );
-    assert_eq!(rt; output.taken, 0);
-    parts[15] = greatest;
-    assert_eq!(rt; write_bundle(&parts, &mut output), Ok(()));
-    assert_eq!(rt; output.taken, 268_435_456);
+    let bytes = vec![in rt.alloc(); b'x'; 16_777_217]?;
+    check_refused(&rt, &[part_of(name, &bytes, 16_777_217)]);
+    let mut parts = vec![in rt.alloc(); part_of(name, &bytes, 16_777_216); 16]?;
+    parts[15] = part_of(name, &bytes, 16_776_924);
+    check_refused(&rt, &parts);
+    parts[15] = part_of(name, &bytes, 16_776_923);
+    check_written(&rt, &parts, 268_435_456);
     Ok(())
 }
 
@@ -159,14 +87,28 @@ fn a_bundle_is_written_up_to_where_the_output_stops(rt: HostRuntime) -> Result<(
             } else {
                 Ok(())
             };
-            assert_eq!(rt;
-                write_bundle(&parts, &mut output),
-                want,
+            assert!(rt;
+                write_bundle(&parts, &mut output) == want,
                 "after {before_stop}"
             );
-            assert_eq!(rt; output.taken(), &whole[..before_stop]);
-            assert_eq!(rt; output.failures(), u64::from(want.is_err()));
+            assert!(rt; output.taken() == &whole[..before_stop]);
+            assert!(rt; output.failures() == u64::from(want.is_err()));
         }
     }
+    Ok(())
+}
+
+/// A name, and the faults that no bundle brings.
+#[test]
+fn names_and_faults_are_printed(rt: HostRuntime) -> Result<(), Fail> {
+    let name = PartName::new(b"a").ok_or("a name")?;
+    let printed = format!(in rt.alloc();
+        "{name} {} {} {} {}",
+        BundleFault::Read,
+        BundleFault::Memory,
+        BundleFault::Write,
+        BundleFault::Failed
+    )?;
+    assert!(rt; printed.as_str() == "a Read Memory Write Failed");
     Ok(())
 }

@@ -1,0 +1,40 @@
+//! Parts of which no domain is assembled, since their numbers differ.
+
+use mc_forward::{Domain, DomainFault, Refused};
+use mc_samples::{CHAIN, FORWARDS, Parts, WANTED, parts_of};
+use mc_topology::Topology;
+use std::alloc::Global;
+use std::test::Fail;
+
+/// Why a domain is refused, and how many routers, tables and lists are handed back.
+fn refusal_of(answer: &Result<Domain, Refused>) -> Option<(DomainFault, u32, usize, usize)> {
+    match answer {
+        Ok(_) => None,
+        Err(refused) => Some((
+            refused.fault,
+            refused.topology.routers(),
+            refused.tables.len(),
+            refused.reports.len(),
+        )),
+    }
+}
+
+/// What comes of a domain of these parts.
+fn refusal_of_parts(
+    alloc: Global,
+    topology: Topology,
+    parts: Parts,
+) -> Option<(DomainFault, u32, usize, usize)> {
+    let answer = Domain::assemble(alloc, topology, parts.0, parts.1);
+    refusal_of(&answer)
+}
+
+#[test]
+fn one_router_too_few(rt: HostRuntime) -> Result<(), Fail> {
+    let alloc = rt.alloc();
+    let parts = parts_of(alloc, &[FORWARDS], &["", "", WANTED])?;
+    let topology = Topology::read(alloc, CHAIN.as_bytes())?;
+    let refusal = refusal_of_parts(alloc, topology, parts);
+    assert!(rt; refusal == Some((DomainFault::Count, 2, 1, 3)));
+    Ok(())
+}

@@ -1,0 +1,52 @@
+//! Texts past the greatest file, faults that no text brings, and vectors that are given back.
+
+use mc_tables::{CacheTable, Oif, Oifs, TableFault, TableFaultKind, VifTable};
+use mc_text::Order;
+use std::alloc::{AllocError, Global};
+use std::process::Abort;
+use std::test::Fail;
+
+/// The answers of both readers to a text that has neither table.
+fn check_both(rt: &impl Abort, alloc: Global, text: &[u8], wanted: TableFault) {
+    assert!(rt; VifTable::read(alloc, text).err() == Some(wanted));
+    assert!(rt; CacheTable::read(alloc, text, Order::Little).err() == Some(wanted));
+}
+
+#[test]
+fn largest_texts(rt: HostRuntime) -> Result<(), Fail> {
+    let long = vec![in rt.alloc(); b'\n'; 16_777_217]?;
+    let (line, kind) = (0, TableFaultKind::TooLarge);
+    check_both(&rt, rt.alloc(), &long, TableFault { line, kind });
+    let (line, kind) = (1, TableFaultKind::NoHeader);
+    check_both(&rt, rt.alloc(), &long[1..], TableFault { line, kind });
+    Ok(())
+}
+
+/// A refused growth has no line.
+fn check_memory(rt: &impl Abort, alloc: Global, fault: TableFault) -> Result<(), AllocError> {
+    let (line, kind) = (0, TableFaultKind::Memory);
+    assert!(rt; fault == TableFault { line, kind });
+    let printed = fault.to_string(alloc)?;
+    assert!(rt; printed.as_str() == "line 0: Memory");
+    Ok(())
+}
+
+#[test]
+fn wants_of_memory_have_no_line(rt: HostRuntime) -> Result<(), Fail> {
+    let refused = Vec::<u8>::with_capacity(rt.alloc(), usize::MAX).err();
+    let fault = refused.map(TableFault::from).ok_or("a refusal")?;
+    check_memory(&rt, rt.alloc(), fault)?;
+    Ok(())
+}
+
+#[test]
+fn gives_vectors_back(rt: HostRuntime) -> Result<(), Fail> {
+    let oif = Oif {
+        vif: 2,
+        threshold: 9,
+    };
+    let oifs = Oifs::from_vec(vec![in rt.alloc(); oif]?);
+    assert_eq!(rt; oifs.as_slice(), [oif].as_slice());
+    assert_eq!(rt; oifs.into_vec().as_slice(), [oif].as_slice());
+    Ok(())
+}

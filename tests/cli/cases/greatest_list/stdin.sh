@@ -1,0 +1,1 @@
+sh tests/cli/cases/want_of_memory/stdin.sh

@@ -8,11 +8,12 @@ It works on a copy of the repository, in steps:
   proofs    `rt ci` proves each crate and its tests from nothing, runs the tests, and builds and runs the program
   edits     tests/edits/try.py tries the wrong bodies of crates/*/must-fail, many in one check: the prover must
             refuse each. (The copy that `rt ci` sees has none of them: it would try each in a check of its own.)
-  cases     tests/cli on the program that was built, and tests/tools on the shell tools
+  cases     tests/cli on the program that was built, tests/refusals, which refuses it each request for memory,
+            each read and each write in turn, and tests/tools on the shell tools
 
-What only `make bench` needs, the crate `measure`, is left out. At the end stands what each step and each crate
-took in processor time; with REPORT, a path, the same as a page in Markdown. The last line counts everything,
-`N passed, M failed`, and the status is 0 if nothing failed.
+Where the proofs fail, it ends there. What only `make bench` needs, the crate `measure`, is left out. At the end
+stands what each step and each crate took in processor time; with REPORT, a path, the same as a page in
+Markdown. The last line counts everything, `N passed, M failed`, and the status is 0 if nothing failed.
 """
 import os
 import re
@@ -156,6 +157,17 @@ def report(gate, crates, begun):
     return "\n".join(lines) + "\n"
 
 
+def try_program(gate):
+    """The steps over what was proved and built; without that they would show nothing."""
+    program = "crates/mcaudit/out/mcaudit"
+    gate.step("the script for the edits", sys.executable, "tests/edits/try.py", "--selftest")
+    gate.step("edits", sys.executable, "tests/edits/try.py")
+    gate.step("cases of the program", "sh", "tests/cli/run.sh", program)
+    gate.step("tables of the program", sys.executable, "tests/cli/tables.py", program)
+    gate.step("refusals of memory, reads and writes", sys.executable, "tests/refusals/run.py", program)
+    gate.step("cases of the tools", "sh", "tests/tools/run.sh")
+
+
 def main():
     root = os.path.dirname(os.path.dirname(os.path.dirname(os.path.abspath(__file__))))
     begun = time.time()
@@ -165,12 +177,10 @@ def main():
         edits = copy_repository(root, room)
         gate = Gate(room)
         gate.step("proofs, tests and programs", "rt", "ci")
-        for path in edits:
-            copy_file(root, room, path)
-        gate.step("the script for the edits", sys.executable, "tests/edits/try.py", "--selftest")
-        gate.step("edits", sys.executable, "tests/edits/try.py")
-        gate.step("cases of the program", "sh", "tests/cli/run.sh", "crates/mcaudit/out/mcaudit")
-        gate.step("cases of the tools", "sh", "tests/tools/run.sh")
+        if not gate.failed:
+            for path in edits:
+                copy_file(root, room, path)
+            try_program(gate)
         keep_program(root, room, begun)
     page = report(gate, prover.by_crate(), begun)
     print(page, end="")

@@ -48,3 +48,5 @@ install: $(PROGRAM)
 	install -D -m 755 tools/mcaudit-reports $(DESTDIR)$(PREFIX)/bin/mcaudit-reports
 	install -D -m 644 docs/mcaudit.1 $(DESTDIR)$(PREFIX)/share/man/man1/mcaudit.1
 	install -D -m 644 tools/mcaudit.bash $(DESTDIR)$(PREFIX)/share/bash-completion/completions/mcaudit
+	ln -sf mcaudit $(DESTDIR)$(PREFIX)/share/bash-completion/completions/mcaudit-collect
+	ln -sf mcaudit $(DESTDIR)$(PREFIX)/share/bash-completion/completions/mcaudit-reports

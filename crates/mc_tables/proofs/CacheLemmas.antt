@@ -94,7 +94,7 @@ entry_only iif outgoing (Some entry) h = (
 -- ---- the words of a row
 
 -- the row that is read is what the words tell
-row_words_found : (order : Order) (words : List (List ℕ)) (row : RowText)
+pub row_words_found : (order : Order) (words : List (List ℕ)) (row : RowText)
     → row_in_words order words ≡ Ok row → WordsTellRow order words row
 unfolding row_in_words
 row_words_found order (group ∷ origin ∷ iif ∷ packets ∷ bytes ∷ wrong ∷ outgoing) row e =

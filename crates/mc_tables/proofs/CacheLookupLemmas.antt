@@ -56,7 +56,7 @@ key_among key (row ∷ rows) =
 -- ---- no entry for 0.0.0.0
 
 -- (0, group) is not the key of a row whose origin isn't 0
-zero_apart : (group origin other : ℕ) → nat_eq origin 0 ≡ false
+pub zero_apart : (group origin other : ℕ) → nat_eq origin 0 ≡ false
     → same_key (0, group) (origin, other) ≡ false
 zero_apart group origin other apart =
     let positive : ltb 0 origin ≡ true =

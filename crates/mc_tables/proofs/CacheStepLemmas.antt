@@ -1,7 +1,7 @@
 -- A table that grows by a row at a time is the table of all the rows.
-use Rattle.std.proofs.Common.{◌≡◌, ℕ, ◌+◌, true, false, List, [], ◌∷◌, ◌++◌, length, Option}
-use Rattle.std.proofs.Common.{Some, None, Result, Ok, Err, refl, sym, ap, ◌∙◌, inl, inr}
-use Rattle.std.specs.Prelude.{nat_lt, not, is_some, codes}
+use Rattle.std.proofs.Common.{◌≡◌, ℕ, true, false, List, [], ◌∷◌, ◌++◌, Option}
+use Rattle.std.proofs.Common.{Some, None, Ok, Err, refl, sym, ap, ◌∙◌, inl, inr}
+use Rattle.std.specs.Prelude.{not, is_some}
 use Rattle.std.specs.Option.{option_map}
 use Rattle.std.specs.List.{filter_map, cons_option}
 use Rattle.std.specs.Ordering.{nat_cmp}
@@ -10,22 +10,16 @@ use Rattle.std.specs.FinMap.{nat_cmp-IsAntisymmetric}
 use Rattle.std.specs.FinSet as set
 use Rattle.std.proofs.lemmas.Bool.{cases_Bool}
 use Rattle.std.proofs.lemmas.Cmp.{nat_cmp_total}
-use Rattle.std.proofs.lemmas.List.{append-nil, length-append}
+use Rattle.std.proofs.lemmas.List.{append-nil}
 use Rattle.std.proofs.lemmas.List.Elements.{filter_map-append}
-use Rattle.mc_text.specs.declared.addr.Order.{Order}
-use Rattle.mc_text.specs.Lines.{LineText}
-use Rattle.mc_text.specs.Words.{words_of}
 use Rattle.mc_tables.specs.declared.entry.Entry.{Entry}
-use Rattle.mc_tables.specs.declared.fault.TableFault.{TableFault}
-use Rattle.mc_tables.specs.declared.fault.TableFaultKind.{TableFaultKind}
 use Rattle.mc_tables.specs.declared.fault.TableFaultKind.TheVariants.{RepeatedEntry}
-use Rattle.mc_tables.specs.Steps.{◌>>=◌, demand, at_line}
-use Rattle.mc_tables.specs.TableLines.{is_among, lines_in, rows_after}
+use Rattle.mc_tables.specs.Steps.{◌>>=◌, demand}
+use Rattle.mc_tables.specs.TableLines.{is_among}
 use Rattle.mc_tables.specs.CacheTable.{RowText, CacheText, key_cmp, same_key, exact_entry, key_of}
 use Rattle.mc_tables.specs.CacheTable.{wildcard_of, table_of}
-use Rattle.mc_tables.specs.CacheReading.{row_in_words, entry_repeats, row_in_line, row_at, cache_in}
+use Rattle.mc_tables.specs.CacheReading.{entry_repeats}
 use Rattle.mc_tables.specs.CacheSteps.{has_key, with_exact, with_wildcard, row_added, entry_added}
-use Rattle.mc_tables.specs.CacheSteps.{line_added, table_after}
 use Rattle.mc_tables.proofs.CacheLemmas.{key_total}
 use Rattle.mc_tables.proofs.CacheLookupLemmas.{key_among}
 use Rattle.mc_tables.proofs.CacheMapLemmas.{key_antisymmetric}
@@ -83,7 +77,7 @@ groups_grow (Some group) groups =
     set.from_list_push nat_cmp_total nat_cmp-IsAntisymmetric groups group
 
 -- a table takes a row that repeats no earlier one, and is the table of the rows with it
-row_follows : (rows : List RowText) (row : RowText) →
+pub row_follows : (rows : List RowText) (row : RowText) →
     row_added (table_of rows) row
     ≡ (demand (not (entry_repeats rows row)) RepeatedEntry >>= λ _. Ok
     (table_of (rows ++ row ∷ [])))
@@ -103,74 +97,3 @@ row_follows rows row =
           ∙ groups_grow (wildcard_of row) (filter_map wildcard_of rows) in
           rw (same ∙ new, new, entries, groups) refl
     ]
-
--- ---- one line
-
--- a row that was read is added as one that follows the others
-row_of_words : (rows : List RowText) (read : Result RowText TableFaultKind) →
-    (read >>= row_added (table_of rows))
-    ≡ ((read >>= λ row. demand (not (entry_repeats rows row)) RepeatedEntry >>= λ _. Ok row)
-    >>= λ row. Ok (table_of (rows ++ row ∷ [])))
-row_of_words rows (Err kind) = refl
-row_of_words rows (Ok row) =
-    row_follows rows row
-    ∙ elim (not (entry_repeats rows row)) as (λ b.
-    (demand b RepeatedEntry >>= λ _. Ok (table_of (rows ++ row ∷ [])))
-    ≡ ((demand b RepeatedEntry >>= λ _. Ok row) >>= λ r. Ok (table_of (rows ++ r ∷ [])))) [
-      | true ↦ refl
-      | false ↦ refl
-    ]
-
--- adding a line to the table of the rows is reading it after them
-line_follows : (order : Order) (rows : List RowText) (line : LineText) →
-    line_added order (length rows) (table_of rows) line
-    ≡ (row_in_line order rows line >>= λ row. Ok (table_of (rows ++ row ∷ [])))
-unfolding row_in_line
-line_follows order rows line =
-    elim (cases_Bool line.ended) [
-      | inr unended ↦ rw unended refl
-      | inl ended ↦ elim (cases_Bool (nat_lt (length rows) 65536)) [
-        | inr full ↦ rw (ended, full) refl
-        | inl room ↦ rw (ended, room)
-            (row_of_words rows (row_in_words order (words_of line.bytes)))
-      ]
-    ]
-
--- ---- all lines
-
--- a line's number is said of its fault alone
-at_line_then : (n : ℕ) (rows : List RowText) (read : Result RowText TableFaultKind)
-    (then : CacheText → Result CacheText TableFault)
-    (after : List RowText → Result (List RowText) TableFault) →
-    ((row : RowText) → then (table_of (rows ++ row ∷ []))
-    ≡ (after (rows ++ row ∷ []) >>= λ all. Ok (table_of all))) →
-    (at_line n (read >>= λ row. Ok (table_of (rows ++ row ∷ []))) >>= then)
-    ≡ ((at_line n read >>= λ row. after (rows ++ row ∷ [])) >>= λ all. Ok (table_of all))
-at_line_then n rows (Err kind) then after rest = refl
-at_line_then n rows (Ok row) then after rest = rest row
-
--- one more row counts one more
-one_more : (rows : List RowText) (row : RowText) → length rows + 1 ≡ length (rows ++ row ∷ [])
-one_more rows row = sym (length-append rows (row ∷ []))
-
--- adding all lines to the table of the rows is reading them after the rows
-pub table_of_lines : (order : Order) (lines : List LineText) (rows : List RowText) →
-    table_after order (length rows) (table_of rows) lines
-    ≡ (rows_after (row_at order) rows lines >>= λ all. Ok (table_of all))
-table_of_lines order [] rows = refl
-table_of_lines order (line ∷ lines) rows =
-    ap (λ r. at_line line.number r >>= λ more. table_after order (length rows + 1) more lines)
-    (line_follows order rows line)
-    ∙ at_line_then line.number rows (row_in_line order rows line)
-    (λ more. table_after order (length rows + 1) more lines)
-    (λ all. rows_after (row_at order) all lines)
-    (λ row. ap (λ n. table_after order n (table_of (rows ++ row ∷ [])) lines) (one_more rows row)
-    ∙ table_of_lines order lines (rows ++ row ∷ []))
-
--- the table of a text's lines
-pub cache_of_lines : (order : Order) (text : List ℕ) (lines : List LineText)
-    (table : Result CacheText TableFault) →
-    lines_in (codes "Group") text ≡ Ok lines → table_after order 0 (table_of []) lines ≡ table →
-    cache_in order text ≡ table
-cache_of_lines order text lines table whole read =
-    rw whole (sym (table_of_lines order lines []) ∙ read)

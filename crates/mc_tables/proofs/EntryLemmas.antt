@@ -134,7 +134,7 @@ entry_stands iif outgoing (Some entry) h =
     }
 
 -- so is that of a row that words tell
-row_stands : (order : Order) (words : List (List ℕ)) (row : RowText) → WordsTellRow order words row
+pub row_stands : (order : Order) (words : List (List ℕ)) (row : RowText) → WordsTellRow order words row
     → IfSome row.entry IsEntry
 row_stands order (group ∷ origin ∷ iif ∷ packets ∷ bytes ∷ wrong ∷ outgoing) row h =
     entry_stands iif outgoing row.entry h.5

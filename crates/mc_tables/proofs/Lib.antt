@@ -2,8 +2,10 @@ pub mod StepLemmas
 pub mod WordLemmas
 pub mod HexadecimalLemmas
 pub mod RowLemmas
+pub mod PieceLemmas
 pub mod KeyLemmas
 pub mod VifLemmas
+pub mod VifPieceLemmas
 pub mod VifLookupLemmas
 pub mod AddressLemmas
 pub mod ColonLemmas
@@ -14,5 +16,7 @@ pub mod CacheLemmas
 pub mod CacheLookupLemmas
 pub mod CacheMapLemmas
 pub mod CacheStepLemmas
+pub mod RowsSoFarLemmas
+pub mod ListedPartLemmas
 pub mod RuleLemmas
 pub mod LawLemmas

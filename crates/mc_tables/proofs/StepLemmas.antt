@@ -1,6 +1,7 @@
 -- What steps that did not fail show.
 use Rattle.std.proofs.Common.{◌≡◌, ℕ, Bool, true, false, cond, Option, Some, None, Result, Ok, Err}
 use Rattle.std.proofs.Common.{refl}
+use Rattle.std.specs.Prelude.{OnOk}
 use Rattle.std.specs.Option.{ok_or}
 use Rattle.mc_tables.specs.declared.fault.TableFaultKind.{TableFaultKind}
 use Rattle.mc_tables.specs.Steps.{◌>>=◌, demand, at_line}
@@ -42,3 +43,12 @@ at_line_ok n (Err k) x e = absurd cc
 -- equal answers have equal values
 pub ok_is : {A E : Type 0} (x y : A) → (let r : Result A E = Ok x in r) ≡ Ok y → x ≡ y
 ok_is x y e = cc
+
+-- equal refusals have equal faults
+pub err_is : {A E : Type 0} {x y : E} → (let r : Result A E = Err x in r) ≡ Err y → x ≡ y
+err_is e = cc
+
+-- what follows from what an answer brings comes with it
+pub on_ok : {A E P Q : Type 0} (r : Result A E) → OnOk r P → (P → Q) → OnOk r Q
+on_ok (Ok x) there then = then there
+on_ok (Err e) there then = tt

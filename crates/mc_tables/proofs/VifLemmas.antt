@@ -239,15 +239,6 @@ told_to_31 (line ∷ lines) [] told = absurd told
 told_to_31 (line ∷ lines) (row ∷ rows) told =
     (words_to_31 (words_of line.bytes) row told.0.words, told_to_31 lines rows told.1)
 
--- rows that were read may stand
-pub lines_may_stand : (lines : List LineText) (rows : List (ℕ × VifText))
-    → rows_after vif_at [] lines ≡ Ok rows → IsDistinct nat_eq (map (λ row. row.0) rows)
-    × IsDistinct bytes_eq (filter_map device_of rows) × AreNumbered rows
-lines_may_stand lines rows e =
-    let t = rows_told vif_at LineTellsVif MayFollow MayStand reads_vifs lines [] rows nothing_stands
-    e in
-    (t.3.0, t.3.1, subst AreNumbered t.1 (told_to_31 lines t.0 t.2))
-
 -- what is read, unless memory runs out, is what the text stands for
 pub read_is_found : (text : List ℕ) (read : Result (FinMap nat_cmp VifText) TableFault)
     → ((read ≡ Err out_of_memory → ⊥) → read ≡ vifs_in text) → IfOk read (StandsForVifs text)

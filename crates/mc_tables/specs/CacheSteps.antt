@@ -1,5 +1,5 @@
 -- A cache that grows by a row at a time, while its lines are read.
-use Rattle.std.specs.Prelude.{ℕ, ◌+◌, nat_lt, Bool, false, not, List, [], ◌∷◌, Option, Some, None}
+use Rattle.std.specs.Prelude.{ℕ, nat_lt, Bool, false, not, Option, Some, None}
 use Rattle.std.specs.Prelude.{is_some, Result, Ok}
 use Rattle.std.specs.FinMap as map
 use Rattle.std.specs.FinSet as set
@@ -8,11 +8,10 @@ use Rattle.mc_text.specs.declared.addr.Order.{Order}
 use Rattle.mc_text.specs.Lines.{LineText}
 use Rattle.mc_text.specs.Words.{words_of}
 use Rattle.mc_tables.specs.declared.entry.Entry.{Entry}
-use Rattle.mc_tables.specs.declared.fault.TableFault.{TableFault}
 use Rattle.mc_tables.specs.declared.fault.TableFaultKind.{TableFaultKind}
 use Rattle.mc_tables.specs.declared.fault.TableFaultKind.TheVariants.{Unended, TooLarge}
 use Rattle.mc_tables.specs.declared.fault.TableFaultKind.TheVariants.{RepeatedEntry}
-use Rattle.mc_tables.specs.Steps.{◌>>=◌, demand, at_line}
+use Rattle.mc_tables.specs.Steps.{◌>>=◌, demand}
 use Rattle.mc_tables.specs.CacheTable.{RowText, CacheText, key_cmp, exact_entry, wildcard_of}
 use Rattle.mc_tables.specs.CacheReading.{row_in_words}
 
@@ -58,14 +57,3 @@ row_with_room order count line = do
   _ ← demand line.ended Unended
   _ ← demand (nat_lt count 65536) TooLarge
   row_in_words order (words_of line.bytes)
-
--- the table of so many rows, with that of the line
-abbrev pub line_added : Order → ℕ → CacheText → LineText → Result CacheText TableFaultKind
-line_added order count table line = row_with_room order count line >>= row_added table
-
--- and with those of all lines
-abbrev pub table_after : Order → ℕ → CacheText → List LineText → Result CacheText TableFault
-table_after order count table [] = Ok table
-table_after order count table (line ∷ lines) =
-    at_line line.number (line_added order count table line) >>= λ more.
-    table_after order (count + 1) more lines

@@ -1,5 +1,5 @@
 -- Reading in steps, of which the first that fails gives the fault.
-use Rattle.std.specs.Prelude.{ℕ, Bool, Result, Ok, Err, if◌then◌else◌}
+use Rattle.std.specs.Prelude.{ℕ, Bool, Option, Some, None, Result, Ok, Err, if◌then◌else◌}
 use Rattle.mc_tables.specs.declared.fault.TableFault.{TableFault}
 use Rattle.mc_tables.specs.declared.fault.TableFaultKind.{TableFaultKind}
 
@@ -17,3 +17,9 @@ demand test fault = if test then Ok tt else Err fault
 abbrev pub at_line : {A : Type 0} → ℕ → Result A TableFaultKind → Result A TableFault
 at_line line (Ok x) = Ok x
 at_line line (Err k) = Err (record { line = line; kind = k })
+
+-- a fault that was answered before stays, and else what is read counts
+abbrev pub unless_fault : {A : Type 0} → Option TableFault → Result A TableFault
+    → Result A TableFault
+unless_fault None read = read
+unless_fault (Some fault) read = Err fault

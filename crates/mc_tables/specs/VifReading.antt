@@ -68,10 +68,6 @@ vif_at earlier line = at_line line.number (vif_in_line earlier line)
 abbrev pub vif_rows_in : List ℕ → Result (List (ℕ × VifText)) TableFault
 vif_rows_in text = lines_in (codes "Interface") text >>= rows_after vif_at []
 
--- those of the lines after the header, by their indexes
-abbrev pub vifs_in_lines : List LineText → Result (FinMap nat_cmp VifText) TableFault
-vifs_in_lines lines = rows_after vif_at [] lines >>= λ rows. Ok (from_entries rows)
-
 -- the vifs by their indexes
 abbrev pub vifs_in : List ℕ → Result (FinMap nat_cmp VifText) TableFault
 vifs_in text = vif_rows_in text >>= λ rows. Ok (from_entries rows)

@@ -1,8 +1,8 @@
 -- What a text of /proc/net/ip_mr_vif says (ipmr_vif_seq_show in net/ipv4/ipmr.c, which writes a
 -- line by "%2td %-10s %8ld %7ld  %8ld %7ld %05X %08X %08X\n").
-use Rattle.std.specs.Prelude.{◌≡◌, ℕ, ◌==◌, nat_eq, Bool, not, bit_and, IsTrue, List, [], ◌∷◌, map}
+use Rattle.std.specs.Prelude.{◌≡◌, ℕ, ◌≤◌, ◌==◌, nat_eq, Bool, not, bit_and, IsTrue, List, [], ◌∷◌, map}
 use Rattle.std.specs.Prelude.{Option, Some, None, if◌then◌else◌, codes, refl}
-use Rattle.std.specs.List.{IsDistinct, filter_map}
+use Rattle.std.specs.List.{IsDistinct, AllByRecursion, filter_map}
 use Rattle.std.specs.Ordering.{nat_cmp}
 use Rattle.std.specs.Str.{bytes_eq}
 use Rattle.std.specs.Str.Parse.{digits_value}
@@ -64,6 +64,13 @@ pub record LineTellsVif (line : LineText) (row : ℕ × VifText) : Type 0 where
 -- the device of a vif that has one
 abbrev pub device_of : ℕ × VifText → Option (List ℕ)
 device_of row = if bytes_eq row.1.device no_device then None else Some row.1.device
+
+-- the rows of a table: indexes and devices differ, and the indexes are 0 to 31
+abbrev pub AreVifs : List (ℕ × VifText) → Type 0
+AreVifs rows =
+    IsDistinct nat_eq (map (λ row. row.0) rows)
+    × IsDistinct bytes_eq (filter_map device_of rows)
+    × AllByRecursion (λ row. row.0 ≤ 31) rows
 
 -- a text of these vifs with their indexes, in the order of its lines
 pub record AreVifRows (text : List ℕ) (rows : List (ℕ × VifText)) : Type 0 where

@@ -1,24 +1,23 @@
 //! The forwarding cache, `/proc/net/ip_mr_cache`.
 
-ghost use Rattle.std.specs.Prelude.{◌≡◌, ◌≢◌, ◌<◌, ◌||◌, [], OnOk, IfOk, IfErr, IfSome, Ok, Err};
-ghost use Rattle.std.specs.Prelude.{None};
+ghost use Rattle.std.specs.Prelude.{◌≡◌, ◌≢◌, ◌<◌, ◌||◌, OnOk, IfOk, IfSome, Ok, Err, None};
 ghost use Rattle.std.specs.Option.{option_copied};
 ghost use Rattle.std.specs.FinMap as map;
 ghost use Rattle.std.specs.FinSet as set;
 ghost use Rattle.mc_text.specs.LineView.{line_text};
 ghost use Rattle.mc_tables.specs.declared.fault.TableFaultKind.TheVariants.{Memory};
 ghost use Rattle.mc_tables.specs.Memory.{out_of_memory};
-ghost use Rattle.mc_tables.specs.CacheTable.{CacheText, IsEntry, IsCache, StandsForCache, table_of};
+ghost use Rattle.mc_tables.specs.CacheTable.{CacheText, IsEntry, IsCache, StandsForCache};
 ghost use Rattle.mc_tables.specs.CacheReading.{cache_in};
-ghost use Rattle.mc_tables.specs.CacheSteps.{row_with_room, line_added, table_after};
+ghost use Rattle.mc_tables.specs.CacheSteps.{row_with_room};
 
 use crate::cache_line::row_of_line;
+use crate::cache_reader::CacheReader;
 use crate::cache_row::CacheRow;
 use crate::cache_rows::CacheRows;
 use crate::entry::Entry;
 use crate::fault::{TableFault, TableFaultKind};
-use crate::table_lines::lines_after_header;
-use mc_text::{Addr, Line, Lines, Order};
+use mc_text::{Addr, Line, Order};
 use std::alloc::Global;
 use std::marker::Model;
 
@@ -68,8 +67,17 @@ impl CacheTable {
     fn from_text(alloc: Global, text: &[u8], order: Order) -> Result<CacheTable, TableFault>
         ensures { result ≢ Err out_of_memory → result ≡ cache_in order text.now }
     {
-        let rows = rows_of_text(alloc, text, order)?;
-        Ok(CacheTable { rows })
+        let mut reader = CacheReader::of_all(alloc, order);
+        reader.feed(text)?;
+        reader.finish()
+    }
+
+    /// The table of rows that were read.
+    pub(crate) fn from_rows(rows: CacheRows) -> CacheTable
+        requires { IsCache rows }
+        ensures { result ≡ rows }
+    {
+        CacheTable { rows }
     }
 
     /// The entry of the resolved row of this source and this group. There is none for 0.0.0.0.
@@ -92,46 +100,8 @@ impl CacheTable {
     }
 }
 
-fn rows_of_text(alloc: Global, text: &[u8], order: Order) -> Result<CacheRows, TableFault>
-    ensures { result ≢ Err out_of_memory → result ≡ cache_in order text.now }
-{
-    let lines = lines_after_header(text, b"Group")?;
-    rows_of_lines(alloc, lines, order)
-}
-
-fn rows_of_lines(alloc: Global, lines: Lines<'_>, order: Order) -> Result<CacheRows, TableFault>
-    ensures { result ≢ Err out_of_memory →
-        result ≡ table_after order 0 (table_of []) lines.entry }
-{
-    let mut rows = CacheRows::new(alloc);
-    let mut count = 0usize;
-    for line in lines {
-        add_line(alloc, &mut rows, count, &line, order).map_err(|kind| kind.at(line.number))?;
-        count += 1;
-    }
-    Ok(rows)
-}
-
-/// Adds the row of a line to so many rows.
-fn add_line(
-    alloc: Global,
-    rows: &mut CacheRows,
-    count: usize,
-    line: &Line<'_>,
-    order: Order,
-) -> Result<(), TableFaultKind>
-    ensures room { OnOk result (count < 65536) }
-    ensures added { OnOk result
-        (line_added order count rows.old (line_text line.now) ≡ Ok rows.new) }
-    ensures fault { IfErr result (λ fault. fault ≢ Memory →
-        line_added order count rows.old (line_text line.now) ≡ Err fault) }
-{
-    let row = row_with_room(alloc, count, line, order)?;
-    rows.add(row)
-}
-
 /// Reads the row of a line after so many others.
-fn row_with_room(
+pub(crate) fn row_with_room(
     alloc: Global,
     count: usize,
     line: &Line<'_>,

@@ -1,14 +1,16 @@
 //! What follows from the definitions alone, for whoever builds on them.
 
-ghost use Rattle.std.specs.Prelude.{◌≡◌, ◌≢◌, ◌≤◌, ◌↔◌, ℕ, List, IsSome, IfSome, Ok};
+ghost use Rattle.std.specs.Prelude.{◌≡◌, ◌≢◌, ◌≤◌, ◌↔◌, ℕ, List, IsSome, IfSome, Ok, Err};
 ghost use Rattle.std.specs.Ordering.{nat_cmp};
 ghost use Rattle.std.specs.FinMap.{FinMap, get};
 ghost use Rattle.mc_text.specs.declared.addr.Order.{Order};
+ghost use Rattle.mc_tables.specs.declared.fault.TableFault.{TableFault};
 ghost use Rattle.mc_tables.specs.VifTable.{VifText, no_device, StandsForVifs};
 ghost use Rattle.mc_tables.specs.VifLookups.{HasDevice, IsVifTable};
 ghost use Rattle.mc_tables.specs.CacheTable.{CacheText, IsEntry, IsCache, StandsForCache};
 ghost use Rattle.mc_tables.specs.VifReading.{vifs_in};
 ghost use Rattle.mc_tables.specs.CacheReading.{cache_in};
+ghost use Rattle.mc_tables.specs.ListedRows.{Listed, listed_in, IsListedPart};
 
 /// A text is read as a table exactly where it stands for it.
 pub fn tables_are_read_as_they_stand()
@@ -52,4 +54,14 @@ pub fn vifs_are_numbered_to_31()
 pub fn entries_ascend_in_range()
     ensures { (order : Order) (text : List ℕ) (table : CacheText) →
         StandsForCache order text table → (key : ℕ × ℕ) → IfSome (get table.entries key) IsEntry }
+{}
+
+/// Of a cache whose listed rows are kept, what is read is the listed part of the whole cache, and
+/// the faults are those of the whole text.
+pub fn listed_rows_are_part_of_the_whole()
+    ensures part { (order : Order) (listed : Listed) (text : List ℕ) (part : CacheText) →
+        listed_in order listed text ≡ Ok part → (whole : CacheText)
+        × (cache_in order text ≡ Ok whole) × IsListedPart listed part whole }
+    ensures fault { (order : Order) (listed : Listed) (text : List ℕ) (fault : TableFault) →
+        (listed_in order listed text ≡ Err fault) ↔ (cache_in order text ≡ Err fault) }
 {}

@@ -3,26 +3,37 @@
 #![tactic(auto)]
 
 mod cache_line;
+mod cache_reader;
 mod cache_row;
 mod cache_rows;
 mod cache_table;
 mod entry;
 mod fault;
+mod header;
 mod laws;
+mod listed;
+mod listed_rows;
+mod other_pairs;
 mod outgoing;
-mod table_lines;
+mod piece_lines;
+mod rows;
 mod table_words;
 mod vif;
 mod vif_line;
+mod vif_reader;
 mod vif_row;
+mod vif_rows;
 mod vif_table;
 
+pub use cache_reader::CacheReader;
 pub use cache_table::CacheTable;
 pub use entry::{Entry, Oif, Oifs};
 pub use fault::{TableFault, TableFaultKind};
 pub use laws::{
-    devices_have_one_vif, entries_ascend_in_range, tables_are_read_as_they_stand,
-    tables_keep_their_rules, texts_stand_for_one_table, vifs_are_numbered_to_31,
+    devices_have_one_vif, entries_ascend_in_range, listed_rows_are_part_of_the_whole,
+    tables_are_read_as_they_stand, tables_keep_their_rules, texts_stand_for_one_table,
+    vifs_are_numbered_to_31,
 };
 pub use vif::Vif;
+pub use vif_reader::VifReader;
 pub use vif_table::VifTable;

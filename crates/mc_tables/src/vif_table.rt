@@ -10,17 +10,18 @@ ghost use Rattle.std.specs.FinMap as map;
 ghost use Rattle.mc_text.specs.LineView.{line_text};
 ghost use Rattle.mc_tables.specs.Memory.{out_of_memory};
 ghost use Rattle.mc_tables.specs.TableLines.{rows_after};
-ghost use Rattle.mc_tables.specs.VifTable.{VifText, no_device, StandsForVifs};
+ghost use Rattle.mc_tables.specs.VifTable.{VifText, no_device, AreVifs, StandsForVifs};
 ghost use Rattle.mc_tables.specs.VifReading.{index_repeats, device_repeats, vif_in_line};
-ghost use Rattle.mc_tables.specs.VifReading.{vifs_in_lines, vifs_in};
+ghost use Rattle.mc_tables.specs.VifReading.{vifs_in};
 ghost use Rattle.mc_tables.specs.VifLookups.{HasDevice, IsVifTable, first_index_with};
 
 use crate::fault::{TableFault, TableFaultKind};
-use crate::table_lines::lines_after_header;
 use crate::vif::Vif;
 use crate::vif_line::vif_of_line;
+use crate::vif_reader::VifReader;
 use crate::vif_row::VifRow;
-use mc_text::{Line, Lines};
+use crate::vif_rows::VifRows;
+use mc_text::Line;
 use std::alloc::Global;
 use std::marker::Model;
 
@@ -34,13 +35,10 @@ pub struct VifTable {
 }
 
 impl Model for VifTable {
-    ghost use Rattle.std.specs.Prelude.{◌≤◌, nat_eq, map as map_list};
-    ghost use Rattle.std.specs.List.{IsDistinct, AllByRecursion, filter_map};
     ghost use Rattle.std.specs.Ordering.{nat_cmp};
-    ghost use Rattle.std.specs.Str.{bytes_eq};
     ghost use Rattle.std.specs.Coded.{coded_ℕ};
     ghost use Rattle.std.specs.FinMap as map;
-    ghost use Rattle.mc_tables.specs.VifTable.{VifText, vif_code, device_of};
+    ghost use Rattle.mc_tables.specs.VifTable.{VifText, AreVifs, vif_code};
 
     ghost Value = { map.FinMap nat_cmp VifText };
 
@@ -48,10 +46,7 @@ impl Model for VifTable {
 
     ghost view = { λ table. map.from_entries table.vifs.items };
 
-    ghost invariant = { λ table.
-        IsDistinct nat_eq (map_list (λ row. row.0) table.vifs.items)
-        × IsDistinct bytes_eq (filter_map device_of table.vifs.items)
-        × AllByRecursion (λ row. row.0 ≤ 31) table.vifs.items };
+    ghost invariant = { λ table. AreVifs table.vifs.items };
 }
 
 impl VifTable {
@@ -79,20 +74,19 @@ impl VifTable {
     fn from_text(alloc: Global, text: &[u8]) -> Result<VifTable, TableFault>
         ensures { result ≢ Err out_of_memory → result ≡ vifs_in text.now }
     {
-        let lines = lines_after_header(text, b"Interface")?;
-        VifTable::from_lines(alloc, lines)
+        let mut reader = VifReader::new(alloc);
+        reader.feed(text)?;
+        reader.finish()
     }
 
-    /// The table of the lines after the header.
-    fn from_lines(alloc: Global, lines: Lines<'_>) -> Result<VifTable, TableFault>
-        ensures { result ≢ Err out_of_memory → result ≡ vifs_in_lines lines.entry }
+    /// The table of rows that were read.
+    pub(crate) fn from_rows(rows: VifRows) -> VifTable
+        requires { AreVifs rows }
+        ensures { result ≡ map.from_entries rows }
     {
-        let mut vifs = Vec::new(alloc);
-        for line in lines {
-            let row = new_vif(vifs.as_slice(), &line).map_err(|kind| kind.at(line.number))?;
-            vifs.push(row)?;
+        VifTable {
+            vifs: rows.into_vec(),
         }
-        Ok(VifTable { vifs })
     }
 
     /// The vif of an index.
@@ -126,7 +120,7 @@ impl VifTable {
 
 /// Reads a line after the earlier vifs.
 #[tactic(auto, unfolding(crate::specs::VifReading::vif_in_line))]
-fn new_vif(earlier: &[VifRow], line: &Line<'_>) -> Result<VifRow, TableFaultKind>
+pub(crate) fn new_vif(earlier: &[VifRow], line: &Line<'_>) -> Result<VifRow, TableFaultKind>
     ensures { result ≡ vif_in_line earlier.now (line_text line.now) }
 {
     if !line.ended {

@@ -62,7 +62,7 @@ const ROWS: &[u8] = b"Group
 ";
 
 /// Whether a growth was refused. What then is answered names no line.
-fn wants_memory(rt: &impl Abort, fault: TableFault) -> bool {
+pub(super) fn wants_memory(rt: &impl Abort, fault: TableFault) -> bool {
     if fault.kind == TableFaultKind::Memory {
         assert_eq!(rt; fault.line, 0);
         return true;
@@ -90,7 +90,13 @@ fn rows_at_last(rt: &impl Abort, alloc: Global) -> Result<CacheTable, TableFault
 const DEVICES: &str = "eth0 none a.name_of15byte eth3 eth4 eth5 eth6 none eth8";
 
 /// Whether the table has this vif.
-fn has_vif(table: &VifTable, index: u8, device: &str, tunnel: bool, register: bool) -> bool {
+pub(super) fn has_vif(
+    table: &VifTable,
+    index: u8,
+    device: &str,
+    tunnel: bool,
+    register: bool,
+) -> bool {
     match table.vif(index) {
         Some(vif) => {
             vif.device() == device.as_bytes()
@@ -128,13 +134,19 @@ fn vifs_are_read_after_a_refused_growth(rt: HostRuntime) -> Result<(), Fail> {
 }
 
 /// An outgoing vif.
-const fn oif(vif: u8, threshold: u8) -> Oif {
+pub(super) const fn oif(vif: u8, threshold: u8) -> Oif {
     Oif { vif, threshold }
 }
 
 /// Whether the table has an entry for 10.0.0.0/24 and a group, with this incoming vif and these
 /// outgoing ones.
-fn has_entry(table: &CacheTable, last: u8, group: [u8; 4], iif: u8, oifs: &[Oif]) -> bool {
+pub(super) fn has_entry(
+    table: &CacheTable,
+    last: u8,
+    group: [u8; 4],
+    iif: u8,
+    oifs: &[Oif],
+) -> bool {
     let source = Addr::from_octets([10, 0, 0, last]);
     match table.exact(source, Addr::from_octets(group)) {
         Some(entry) => entry.iif == iif && entry.oifs.as_slice() == oifs,
@@ -143,14 +155,14 @@ fn has_entry(table: &CacheTable, last: u8, group: [u8; 4], iif: u8, oifs: &[Oif]
 }
 
 /// Whether the table has an entry for this source and group.
-fn has_any(table: &CacheTable, source: [u8; 4], group: [u8; 4]) -> bool {
+pub(super) fn has_any(table: &CacheTable, source: [u8; 4], group: [u8; 4]) -> bool {
     table
         .exact(Addr::from_octets(source), Addr::from_octets(group))
         .is_some()
 }
 
 /// Whether the table has a row of a group for every source.
-fn is_wildcard(table: &CacheTable, group: [u8; 4]) -> bool {
+pub(super) fn is_wildcard(table: &CacheTable, group: [u8; 4]) -> bool {
     table.wildcard(Addr::from_octets(group))
 }
 

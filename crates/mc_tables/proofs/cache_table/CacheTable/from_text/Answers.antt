@@ -1,7 +1,33 @@
-use Rattle.mc_tables.proofs.RuleLemmas.{read_keeps_rules}
+use Rattle.std.proofs.Common.{[], None, sym, ap, ◌∙◌}
+use Rattle.std.specs.Prelude.{Err}
+use Rattle.std.proofs.lemmas.Result.{err_from_is_err_and}
+use Rattle.mc_tables.specs.RowsSoFar.{CacheSoFar}
+use Rattle.mc_tables.proofs.StepLemmas.{err_is}
+use Rattle.mc_tables.proofs.RowsSoFarLemmas.{whole_refused, whole_taken, all_listed}
 use Rattle.mc_tables.proofs.cache_table.CacheTable.from_text.Goals as goal
 
-pub invariant_of-result : goal.invariant_of-result
-invariant_of-result c =
-    read_keeps_rules c.args.order c.args.text.now c.rows_of_text.result c.in_ok-rows.rows
-    c.in_ok-rows.was c.rows_of_text.ensures
+pub returns : goal.returns
+returns c = λ _.
+    let start = c.of_all-reader.result in
+    c.finish.ensures
+    ∙ whole_taken c.args.order None c.args.text.now start c.feed.new.self
+    (ap (λ (s : CacheSoFar). s.lines.size) c.of_all-reader.ensures.start)
+    (c.of_all-reader.ensures.reads c.args.text.now)
+    (λ fits. c.in_ok-feed.ensures.goes_on [] (λ is. cc) fits)
+    (λ more. let refused = c.in_ok-feed.ensures.too_large
+    (ap (λ (s : CacheSoFar). s.fault) c.of_all-reader.ensures.start) more in cc)
+    ∙ all_listed c.args.order c.args.text.now
+
+pub returns-in_err-feed : goal.returns-in_err-feed
+returns-in_err-feed c =
+    let p = err_from_is_err_and c.from_residual.result c.from_residual.ensures.1 in
+    rw (p.1, p.2) (λ there.
+    let start = c.of_all-reader.result in
+    sym (sym (all_listed c.args.order c.args.text.now)
+    ∙ whole_refused c.args.order None c.args.text.now start c.feed.new.self c.in_err-feed.field-0.0
+    (ap (λ (s : CacheSoFar). s.lines.size) c.of_all-reader.ensures.start)
+    (c.of_all-reader.ensures.reads c.args.text.now)
+    (λ fits. c.in_err-feed.ensures.goes_on [] (λ is. there (ap Err (err_is is))) fits)
+    c.in_err-feed.ensures.fault
+    (λ more. err_is (c.in_err-feed.ensures.too_large
+    (ap (λ (s : CacheSoFar). s.fault) c.of_all-reader.ensures.start) more))))

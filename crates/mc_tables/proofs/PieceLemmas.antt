@@ -1,0 +1,283 @@
+-- The lines of a text that comes in pieces.
+use Rattle.std.proofs.Common.{◌≡◌, ◌≢◌, ℕ, suc, ◌+◌, ◌<◌, ◌≤◌, true, false, eqb, cond, List, [], ◌∷◌, ◌++◌}
+use Rattle.std.proofs.Common.{length, take, drop, get_or, Some, None, Result, Ok, Err, refl}
+use Rattle.std.proofs.Common.{sym, ap, ◌∙◌, arith, append_assoc, length-take, inl, inr}
+use Rattle.std.specs.Prelude.{position}
+use Rattle.std.specs.List.{slice_split, position_or_len}
+use Rattle.std.proofs.lemmas.Bool.{cases_Bool, eqb-true}
+use Rattle.std.proofs.lemmas.Bool.Decides.{nat_tests}
+use Rattle.std.proofs.lemmas.List.{append-nil, drop_more, take-append-drop, get_or-take, length-append}
+use Rattle.std.proofs.lemmas.List.Elements.{All-from_recursion}
+use Rattle.std.proofs.lemmas.List.Quantifiers.{position-Some}
+use Rattle.std.proofs.lemmas.List.Splits.{slice_split_at, slice_split_none, length-slice_split}
+use Rattle.std.proofs.lemmas.List.Sums.{fails_before_first}
+use Rattle.mc_text.specs.Lines.{LineText, numbered, lines_from}
+use Rattle.mc_tables.specs.declared.fault.TableFault.{TableFault}
+use Rattle.mc_tables.specs.declared.fault.TableFaultKind.{TableFaultKind}
+use Rattle.mc_tables.specs.declared.fault.TableFaultKind.TheVariants.{NoHeader, Unended, Memory}
+use Rattle.mc_tables.specs.Memory.{out_of_memory, fault_at}
+use Rattle.mc_tables.specs.Steps.{◌>>=◌, at_line}
+use Rattle.mc_tables.specs.TableLines.{header_in}
+use Rattle.mc_tables.specs.LinesSoFar.{LinesSoFar, AreLinesSoFar, WithoutLineFeed, with_begun}
+use Rattle.mc_tables.specs.LinesSoFar.{with_ended, line_begun, lines_to_come, read_after, header_line}
+use Rattle.mc_tables.specs.LinesSoFar.{line_after, end_of, ReadsInSteps}
+
+-- ---- line feeds
+
+-- two stretches without one have none together
+pub without_both : (xs ys : List ℕ) → WithoutLineFeed xs → WithoutLineFeed ys
+    → WithoutLineFeed (xs ++ ys)
+without_both [] ys a b = b
+without_both (x ∷ xs) ys a b = (a.0, without_both xs ys a.1 b)
+
+-- a list none of whose bytes is one
+without_each : (xs : List ℕ) → ((k : ℕ) → k < length xs → eqb (get_or xs k 0) 10 ≡ false)
+    → WithoutLineFeed xs
+without_each [] none = tt
+without_each (x ∷ xs) none =
+    (none 0 (omega arith), without_each xs (λ k lt. none (suc k) (omega (arith, lt))))
+
+-- where none is found there is none
+pub without_none : (xs : List ℕ) → position (λ b. eqb b 10) xs ≡ None → WithoutLineFeed xs
+without_none xs none =
+    let past : length xs ≤ position_or_len (λ b. eqb b 10) xs = grind (arith, nat_tests) in
+    without_each xs (λ k lt. fails_before_first (λ b. eqb b 10) xs k 0 (omega (arith, past)))
+
+-- before the first there is none
+pub without_before : (xs : List ℕ) (end : ℕ) → position (λ b. eqb b 10) xs ≡ Some end
+    → WithoutLineFeed (take end xs)
+without_before xs end found =
+    let at = position-Some (λ b. eqb b 10) xs end 0 found in
+    without_each (take end xs) (λ k lt.
+    let before : k < end = omega (arith, lt, length-take end xs) in
+    ap (λ b. eqb b 10) (get_or-take end xs k 0 before) ∙ at.2 k before)
+
+-- it stands within the text
+pub end_within : (xs : List ℕ) (end : ℕ) → position (λ b. eqb b 10) xs ≡ Some end
+    → end + 1 ≤ length xs
+end_within xs end found =
+    let at = position-Some (λ b. eqb b 10) xs end 0 found in omega (arith, at.0)
+
+-- a text at its first line feed
+pub parted_at : (xs : List ℕ) (end : ℕ) → position (λ b. eqb b 10) xs ≡ Some end
+    → xs ≡ take end xs ++ 10 ∷ drop (end + 1) xs
+parted_at xs end found =
+    let at = position-Some (λ b. eqb b 10) xs end 0 found in
+    let feed : get_or xs end 0 ≡ 10 = eqb-true (get_or xs end 0) 10 at.1 in
+    sym (take-append-drop end xs)
+    ∙ ap (λ rest. take end xs ++ rest) (drop_more xs end 0 at.0)
+    ∙ ap (λ b. take end xs ++ b ∷ drop (end + 1) xs) feed
+
+-- what a stretch has taken keeps the rules
+pub begun_keeps : (lines : LinesSoFar) (size : ℕ) (bytes : List ℕ) → AreLinesSoFar lines
+    → lines.size + size ≤ 16777216 → length bytes ≤ size → WithoutLineFeed bytes
+    → AreLinesSoFar (with_begun lines size bytes)
+begun_keeps lines size bytes is within fewer without = record {
+  within = within;
+  numbers = omega (arith, is.numbers, length-append lines.begun bytes);
+  begun = without_both lines.begun bytes is.begun without;
+}
+
+-- ---- lines
+
+-- a part with parts after it is an ended line
+numbered_more : (n : ℕ) (part : List ℕ) (parts : List (List ℕ)) → 0 < length parts
+    → numbered n (part ∷ parts) ≡ record { number = n; bytes = part; ended = true }
+    ∷ numbered (n + 1) parts
+numbered_more n part parts some = grind arith
+
+-- a line without a line feed, and one after it
+line_then : (n : ℕ) (line rest : List ℕ) → WithoutLineFeed line
+    → lines_from n (line ++ 10 ∷ rest)
+    ≡ record { number = n; bytes = line; ended = true } ∷ lines_from (n + 1) rest
+line_then n line rest without =
+    let parts = slice_split_at (λ b. eqb b 10) line 10 rest
+    (All-from_recursion (λ b. eqb b 10 ≡ false) line without) refl in
+    let more = length-slice_split (λ b. eqb b 10) rest in
+    ap (numbered n) parts
+    ∙ numbered_more n line (slice_split (λ b. eqb b 10) rest) (omega (arith, more))
+
+-- a part without a line feed is one line that none ends, if it has a byte
+pub line_alone : (n : ℕ) (line : List ℕ) → WithoutLineFeed line → eqb (length line) 0 ≡ false
+    → lines_from n line ≡ record { number = n; bytes = line; ended = false } ∷ []
+line_alone n line without some =
+    let one = slice_split_none (λ b. eqb b 10) line
+    (All-from_recursion (λ b. eqb b 10 ≡ false) line without) in
+    rw (one, some) refl
+
+-- the lines to come after bytes without a line feed have come
+pub more_begun : (lines : LinesSoFar) (size : ℕ) (bytes more : List ℕ)
+    → lines_to_come lines (bytes ++ more) ≡ lines_to_come (with_begun lines size bytes) more
+more_begun lines size bytes more =
+    ap (lines_from (lines.ended + 1)) (sym (append_assoc lines.begun bytes more))
+
+-- the first of the lines to come, where a line feed stands in the next bytes
+pub first_to_come : (lines : LinesSoFar) (rest more : List ℕ) (end : ℕ)
+    → WithoutLineFeed lines.begun → position (λ b. eqb b 10) rest ≡ Some end
+    → lines_to_come lines (rest ++ more)
+    ≡ line_begun (with_begun lines (end + 1) (take end rest))
+    ∷ lines_to_come (with_ended (with_begun lines (end + 1) (take end rest)))
+    (drop (end + 1) rest ++ more)
+first_to_come lines rest more end without found =
+    let parted : lines.begun ++ (rest ++ more)
+    ≡ (lines.begun ++ take end rest) ++ 10 ∷ (drop (end + 1) rest ++ more) =
+    ap (λ r. lines.begun ++ (r ++ more)) (parted_at rest end found)
+    ∙ ap (λ r. lines.begun ++ r) (append_assoc (take end rest) (10 ∷ drop (end + 1) rest) more)
+    ∙ sym (append_assoc lines.begun (take end rest) (10 ∷ (drop (end + 1) rest ++ more))) in
+    ap (lines_from (lines.ended + 1)) parted
+    ∙ line_then (lines.ended + 1) (lines.begun ++ take end rest) (drop (end + 1) rest ++ more)
+    (without_both lines.begun (take end rest) without (without_before rest end found))
+
+-- ---- reading them
+
+-- where the header is judged, the others are read from the state on
+header_steps : {S A : Type 0} (read : S → List LineText → Result A TableFault)
+    (state : S) (lines : List LineText) (judged : Result (Unit {0}) TableFaultKind)
+    → ((at_line 1 judged >>= λ _. Ok lines) >>= read state)
+    ≡ (at_line 1 (judged >>= λ _. Ok state) >>= λ more. read more lines)
+header_steps read state lines (Ok u) = refl
+header_steps read state lines (Err kind) = refl
+
+-- a fault at a line, unless memory ran out
+pub fault_said : {S : Type 0} (read : Result S TableFaultKind) (line : ℕ) (kind : TableFaultKind)
+    → (kind ≢ Memory → read ≡ Err kind) → fault_at line kind ≢ out_of_memory
+    → at_line line read ≡ Err (fault_at line kind)
+fault_said read line Memory refused there = absurd (there refl)
+fault_said read line kind refused there = ap (at_line line) (refused (λ is. absurd cc))
+
+-- the line that has begun, by what was answered of it
+pub judged_as : {R : Type 0} (judge : ℕ → LineText → R) (begun now : LinesSoFar) (ended : ℕ)
+    (line : LineText) → now ≡ begun → ended ≡ now.ended → line ≡ line_begun now
+    → judge begun.ended (line_begun begun) ≡ judge ended line
+judged_as judge begun now ended line is number text =
+    ap (λ (l : LinesSoFar). judge l.ended (line_begun l)) (sym is)
+    ∙ ap (λ n. judge n (line_begun now)) (sym number) ∙ ap (judge ended) (sym text)
+
+-- what follows a step may be said otherwise
+bind_same : {A B E : Type 0} (r : Result A E) (f g : A → Result B E) → ((x : A) → f x ≡ g x)
+    → (r >>= f) ≡ (r >>= g)
+bind_same (Ok x) f g same = same x
+bind_same (Err e) f g same = refl
+
+-- a list without an element
+empty_is : (xs : List ℕ) → eqb (length xs) 0 ≡ true → xs ≡ []
+empty_is [] none = refl
+empty_is (x ∷ xs) none = absurd (let wrong = eqb-true (length (x ∷ xs)) 0 none in omega arith)
+
+module _ {S A : Type 0} (first : List ℕ) (read : S → List LineText → Result A TableFault)
+    (step : S → LineText → Result S TableFaultKind) (steps : ReadsInSteps read step) where
+  -- a line after a state, of which the first is the header
+  one_line : (ended : ℕ) (state : S) (line : LineText) (lines : List LineText)
+      → line.number ≡ ended + 1
+      → cond (eqb ended 0) (header_in first (line ∷ lines) >>= read state) (read state (line ∷ lines))
+      ≡ (at_line (ended + 1) (line_after first (step state) state ended line) >>= λ new. read new lines)
+  one_line ended state line lines numbered = elim (cases_Bool (eqb ended 0)) [
+    | inl none ↦
+        let zero_is : ended ≡ 0 = eqb-true ended 0 none in
+        rw (none, zero_is) (header_steps read state lines (header_line first line))
+    | inr some ↦ rw (some, ← numbered) (steps.line state line lines)
+  ]
+
+  -- bytes without a line feed change nothing of what reading gives
+  pub read_more : (lines : LinesSoFar) (size : ℕ) (state : S) (bytes more : List ℕ)
+      → read_after first (read state) lines (bytes ++ more)
+      ≡ read_after first (read state) (with_begun lines size bytes) more
+  read_more lines size state bytes more = rw (more_begun lines size bytes more) refl
+
+  -- once a line has ended, the others are read
+  once_ended : (lines : LinesSoFar) (state : S) (more : List ℕ)
+      → read_after first (read state) (with_ended lines) more
+      ≡ read state (lines_to_come (with_ended lines) more)
+  once_ended lines state more =
+      let some : eqb (lines.ended + 1) 0 ≡ false = grind (arith, nat_tests) in
+      rw some refl
+
+  -- a line that ends is read, and the others after it
+  pub read_line : (lines : LinesSoFar) (state : S) (rest more : List ℕ) (end : ℕ)
+      → WithoutLineFeed lines.begun → position (λ b. eqb b 10) rest ≡ Some end
+      → read_after first (read state) lines (rest ++ more)
+      ≡ (at_line (lines.ended + 1) (line_after first (step state) state lines.ended
+      (line_begun (with_begun lines (end + 1) (take end rest)))) >>= λ new.
+      read_after first (read new) (with_ended (with_begun lines (end + 1) (take end rest)))
+      (drop (end + 1) rest ++ more))
+  read_line lines state rest more end without found =
+      let begun = with_begun lines (end + 1) (take end rest) in
+      let later = drop (end + 1) rest ++ more in
+      ap (λ all. cond (eqb lines.ended 0) (header_in first all >>= read state) (read state all))
+      (first_to_come lines rest more end without found)
+      ∙ one_line lines.ended state (line_begun begun) (lines_to_come (with_ended begun) later) refl
+      ∙ bind_same (at_line (lines.ended + 1)
+      (line_after first (step state) state lines.ended (line_begun begun)))
+      (λ new. read new (lines_to_come (with_ended begun) later))
+      (λ new. read_after first (read new) (with_ended begun) later)
+      (λ new. sym (once_ended begun new later))
+
+  -- with no more to come, a line that has begun is one that none ends
+  read_unended : (lines : LinesSoFar) (state : S) → WithoutLineFeed lines.begun
+      → eqb (length lines.begun) 0 ≡ false → read_after first (read state) lines []
+      ≡ Err (record { line = lines.ended + 1; kind = Unended })
+  read_unended lines state without some =
+      let alone = line_alone (lines.ended + 1) lines.begun without some in
+      let line : LineText = record { number = lines.ended + 1; bytes = lines.begun; ended = false } in
+      let unended : line_after first (step state) state lines.ended line ≡ Err Unended =
+      elim (cases_Bool (eqb lines.ended 0)) [
+        | inl none ↦ rw none refl
+        | inr other ↦ rw other (steps.unended state line refl)
+      ] in
+      ap (λ text. cond (eqb lines.ended 0)
+      (header_in first (lines_from (lines.ended + 1) text) >>= read state)
+      (read state (lines_from (lines.ended + 1) text))) (append-nil lines.begun)
+      ∙ ap (λ all. cond (eqb lines.ended 0) (header_in first all >>= read state) (read state all)) alone
+      ∙ one_line lines.ended state line [] refl
+      ∙ ap (λ r. at_line (lines.ended + 1) r >>= λ new. read new []) unended
+
+  -- and where none has begun there is none
+  read_ended : (lines : LinesSoFar) (state : S) → eqb (length lines.begun) 0 ≡ true
+      → read_after first (read state) lines []
+      ≡ cond (eqb lines.ended 0) (Err (record { line = 1; kind = NoHeader })) (read state [])
+  read_ended lines state none =
+      ap (λ text. cond (eqb lines.ended 0)
+      (header_in first (lines_from (lines.ended + 1) text) >>= read state)
+      (read state (lines_from (lines.ended + 1) text)))
+      (append-nil lines.begun ∙ empty_is lines.begun none)
+
+  -- what a text that ends here is read as
+  pub read_end : (lines : LinesSoFar) (state : S) → WithoutLineFeed lines.begun
+      → read_after first (read state) lines [] ≡ (end_of lines >>= λ _. read state [])
+  read_end lines state without = elim (cases_Bool (eqb (length lines.begun) 0)) [
+    | inr some ↦ rw some (read_unended lines state without some)
+    | inl none ↦ elim (cases_Bool (eqb lines.ended 0)) [
+      | inl header ↦ rw (none, header) (rw header at (read_ended lines state none))
+      | inr later ↦ rw (none, later) (rw later at (read_ended lines state none))
+    ]
+  ]
+
+  -- a line that was taken
+  pub read_taken : (lines : LinesSoFar) (state new : S) (rest more : List ℕ) (end : ℕ)
+      → WithoutLineFeed lines.begun → position (λ b. eqb b 10) rest ≡ Some end
+      → line_after first (step state) state lines.ended
+      (line_begun (with_begun lines (end + 1) (take end rest))) ≡ Ok new
+      → read_after first (read state) lines (rest ++ more)
+      ≡ read_after first (read new) (with_ended (with_begun lines (end + 1) (take end rest)))
+      (drop (end + 1) rest ++ more)
+  read_taken lines state new rest more end without found taken =
+      let begun = with_begun lines (end + 1) (take end rest) in
+      read_line lines state rest more end without found
+      ∙ ap (λ r. at_line (lines.ended + 1) r >>= λ new.
+      read_after first (read new) (with_ended begun) (drop (end + 1) rest ++ more)) taken
+
+  -- a line that was refused
+  pub read_refused : (lines : LinesSoFar) (state : S) (kind : TableFaultKind) (rest more : List ℕ)
+      (end : ℕ) → WithoutLineFeed lines.begun → position (λ b. eqb b 10) rest ≡ Some end
+      → (kind ≢ Memory → line_after first (step state) state lines.ended
+      (line_begun (with_begun lines (end + 1) (take end rest))) ≡ Err kind)
+      → fault_at (lines.ended + 1) kind ≢ out_of_memory
+      → read_after first (read state) lines (rest ++ more)
+      ≡ Err (fault_at (lines.ended + 1) kind)
+  read_refused lines state kind rest more end without found refused there =
+      let begun = with_begun lines (end + 1) (take end rest) in
+      read_line lines state rest more end without found
+      ∙ ap (λ r. r >>= λ new.
+      read_after first (read new) (with_ended begun) (drop (end + 1) rest ++ more))
+      (fault_said (line_after first (step state) state lines.ended (line_begun begun))
+      (lines.ended + 1) kind refused there)

@@ -1,0 +1,81 @@
+-- A text that comes in pieces: how far its lines have come.
+use Rattle.std.specs.Prelude.{◌≡◌, ℕ, ◌+◌, ◌≤◌, ◌==◌, true, false, List, [], ◌∷◌, ◌++◌, length, Result, Ok, Err}
+use Rattle.std.specs.Prelude.{not, if◌then◌else◌}
+use Rattle.std.specs.List.{AllByRecursion}
+use Rattle.mc_text.specs.Lines.{LineText, lines_from, max_text}
+use Rattle.mc_text.specs.Words.{words_of}
+use Rattle.mc_tables.specs.declared.fault.TableFault.{TableFault}
+use Rattle.mc_tables.specs.declared.fault.TableFaultKind.{TableFaultKind}
+use Rattle.mc_tables.specs.declared.fault.TableFaultKind.TheVariants.{NoHeader, Unended}
+use Rattle.mc_tables.specs.Steps.{◌>>=◌, demand, at_line}
+use Rattle.mc_tables.specs.TableLines.{begins_with, header_in}
+
+-- how many lines have ended, how many bytes have come, and those after the last line feed
+pub record LinesSoFar : Type 0 where
+  pub ended : ℕ
+  pub size : ℕ
+  pub begun : List ℕ
+
+-- nothing has come
+abbrev pub no_lines : LinesSoFar
+no_lines = record { ended = 0; size = 0; begun = [] }
+
+-- no line feed stands there
+abbrev pub WithoutLineFeed : List ℕ → Type 0
+WithoutLineFeed bytes = AllByRecursion (λ b. (b == 10) ≡ false) bytes
+
+-- what has come is within the limit, and no line feed stands in the line that has begun
+pub record AreLinesSoFar (lines : LinesSoFar) : Type 0 where
+  pub within : lines.size ≤ max_text
+  pub numbers : lines.ended + length lines.begun ≤ lines.size
+  pub begun : WithoutLineFeed lines.begun
+
+-- so many bytes more, of which these stand after the last line feed
+abbrev pub with_begun : LinesSoFar → ℕ → List ℕ → LinesSoFar
+with_begun lines size bytes =
+    record { ended = lines.ended; size = lines.size + size; begun = lines.begun ++ bytes }
+
+-- the line that has begun ends here
+abbrev pub with_ended : LinesSoFar → LinesSoFar
+with_ended lines = record { ended = lines.ended + 1; size = lines.size; begun = [] }
+
+-- the line that has begun, where a line feed comes next
+abbrev pub line_begun : LinesSoFar → LineText
+line_begun lines = record { number = lines.ended + 1; bytes = lines.begun; ended = true }
+
+-- a text that ends here: each line has ended, and there is one
+abbrev pub end_of : LinesSoFar → Result (Unit {0}) TableFault
+end_of lines =
+    if not (length lines.begun == 0)
+    then Err (record { line = lines.ended + 1; kind = Unended })
+    else (if lines.ended == 0 then Err (record { line = 1; kind = NoHeader }) else Ok tt)
+
+-- the lines still to be read if these bytes come
+abbrev pub lines_to_come : LinesSoFar → List ℕ → List LineText
+lines_to_come lines more = lines_from (lines.ended + 1) (lines.begun ++ more)
+
+-- What reading the lines to come gives, of which the first is the header where none has ended. The
+-- others are read by a function.
+abbrev pub read_after : {A : Type 0} → List ℕ → (List LineText → Result A TableFault) → LinesSoFar
+    → List ℕ → Result A TableFault
+read_after first read lines more =
+    if lines.ended == 0 then (header_in first (lines_to_come lines more) >>= read)
+    else read (lines_to_come lines more)
+
+-- a header is a line that ends and has this word first
+abbrev pub header_line : List ℕ → LineText → Result (Unit {0}) TableFaultKind
+header_line first line =
+    demand line.ended Unended >>= λ _. demand (begins_with first (words_of line.bytes)) NoHeader
+
+-- a line is a header where none has ended, and is read by a function otherwise
+abbrev pub line_after : {S : Type 0} → List ℕ → (LineText → Result S TableFaultKind) → S → ℕ
+    → LineText → Result S TableFaultKind
+line_after first step state ended line =
+    if ended == 0 then (header_line first line >>= λ _. Ok state) else step line
+
+-- A function reads the lines after the header from a state on, and another one line after a state.
+pub record ReadsInSteps {S A : Type 0} (read : S → List LineText → Result A TableFault)
+    (step : S → LineText → Result S TableFaultKind) : Type 0 where
+  pub line : (state : S) (line : LineText) (lines : List LineText)
+      → read state (line ∷ lines) ≡ (at_line line.number (step state line) >>= λ more. read more lines)
+  pub unended : (state : S) (line : LineText) → line.ended ≡ false → step state line ≡ Err Unended

@@ -1,0 +1,43 @@
+-- A cache of which the rows of listed sources and groups are kept.
+use Rattle.std.specs.Prelude.{◌≡◌, ℕ, ◌==◌, ◌&&◌, Bool, true, false, List, Option, Some, None, Result}
+use Rattle.std.specs.Prelude.{Ok, filter}
+use Rattle.std.specs.List.{list_any}
+use Rattle.std.specs.FinMap as map
+use Rattle.mc_text.specs.declared.addr.Order.{Order}
+use Rattle.mc_tables.specs.declared.fault.TableFault.{TableFault}
+use Rattle.mc_tables.specs.Steps.{◌>>=◌}
+use Rattle.mc_tables.specs.CacheTable.{RowText, CacheText, key_of, table_of}
+use Rattle.mc_tables.specs.CacheReading.{cache_rows_in}
+
+-- the sources and groups that are listed, or all
+abbrev pub Listed : Type 0
+Listed = Option (List (ℕ × ℕ))
+
+abbrev pub is_listed : Listed → ℕ × ℕ → Bool
+is_listed None key = true
+is_listed (Some keys) key = list_any (λ k. (k.0 == key.0) && (k.1 == key.1)) keys
+
+-- whether a row is kept whole: all but the resolved ones of a source and a group that are not
+-- listed
+abbrev pub is_kept_key : Listed → Option (ℕ × ℕ) → Bool
+is_kept_key listed None = true
+is_kept_key listed (Some key) = is_listed listed key
+
+abbrev pub is_kept : Listed → RowText → Bool
+is_kept listed row = is_kept_key listed (key_of row)
+
+abbrev pub kept_rows : Listed → List RowText → List RowText
+kept_rows listed rows = filter (is_kept listed) rows
+
+-- the table of the rows that are kept
+abbrev pub listed_in : Order → Listed → List ℕ → Result CacheText TableFault
+listed_in order listed text =
+    cache_rows_in order text >>= λ rows. Ok (table_of (kept_rows listed rows))
+
+-- A table has of another one the entries of the listed sources and groups and no other entry, and
+-- all groups of rows for every source.
+pub record IsListedPart (listed : Listed) (part whole : CacheText) : Type 0 where
+  pub entries : (key : ℕ × ℕ) → is_listed listed key ≡ true
+      → map.get part.entries key ≡ map.get whole.entries key
+  pub others : (key : ℕ × ℕ) → is_listed listed key ≡ false → map.get part.entries key ≡ None
+  pub wildcards : part.wildcards ≡ whole.wildcards

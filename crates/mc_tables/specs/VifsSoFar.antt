@@ -1,0 +1,40 @@
+-- A table of vifs whose text comes in pieces.
+use Rattle.std.specs.Prelude.{ℕ, List, [], ◌∷◌, ◌++◌, Option, None, Result, Ok}
+use Rattle.std.specs.Prelude.{codes}
+use Rattle.std.specs.Ordering.{nat_cmp}
+use Rattle.std.specs.FinMap.{FinMap, from_entries}
+use Rattle.mc_text.specs.Lines.{LineText}
+use Rattle.mc_tables.specs.declared.fault.TableFault.{TableFault}
+use Rattle.mc_tables.specs.declared.fault.TableFaultKind.{TableFaultKind}
+use Rattle.mc_tables.specs.Steps.{◌>>=◌, unless_fault}
+use Rattle.mc_tables.specs.TableLines.{rows_after}
+use Rattle.mc_tables.specs.LinesSoFar.{LinesSoFar, no_lines, read_after}
+use Rattle.mc_tables.specs.VifTable.{VifText}
+use Rattle.mc_tables.specs.VifReading.{vif_in_line, vif_at}
+
+-- one line more
+abbrev pub vif_step : List (ℕ × VifText) → LineText → Result (List (ℕ × VifText)) TableFaultKind
+vif_step rows line = vif_in_line rows line >>= λ row. Ok (rows ++ row ∷ [])
+
+-- the table of these rows and those of the lines after them
+abbrev pub vifs_of : List (ℕ × VifText) → List LineText → Result (FinMap nat_cmp VifText) TableFault
+vifs_of rows lines = rows_after vif_at rows lines >>= λ all. Ok (from_entries all)
+
+-- the table if these bytes come
+abbrev pub vifs_after : LinesSoFar → List (ℕ × VifText) → List ℕ
+    → Result (FinMap nat_cmp VifText) TableFault
+vifs_after lines rows more = read_after (codes "Interface") (vifs_of rows) lines more
+
+-- how far reading has come: the lines, the rows, and the fault if one was answered
+pub record VifsSoFar : Type 0 where
+  pub lines : LinesSoFar
+  pub rows : List (ℕ × VifText)
+  pub fault : Option TableFault
+
+-- nothing has come
+abbrev pub no_vifs : VifsSoFar
+no_vifs = record { lines = no_lines; rows = []; fault = None }
+
+-- what reading ends with if these bytes come: the table, or the first fault
+abbrev pub vifs_if : VifsSoFar → List ℕ → Result (FinMap nat_cmp VifText) TableFault
+vifs_if vifs more = unless_fault vifs.fault (vifs_after vifs.lines vifs.rows more)

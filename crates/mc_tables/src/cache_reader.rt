@@ -1,0 +1,130 @@
+//! Reading the forwarding cache from pieces of its text.
+
+ghost use Rattle.std.specs.Prelude.{◌≡◌, ◌≢◌, ◌+◌, ◌<◌, ◌≤◌, ℕ, List, [], ◌++◌, length, None, Some};
+ghost use Rattle.std.specs.Prelude.{Ok, Err, OnOk, IfErr, IfSome};
+ghost use Rattle.mc_text.specs.Lines.{max_text};
+ghost use Rattle.mc_tables.specs.declared.fault.TableFaultKind.TheVariants.{TooLarge};
+ghost use Rattle.mc_tables.specs.Memory.{out_of_memory, fault_at};
+ghost use Rattle.mc_tables.specs.ListedRows.{listed_in};
+ghost use Rattle.mc_tables.specs.RowsSoFar.{no_cache, cache_if};
+
+use crate::cache_table::CacheTable;
+use crate::fault::TableFault;
+use crate::listed::Listed;
+use crate::listed_rows::ListedRows;
+use crate::piece_lines::PieceLines;
+use crate::rows::read_piece;
+use mc_text::{Addr, Order};
+use std::alloc::Global;
+use std::marker::Model;
+
+/// A reader of `/proc/net/ip_mr_cache` that is fed the text in pieces of any size. It keeps the rows
+/// of listed sources and groups, the groups of rows for every source, and the sources and groups of
+/// the other resolved rows.
+#[derive(Debug, Drop)]
+pub struct CacheReader {
+    lines: PieceLines,
+    rows: ListedRows,
+    fault: Option<TableFault>,
+}
+
+impl Model for CacheReader {
+    ghost use Rattle.std.specs.Prelude.{◌≡◌, None};
+    ghost use Rattle.std.specs.Coded.{codes};
+    ghost use Rattle.mc_text.specs.contracts.addr.Order as orders;
+    ghost use Rattle.mc_tables.specs.contracts.fault.TableFault as faults;
+    ghost use Rattle.mc_tables.specs.CacheTable.{IsCache};
+    ghost use Rattle.mc_tables.specs.RowsSoFar.{CacheSoFar, rows_code};
+
+    ghost Value = { CacheSoFar };
+
+    ghost coded = { Prim.hlevel (codes, rows_code, orders.the_row.coded, faults.the_row.coded) };
+
+    ghost view = { λ s. record { lines = s.lines; rows = s.rows; fault = s.fault } };
+
+    ghost invariant = { λ s. s.fault ≡ None → IsCache s.rows.rows.table };
+}
+
+impl CacheReader {
+    /// A reader that was fed nothing, for a router whose machine has this byte order. It keeps the
+    /// rows of these sources and groups.
+    pub fn new(alloc: Global, order: Order, listed: Vec<(Addr, Addr)>) -> CacheReader
+        ensures start { result ≡ no_cache order (Some listed.items) }
+        // A text of any bytes ends with what the whole text is read as.
+        ensures reads { (text : List ℕ) → length text ≤ max_text →
+            cache_if result text ≡ listed_in order (Some listed.items) text }
+    {
+        CacheReader::of_listed(alloc, order, Listed::of(listed))
+    }
+
+    /// A reader that keeps all rows.
+    pub(crate) fn of_all(alloc: Global, order: Order) -> CacheReader
+        ensures start { result ≡ no_cache order None }
+        ensures reads { (text : List ℕ) → length text ≤ max_text →
+            cache_if result text ≡ listed_in order None text }
+    {
+        CacheReader::of_listed(alloc, order, Listed::all())
+    }
+
+    fn of_listed(alloc: Global, order: Order, listed: Listed) -> CacheReader
+        ensures start { result ≡ no_cache order listed }
+        ensures reads { (text : List ℕ) → length text ≤ max_text →
+            cache_if result text ≡ listed_in order listed text }
+    {
+        CacheReader {
+            lines: PieceLines::new(alloc),
+            rows: ListedRows::new(alloc, order, listed),
+            fault: None,
+        }
+    }
+
+    /// Takes the next piece of the text.
+    ///
+    /// # Errors
+    ///
+    /// `TooLarge` at line 0 where the text has more than 16,777,216 bytes now; else the first fault
+    /// of the lines that have ended; or `Memory`. Each later call answers the same.
+    #[tactic(auto, using(crate::proofs::RowsSoFarLemmas::row_steps))]
+    pub fn feed(&mut self, piece: &[u8]) -> Result<(), TableFault>
+        // Whatever bytes come then, reading ends as it would have with this piece before them.
+        ensures goes_on { (more : List ℕ) → result ≢ Err out_of_memory →
+            self.old.lines.size + length (piece.now ++ more) ≤ max_text →
+            cache_if self.new more ≡ cache_if self.old (piece.now ++ more) }
+        ensures size { OnOk result (self.new.lines.size ≡ self.old.lines.size + length piece.now) }
+        ensures sound { OnOk result (self.new.fault ≡ None) }
+        ensures fault { IfErr result (λ fault. self.new.fault ≡ Some fault) }
+        ensures too_large { self.old.fault ≡ None →
+            max_text < self.old.lines.size + length piece.now →
+            result ≡ Err (fault_at 0 TooLarge) }
+        // After a fault each call answers it again.
+        ensures again { IfSome self.old.fault (λ fault. (result ≡ Err fault)
+            × (self.new ≡ self.old)) }
+    {
+        if let Some(fault) = self.fault {
+            return Err(fault);
+        }
+        match read_piece(&mut self.lines, &mut self.rows, piece) {
+            Ok(()) => Ok(()),
+            Err(fault) => {
+                self.fault = Some(fault);
+                Err(fault)
+            }
+        }
+    }
+
+    /// The table, if the text ends here.
+    ///
+    /// # Errors
+    ///
+    /// The fault that was answered before, or that of the text's end.
+    pub fn finish(self) -> Result<CacheTable, TableFault>
+        ensures { result ≡ cache_if self [] }
+    {
+        let CacheReader { lines, rows, fault } = self;
+        if let Some(fault) = fault {
+            return Err(fault);
+        }
+        lines.check_end()?;
+        Ok(CacheTable::from_rows(rows.into_kept()))
+    }
+}

@@ -1,0 +1,118 @@
+//! The lines of a text that comes in pieces.
+
+ghost use Rattle.std.specs.Prelude.{◌≡◌, ◌+◌, ◌<◌, ◌≤◌, ◌==◌, length, take, IfOk, MatchOption};
+ghost use Rattle.std.specs.Prelude.{position, Some};
+ghost use Rattle.mc_text.specs.LineView.{line_text};
+ghost use Rattle.mc_text.specs.Lines.{max_text};
+ghost use Rattle.mc_tables.specs.LinesSoFar.{no_lines, WithoutLineFeed, with_begun, with_ended};
+ghost use Rattle.mc_tables.specs.LinesSoFar.{AreLinesSoFar, line_begun, end_of};
+
+use crate::fault::{TableFault, TableFaultKind};
+use mc_text::{Line, MAX_TEXT, first_place_of};
+use std::alloc::{AllocError, Global};
+use std::marker::Model;
+
+/// How many lines have ended, how many bytes have come, and those after the last line feed.
+#[derive(Debug, Drop)]
+pub struct PieceLines {
+    ended: u32,
+    size: usize,
+    begun: Vec<u8>,
+}
+
+impl Model for PieceLines {
+    ghost use Rattle.mc_tables.specs.LinesSoFar.{LinesSoFar, AreLinesSoFar};
+
+    ghost Value = { LinesSoFar };
+
+    ghost view = { λ s. record { ended = s.ended; size = s.size; begun = s.begun.items } };
+
+    ghost invariant = { λ s. AreLinesSoFar
+        (record { ended = s.ended; size = s.size; begun = s.begun.items }) };
+}
+
+impl PieceLines {
+    /// Nothing has come.
+    pub fn new(alloc: Global) -> PieceLines
+        ensures { result ≡ no_lines }
+    {
+        PieceLines {
+            ended: 0,
+            size: 0,
+            begun: Vec::new(alloc),
+        }
+    }
+
+    /// How many lines have ended.
+    pub fn ended(&self) -> u32
+        ensures ended { result ≡ self.now.ended }
+        ensures fits { result ≤ max_text }
+    {
+        self.ended
+    }
+
+    /// How many bytes may still come.
+    pub fn room(&self) -> usize
+        ensures { self.now.size + result ≡ max_text }
+    {
+        MAX_TEXT - self.size
+    }
+
+    /// Refuses a text that ends here, if a line has begun or none has ended.
+    pub fn check_end(&self) -> Result<(), TableFault>
+        ensures end { result ≡ end_of self.now }
+        ensures rules { AreLinesSoFar self.now }
+    {
+        if !self.begun.is_empty() {
+            return Err(TableFaultKind::Unended.at(self.ended + 1));
+        }
+        if self.ended == 0 {
+            return Err(TableFaultKind::NoHeader.at(1));
+        }
+        Ok(())
+    }
+
+    /// Takes the bytes up to the first line feed, and answers where it stands. With none it takes
+    /// all.
+    pub fn take_up_to_end(&mut self, rest: &[u8]) -> Result<Option<usize>, AllocError>
+        requires { self.old.size + length rest.now ≤ max_text }
+        ensures rules { AreLinesSoFar self.old }
+        ensures taken { IfOk result (λ place. MatchOption place
+            (WithoutLineFeed rest.now × (self.new ≡ with_begun self.old (length rest.now) rest.now))
+            (λ end. (position (λ b. b == 10) rest.now ≡ Some end)
+            × (self.new ≡ with_begun self.old (end + 1) (take end rest.now)))) }
+    {
+        match first_place_of(b'\n', rest) {
+            Some(end) => {
+                self.begun.extend_from_slice(&rest[..end])?;
+                self.size += end + 1;
+                Ok(Some(end))
+            }
+            None => {
+                self.begun.extend_from_slice(rest)?;
+                self.size += rest.len();
+                Ok(None)
+            }
+        }
+    }
+
+    /// The line that has begun, whose line feed has come.
+    pub fn line(&self) -> Line<'_>
+        ensures { line_text result ≡ line_begun self.now }
+    {
+        Line {
+            number: self.ended + 1,
+            bytes: self.begun.as_slice(),
+            ended: true,
+        }
+    }
+
+    /// The next line begins.
+    pub fn end_line(&mut self)
+        requires { self.old.ended + length self.old.begun < self.old.size }
+        ensures { self.new ≡ with_ended self.old }
+    {
+        self.ended += 1;
+        self.begun.clear();
+    }
+}

@@ -1,0 +1,106 @@
+//! Reading the rows of a table from pieces of its text.
+
+ghost use Rattle.std.specs.Prelude.{◌≡◌, ◌≢◌, ◌+◌, ◌<◌, ◌≤◌, ℕ, List, ◌++◌, length, drop, None};
+ghost use Rattle.std.specs.Prelude.{Result, Ok, Err, OnOk, IfOk, IfErr, IfSome};
+ghost use Rattle.mc_text.specs.LineView.{line_text};
+ghost use Rattle.mc_text.specs.Lines.{LineText, max_text};
+ghost use Rattle.mc_tables.specs.declared.fault.TableFault.{TableFault};
+ghost use Rattle.mc_tables.specs.declared.fault.TableFaultKind.{TableFaultKind};
+ghost use Rattle.mc_tables.specs.declared.fault.TableFaultKind.TheVariants.{Memory, TooLarge};
+ghost use Rattle.mc_tables.specs.Memory.{out_of_memory, fault_at};
+ghost use Rattle.mc_tables.specs.LinesSoFar.{read_after, line_after, ReadsInSteps};
+
+use crate::fault::{TableFault, TableFaultKind};
+use crate::piece_lines::PieceLines;
+use mc_text::Line;
+
+/// The rows of a table, each of which is read beside the earlier ones.
+pub trait Rows {
+    // the table that they make
+    ghost Table: { Type 0 };
+
+    // the first word of its header
+    ghost header: { List ℕ };
+
+    // the row of a line more
+    ghost step: { Self → LineText → Result Self TableFaultKind };
+
+    // the table of these rows and those of the lines after them
+    ghost table: { Self → List LineText → Result Table TableFault };
+
+    // what they keep
+    ghost stand: { Self → Type 0 };
+
+    /// Adds the row of a line after so many lines, the first of which is the header. After an error
+    /// the rows are of no use.
+    fn add_line(&mut self, ended: u32, line: &Line<'_>) -> Result<(), TableFaultKind>
+        ensures added { OnOk result
+            (line_after header (step self.old) self.old ended (line_text line.now) ≡ Ok self.new) }
+        ensures fault { IfErr result (λ fault. fault ≢ Memory →
+            line_after header (step self.old) self.old ended (line_text line.now) ≡ Err fault) }
+        ensures stand { OnOk result (stand self.old → stand self.new) };
+}
+
+/// Reads the lines that end in a piece.
+pub fn read_piece<R: Rows>(
+    lines: &mut PieceLines,
+    rows: &mut R,
+    piece: &[u8],
+) -> Result<(), TableFault>
+    // the lines are read one after the other
+    requires { ReadsInSteps R.table R.step }
+    ensures reads { (more : List ℕ) → OnOk result
+        (read_after R.header (R.table rows.old) lines.old (piece.now ++ more)
+        ≡ read_after R.header (R.table rows.new) lines.new more) }
+    ensures size { OnOk result (lines.new.size ≡ lines.old.size + length piece.now) }
+    ensures fault { (more : List ℕ) → lines.old.size + length piece.now ≤ max_text →
+        IfErr result (λ fault. fault ≢ out_of_memory →
+        read_after R.header (R.table rows.old) lines.old (piece.now ++ more) ≡ Err fault) }
+    ensures too_large { max_text < lines.old.size + length piece.now →
+        result ≡ Err (fault_at 0 TooLarge) }
+    ensures stand { OnOk result (R.stand rows.old → R.stand rows.new) }
+{
+    if lines.room() < piece.len() {
+        return Err(TableFaultKind::TooLarge.at(0));
+    }
+    let mut rest = piece;
+    'lines: while let Some(end) = read_up_to_end(lines, rows, rest)? {
+        rest = &rest[end + 1..];
+    }
+    Ok(())
+}
+
+/// Reads the line that ends first, and answers where. With none it takes the bytes.
+fn read_up_to_end<R: Rows>(
+    lines: &mut PieceLines,
+    rows: &mut R,
+    rest: &[u8],
+) -> Result<Option<usize>, TableFault>
+    requires steps { ReadsInSteps R.table R.step }
+    requires room { lines.old.size + length rest.now ≤ max_text }
+    ensures none { (more : List ℕ) → IfOk result (λ place. place ≡ None →
+        read_after R.header (R.table rows.old) lines.old (rest.now ++ more)
+        ≡ read_after R.header (R.table rows.new) lines.new more) }
+    ensures all { IfOk result (λ place. place ≡ None →
+        lines.new.size ≡ lines.old.size + length rest.now) }
+    ensures some { (more : List ℕ) → IfOk result (λ place. IfSome place (λ end.
+        read_after R.header (R.table rows.old) lines.old (rest.now ++ more)
+        ≡ read_after R.header (R.table rows.new) lines.new (drop (end + 1) rest.now ++ more))) }
+    ensures place { IfOk result (λ place. IfSome place (λ end. (end < length rest.now)
+        × (lines.new.size ≡ lines.old.size + (end + 1)))) }
+    ensures fault { (more : List ℕ) → IfErr result (λ fault. fault ≢ out_of_memory →
+        read_after R.header (R.table rows.old) lines.old (rest.now ++ more) ≡ Err fault) }
+    ensures stand { OnOk result (R.stand rows.old → R.stand rows.new) }
+{
+    let Some(end) = lines.take_up_to_end(rest)? else {
+        return Ok(None);
+    };
+    let ended = lines.ended();
+    match rows.add_line(ended, &lines.line()) {
+        Ok(()) => {
+            lines.end_line();
+            Ok(Some(end))
+        }
+        Err(kind) => Err(kind.at(ended + 1)),
+    }
+}

@@ -1,0 +1,73 @@
+//! The rows of a table of vifs.
+
+ghost use Rattle.std.specs.Prelude.{◌≡◌, []};
+
+use crate::fault::TableFaultKind;
+use crate::header::check_header;
+use crate::rows::Rows;
+use crate::vif_row::VifRow;
+use crate::vif_table::new_vif;
+use mc_text::Line;
+use std::alloc::Global;
+use std::marker::Model;
+
+/// The vifs of a router with their indexes, in the order of the lines.
+#[derive(Debug, Drop)]
+pub struct VifRows {
+    vifs: Vec<VifRow>,
+}
+
+impl Model for VifRows {
+    ghost use Rattle.std.specs.Prelude.{ℕ, List};
+    ghost use Rattle.mc_tables.specs.VifTable.{VifText};
+
+    ghost Value = { List (ℕ × VifText) };
+
+    ghost view = { λ rows. rows.vifs.items };
+}
+
+impl VifRows {
+    /// No rows.
+    pub fn new(alloc: Global) -> VifRows
+        ensures { result ≡ [] }
+    {
+        VifRows {
+            vifs: Vec::new(alloc),
+        }
+    }
+
+    /// The rows.
+    pub fn into_vec(self) -> Vec<VifRow>
+        ensures { result.items ≡ self }
+    {
+        let VifRows { vifs } = self;
+        vifs
+    }
+}
+
+impl Rows for VifRows {
+    ghost use Rattle.std.specs.Prelude.{codes};
+    ghost use Rattle.std.specs.Ordering.{nat_cmp};
+    ghost use Rattle.std.specs.FinMap.{FinMap};
+    ghost use Rattle.mc_tables.specs.VifTable.{VifText, AreVifs};
+    ghost use Rattle.mc_tables.specs.VifsSoFar.{vif_step, vifs_of};
+
+    ghost Table = { FinMap nat_cmp VifText };
+
+    ghost header = { codes "Interface" };
+
+    ghost step = { vif_step };
+
+    ghost table = { vifs_of };
+
+    ghost stand = { AreVifs };
+
+    fn add_line(&mut self, ended: u32, line: &Line<'_>) -> Result<(), TableFaultKind> {
+        if ended == 0 {
+            return check_header(line, b"Interface");
+        }
+        let row = new_vif(self.vifs.as_slice(), line)?;
+        self.vifs.push(row)?;
+        Ok(())
+    }
+}

@@ -64,6 +64,15 @@ def tree_of(base, count, piece):
     return trees_of(base, "1", f"[{','.join([piece] * int(count))}]")
 
 
+def last_of(base, *counts):
+    """Version 2, whose flow names the last of so many trees, which has the entries of the base; the others are empty."""
+    entries = base.partition(b'"reached":')[2].partition(b',"source"')[0]
+    for count in map(int, counts):
+        flow = b'{"group":"239.1.2.3","source":"10.0.0.5","tree":%d}' % (count - 1)
+        trees = b",".join([b"[]"] * (count - 1) + [entries])
+        yield b'{"flows":[%b],"trees":[%b],"version":2}' % (flow, trees)
+
+
 def nested(_base, depth):
     """Lists in one another."""
     return [b"[" * int(depth) + b"]" * int(depth)]

@@ -87,11 +87,13 @@ def text_of(path):
 def runs_of(program):
     """Returns the words and the input of each run that is tried."""
     bundle, faulty, reports = map(text_of, ("examples/network.bundle", "examples/second-router.bundle", "examples/reports"))
+    made = text_of("examples/steps/pack-certified.stdout")  # its certificate is as `make` writes it
     folders = f"{TOP}/examples/network", f"{TOP}/examples/second-router"
     plain, other = (subprocess.run([program, "pack", it], stdout=subprocess.PIPE, check=True).stdout for it in folders)
     return [
         (["check"], bundle),
         (["check"], faulty),
+        (["check"], made),
         (["check"], bundle[:700]),
         (["make"], plain),
         (["make"], other),

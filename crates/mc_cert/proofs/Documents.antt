@@ -1,20 +1,17 @@
--- The JSON value that a certificate's text is, and what it stands for.
-use Rattle.std.proofs.Common.{◌≡◌, ℕ, zero, suc, ◌+◌, ◌^◌, ◌<◌, ◌≤◌, All, Bool, true, false, cond}
-use Rattle.std.proofs.Common.{List, [], ◌∷◌, ◌++◌, length, get_or, fold, map, codes, decimal}
-use Rattle.std.proofs.Common.{Option, Some, None, option_map, unwrap_or, IfSome, is_some, IsUtf8}
-use Rattle.std.proofs.Common.{refl, sym, ap, ap₂, subst, ◌∙◌, arith, append_assoc, lit<}
+-- The JSON value that a certificate's text is, and what its entries and trees stand for.
+use Rattle.std.proofs.Common.{◌≡◌, ℕ, zero, suc, ◌+◌, ◌^◌, ◌<◌, ◌≤◌, All, Bool, true, false}
+use Rattle.std.proofs.Common.{List, [], ◌∷◌, ◌++◌, length, map, codes, decimal, Option, Some}
+use Rattle.std.proofs.Common.{None, option_map, unwrap_or, IfSome, refl, sym, ap, ap₂}
+use Rattle.std.proofs.Common.{subst, ◌∙◌, arith, append_assoc, lit<}
 use Rattle.std.specs.Prelude.{slice_get}
 use Rattle.std.specs.List.{AllByRecursion, zip}
 use Rattle.std.proofs.lemmas.Fmt.{decimal_digit}
-use Rattle.std.proofs.lemmas.List.{length-map, length-append}
-use Rattle.std.proofs.lemmas.List.Quantifiers.{position-Some}
-use Rattle.std.proofs.lemmas.Option.{slice_get-get_or}
 use Rattle.json.specs.Print.{escape, escape_byte, quoted}
 use Rattle.json.proofs.Printed.Utf8.{IsUtf8-are_ascii}
 use Rattle.serde_json.specs.Data.{Data, unsigned, number, string, array, object, Items, Members}
 use Rattle.serde_json.specs.Data.{no_members, member}
 use Rattle.serde_json.specs.Find.{get_member}
-use Rattle.serde_json.specs.Read.{read, of_items, of_members}
+use Rattle.serde_json.specs.Read.{of_items, of_members}
 use Rattle.serde_json.specs.Written.{items_outline, members_outline, compact_text, items_text}
 use Rattle.serde_json.specs.Written.{members_text, comma_if}
 use Rattle.serde_json.proofs.Numbers.{number_of-decimal}
@@ -25,51 +22,47 @@ use Rattle.mc_topology.specs.declared.flow.Flow.{Flow}
 use Rattle.mc_topology.specs.Rows.{RouterRow}
 use Rattle.mc_topology.specs.Topology.{TopologyValue, IsTopology}
 use Rattle.mc_topology.proofs.NameLemmas.{number_of_lan, number_of_router}
-use Rattle.mc_cert.specs.declared.version.Version.TheVariants.{Two}
-use Rattle.mc_cert.specs.Certificate.{Tree, IsListed, IsList, IsOfBytes, IsEntryOf, BelongsTo}
+use Rattle.mc_cert.specs.Certificate.{Tree}
 use Rattle.mc_cert.specs.CertificateText.{lan_name, router_name, listed_after, listed}
 use Rattle.mc_cert.specs.CertificateText.{forwarder_text, entry_text, tree_text, flow_text}
-use Rattle.mc_cert.specs.CertificateText.{flow_texts, text_of, certificate_text}
-use Rattle.mc_cert.specs.Distinct.{same_tree, place_in, with_tree, distinct_trees, place_of}
+use Rattle.mc_cert.specs.CertificateText.{flow_texts, text_of}
 use Rattle.mc_cert.specs.Entries.{entry_keys}
 use Rattle.mc_cert.specs.Object.{has_only, rows_in}
-use Rattle.mc_cert.specs.Stands.{EachStands, IsForwarder, IsEntry, IsTree, IsSharedFlow}
-use Rattle.mc_cert.specs.Stands.{CertificateStands}
+use Rattle.mc_cert.specs.Stands.{EachStands, IsForwarder, IsEntry, IsTree}
+use Rattle.mc_cert.specs.Writable.{IsWritable, IsWritableTree}
 use Rattle.mc_cert.proofs.JsonValues.{IsPlain, escape_plain, name_plain, dotted_plain, IsGood}
 use Rattle.mc_cert.proofs.JsonValues.{good_string, good_number, good_array, items_from, good_items}
-use Rattle.mc_cert.proofs.JsonValues.{HasGood, good_none, good_member, good_object, good_reads}
-use Rattle.mc_cert.proofs.PlaceLemmas.{tree_decides, with_known, with_new, place_of_new}
-use Rattle.mc_cert.proofs.PlaceLemmas.{place_stays, distinct_belong}
+use Rattle.mc_cert.proofs.JsonValues.{HasGood, good_none, good_member, good_object}
 
 -- ---- the value
 
-abbrev forwarder_members : TopologyValue → Option Interface → Members
+abbrev pub forwarder_members : TopologyValue → Option Interface → Members
 forwarder_members t None = no_members
 forwarder_members t (Some i) = member (codes "router") (string (router_name t i.0))
     (member (codes "vif") (number (unsigned i.1)) no_members)
 
-abbrev entry_members : TopologyValue → Entry → Members
+abbrev pub entry_members : TopologyValue → Entry → Members
 entry_members t e =
     member (codes "lan") (string (lan_name t e.lan))
     (member (codes "need") (number (unsigned e.need))
     (member (codes "rank") (number (unsigned e.rank)) (forwarder_members t e.forwarder)))
 
-abbrev entry_data : TopologyValue → Entry → Data
+abbrev pub entry_data : TopologyValue → Entry → Data
 entry_data t e = object (entry_members t e)
 
-abbrev tree_data : TopologyValue → Tree → Data
+abbrev pub tree_data : TopologyValue → Tree → Data
 tree_data t es = array (items_from (entry_data t) es)
 
-abbrev flow_members : Flow × ℕ → Members
+abbrev pub flow_members : Flow × ℕ → Members
 flow_members p =
     member (codes "group") (string (dotted p.0.group))
     (member (codes "source") (string (dotted p.0.source))
     (member (codes "tree") (number (unsigned p.1)) no_members))
 
-abbrev flow_data : Flow × ℕ → Data
+abbrev pub flow_data : Flow × ℕ → Data
 flow_data p = object (flow_members p)
 
-abbrev document : TopologyValue → List ℕ → List Tree → Members
+abbrev pub document : TopologyValue → List ℕ → List Tree → Members
 document t places trees =
     member (codes "flows") (array (items_from flow_data (zip t.flows places)))
     (member (codes "trees") (array (items_from (tree_data t) trees))
@@ -192,39 +185,46 @@ document_spelled flows trees flow_items tree_items e f =
 -- ---- elements one by one
 
 module _ {A : Type 0} (P : A → Type 0) where
-  each_of : (xs : List A) → All P xs → AllByRecursion P xs
+  -- what holds of the element with each number holds of one after the other
+  pub each_of : (xs : List A) → All P xs → AllByRecursion P xs
   each_of [] all = tt
   each_of (x ∷ xs) all =
       (all zero x (omega arith), each_of xs (λ k d lt. all (suc k) d (omega (arith, lt))))
 
+  -- what holds of all holds of each
   each_always : ((x : A) → P x) → (xs : List A) → AllByRecursion P xs
   each_always holds [] = tt
   each_always holds (x ∷ xs) = (holds x, each_always holds xs)
 
-  each_follows : (Q : A → Type 0) → ((x : A) → P x → Q x) → (xs : List A) → AllByRecursion P xs
+  -- what follows from it holds of each as well
+  pub each_follows : (Q : A → Type 0) → ((x : A) → P x → Q x) → (xs : List A) → AllByRecursion P xs
       → AllByRecursion Q xs
   each_follows Q follows [] all = tt
   each_follows Q follows (x ∷ xs) (here, all) = (follows x here, each_follows Q follows xs all)
 
-each_map : {A B : Type 0} (P : B → Type 0) (f : A → B) (xs : List A)
+-- what holds of each element's image holds of each of the images
+pub each_map : {A B : Type 0} (P : B → Type 0) (f : A → B) (xs : List A)
     → AllByRecursion (λ x. P (f x)) xs → AllByRecursion P (map f xs)
 each_map P f [] all = tt
 each_map P f (x ∷ xs) (here, all) = (here, each_map P f xs all)
 
+-- what holds of each second one holds of the second of each pair
 each_second : {A B : Type 0} (P : B → Type 0) (xs : List A) (ys : List B) → AllByRecursion P ys
     → AllByRecursion (λ (p : A × B). P p.1) (zip xs ys)
 each_second P [] ys all = tt
 each_second P (x ∷ xs) [] all = tt
 each_second P (x ∷ xs) (y ∷ ys) (here, all) = (here, each_second P xs ys all)
 
-zip_length : {A B : Type 0} (xs : List A) (ys : List B) → length ys ≡ length xs
+-- as many pairs as there are of each
+pub zip_length : {A B : Type 0} (xs : List A) (ys : List B) → length ys ≡ length xs
     → length (zip xs ys) ≡ length xs
 zip_length [] ys e = refl
 zip_length (x ∷ xs) [] e = absurd (omega (arith, e))
 zip_length (x ∷ xs) (y ∷ ys) e = let rest = zip_length xs ys (omega (arith, e)) in omega
     (arith, rest)
 
-rows_length : {A : Type 0} (f : A → Data) (xs : List A)
+-- a list has a row for each of what it is made of
+pub rows_length : {A : Type 0} (f : A → Data) (xs : List A)
     → length (rows_in (items_from f xs)) ≡ length xs
 rows_length f [] = refl
 rows_length f (x ∷ xs) = ap suc (rows_length f xs)
@@ -261,13 +261,6 @@ router_plain t n rules lt =
     (name_plain r.name (rules.routers_named n r at))
 
 -- ---- entries
-
--- an entry that a text can name
-record IsWritten (t : TopologyValue) (e : Entry) : Type 0 where
-  pub listed : IsListed e
-  pub among : IsEntryOf t e
-  pub need : e.need ≤ 255
-  pub rank : e.rank ≤ 255
 
 abbrev IsKnown : TopologyValue → Interface → Type 0
 IsKnown t i = (i.0 < length t.routers) × (i.1 ≤ 31)
@@ -338,12 +331,13 @@ forwarder_stands t rules name need rank (Some i) is =
       },
     )
 
-good_entry : (t : TopologyValue) (e : Entry) → IsTopology t → IsWritten t e
+-- the value of an entry is one that is read again
+good_entry : (t : TopologyValue) (e : Entry) → IsTopology t → IsWritable t e
     → IsGood 1 (entry_data t e)
 good_entry t e rules is =
     let forwarder = known t e.forwarder is.among.router is.listed.vif in
-    let need_small : e.need < 2 ^ 64 = omega (arith, is.need) in
-    let rank_small : e.rank < 2 ^ 64 = omega (arith, is.rank) in
+    let need_small : e.need < 2 ^ 64 = omega (arith, is.bytes.need) in
+    let rank_small : e.rank < 2 ^ 64 = omega (arith, is.bytes.rank) in
     good_object 0 (entry_members t e) (fields_read t (lan_name t e.lan) e.need e.rank e.forwarder
     need_small rank_small forwarder)
     (good_member 0 (codes "lan") _ _ (IsUtf8-are_ascii _ refl)
@@ -352,13 +346,15 @@ good_entry t e rules is =
     (good_member 0 (codes "rank") _ _ (IsUtf8-are_ascii _ refl) (good_number 0 e.rank rank_small)
     (good_forwarder t rules e.forwarder forwarder))))
 
-written_entry : (t : TopologyValue) (e : Entry) → IsTopology t → IsWritten t e
+-- its text is an entry's
+written_entry : (t : TopologyValue) (e : Entry) → IsTopology t → IsWritable t e
     → entry_text t e ≡ compact_text (entry_data t e)
 written_entry t e rules is =
     entry_spelled t e (escape_plain (lan_name t e.lan) (lan_plain t e.lan rules is.among.lan))
     (plain_forwarder t rules e.forwarder (known t e.forwarder is.among.router is.listed.vif))
 
-entry_stands : (t : TopologyValue) (e : Entry) → IsTopology t → IsWritten t e
+-- it stands for the entry
+entry_stands : (t : TopologyValue) (e : Entry) → IsTopology t → IsWritable t e
     → IsEntry t (entry_data t e) e
 entry_stands t e rules is =
     record {
@@ -374,9 +370,9 @@ entry_stands t e rules is =
           (known_at t.lans e.lan is.among.lan);
       need = refl;
       need_from = is.listed.need;
-      need_to = is.need;
+      need_to = is.bytes.need;
       rank = refl;
-      rank_to = is.rank;
+      rank_to = is.bytes.rank;
       forwarder = forwarder_stands t rules (lan_name t e.lan) e.need e.rank e.forwarder
           (known t e.forwarder is.among.router is.listed.vif);
     }
@@ -384,31 +380,31 @@ entry_stands t e rules is =
 -- ---- trees
 
 module _ {X : Type 0} (Stands : ℕ → Data → X → Type 0) (f : X → Data) where
-  each_stands : (n : ℕ) (xs : List X) → AllByRecursion (λ x. (m : ℕ) → Stands m (f x) x) xs
+  -- rows that each stand for what they are made of, whatever their numbers
+  pub each_stands : (n : ℕ) (xs : List X) → AllByRecursion (λ x. (m : ℕ) → Stands m (f x) x) xs
       → EachStands Stands n (rows_in (items_from f xs)) xs
   each_stands n [] all = tt
   each_stands n (x ∷ xs) (here, all) = (here n, each_stands (n + 1) xs all)
 
-record IsWrittenTree (t : TopologyValue) (es : Tree) : Type 0 where
-  pub few : length es ≤ 1024
-  pub each : AllByRecursion (IsWritten t) es
-
-good_tree : (t : TopologyValue) (es : Tree) → IsTopology t → IsWrittenTree t es
+-- the value of a tree is one that is read again
+good_tree : (t : TopologyValue) (es : Tree) → IsTopology t → IsWritableTree t es
     → IsGood 2 (tree_data t es)
 good_tree t es rules is =
     good_array 1 _ (good_items (entry_data t) 1 es
-    (each_follows (IsWritten t) (λ e. IsGood 1 (entry_data t e))
-    (λ e written. good_entry t e rules written) es is.each))
+    (each_follows (IsWritable t) (λ e. IsGood 1 (entry_data t e))
+    (λ e written. good_entry t e rules written) es (each_of (IsWritable t) es is.each)))
 
-written_tree : (t : TopologyValue) (es : Tree) → IsTopology t → IsWrittenTree t es
+-- its text is a tree's
+written_tree : (t : TopologyValue) (es : Tree) → IsTopology t → IsWritableTree t es
     → tree_text t es ≡ compact_text (tree_data t es)
 written_tree t es rules is =
     ap (λ s. 91 ∷ s)
     (list_spelled (entry_text t) (entry_data t) false es
-    (each_follows (IsWritten t) (λ e. entry_text t e ≡ compact_text (entry_data t e))
-    (λ e written. written_entry t e rules written) es is.each))
+    (each_follows (IsWritable t) (λ e. entry_text t e ≡ compact_text (entry_data t e))
+    (λ e written. written_entry t e rules written) es (each_of (IsWritable t) es is.each)))
 
-tree_stands : (t : TopologyValue) (es : Tree) → IsTopology t → IsWrittenTree t es
+-- it stands for the tree
+pub tree_stands : (t : TopologyValue) (es : Tree) → IsTopology t → IsWritableTree t es
     → IsTree t (tree_data t es) es
 tree_stands t es rules is =
     record {
@@ -417,62 +413,10 @@ tree_stands t es rules is =
       entries = record {
         few = let same = rows_length (entry_data t) es in omega (arith, same, is.few);
         each = each_stands (λ _. IsEntry t) (entry_data t) 0 es
-            (each_follows (IsWritten t) (λ e. (m : ℕ) → IsEntry t (entry_data t e) e)
-            (λ e written m. entry_stands t e rules written) es is.each);
+            (each_follows (IsWritable t) (λ e. (m : ℕ) → IsEntry t (entry_data t e) e)
+            (λ e written m. entry_stands t e rules written) es
+            (each_of (IsWritable t) es is.each));
       };
-    }
-
--- ---- the different trees
-
--- each flow's tree is one of them
-found_all : (trees flows : List Tree) → AllByRecursion
-    (λ es. (k : ℕ) × (place_in (fold with_tree trees flows) es ≡ Some k)) flows
-found_all trees [] = tt
-found_all trees (es ∷ flows) = (
-  first (place_in trees es) refl,
-  found_all (with_tree trees es) flows,
-) where
-  first : (o : Option ℕ) → place_in trees es ≡ o
-      → (k : ℕ) × (place_in (fold with_tree (with_tree trees es) flows) es ≡ Some k)
-  first (Some k) e = (
-    k,
-    place_stays (with_tree trees es) es k flows
-        (ap (λ (ts : List Tree). place_in ts es) (with_known trees es k e) ∙ e),
-  )
-  first None e = (
-    length trees,
-    place_stays (with_tree trees es) es (length trees) flows
-        (ap (λ (ts : List Tree). place_in ts es) (with_new trees es e) ∙ place_of_new trees es e),
-  )
-
-with_few : (b : Bool) (trees : List Tree) (es : Tree)
-    → length (cond b trees (trees ++ es ∷ [])) ≤ length trees + 1
-with_few true trees es = omega arith
-with_few false trees es = omega (arith, length-append trees (es ∷ []))
-
-distinct_few : (trees flows : List Tree) → length (fold with_tree trees flows) ≤ length trees +
-    length flows
-distinct_few trees [] = omega arith
-distinct_few trees (es ∷ flows) = omega (
-  arith,
-  with_few (is_some (place_in trees es)) trees es,
-  distinct_few (with_tree trees es) flows,
-)
-
--- a tree stands at its place
-record IsPlaced (trees : List Tree) (es : Tree) : Type 0 where
-  within : place_of trees es < length trees
-  there : slice_get trees (place_of trees es) ≡ Some es
-
-placed : (trees : List Tree) (es : Tree) → (k : ℕ) × (place_in trees es ≡ Some k)
-    → IsPlaced trees es
-placed trees es (k, e) =
-    let at = position-Some (same_tree es) trees k es e in
-    let place : place_of trees es ≡ k = ap (λ o. unwrap_or o 0) e in
-    let same : es ≡ get_or trees k es = (tree_decides es (get_or trees k es)).0 at.1 in
-    record {
-      within = omega (arith, place, at.0);
-      there = ap (slice_get trees) place ∙ slice_get-get_or trees k es at.0 ∙ ap Some (sym same);
     }
 
 -- ---- flows
@@ -486,41 +430,6 @@ good_flow p small =
     (good_string 1 (dotted p.0.source) (dotted_plain p.0.source))
     (good_member 1 (codes "tree") _ no_members (IsUtf8-are_ascii _ refl) (good_number 1 p.1 small)
     (good_none 1))))
-
-flow_stands : (t : TopologyValue) (trees : List Tree) (n : ℕ) (f : Flow) (es : Tree)
-    → slice_get t.flows n ≡ Some f → IsPlaced trees es
-    → IsSharedFlow t trees n (flow_data (f, place_of trees es)) es
-flow_stands t trees n f es listed is =
-    record {
-      flow = f;
-      members = flow_members (f, place_of trees es);
-      number = place_of trees es;
-      listed = listed;
-      is_object = record { members = refl; keys = refl };
-      group = refl;
-      source = refl;
-      tree_number = refl;
-      tree = is.there;
-    }
-
-flows_stand : (t : TopologyValue) (trees : List Tree) (n : ℕ) (fs : List Flow) (flows : List Tree)
-    → ((k : ℕ) (f : Flow) → slice_get fs k ≡ Some f → slice_get t.flows (n + k) ≡ Some f)
-    → length flows ≡ length fs → AllByRecursion (IsPlaced trees) flows
-    → EachStands (IsSharedFlow t trees) n
-    (rows_in (items_from flow_data (zip fs (map (place_of trees) flows)))) flows
-flows_stand t trees n [] [] listed count all = tt
-flows_stand t trees n [] (es ∷ flows) listed count all = absurd (omega (arith, count))
-flows_stand t trees n (f ∷ fs) [] listed count all = absurd (omega (arith, count))
-flows_stand t trees n (f ∷ fs) (es ∷ flows) listed count (here, all) =
-    let now : n + 0 ≡ n = omega arith in (
-      flow_stands t trees n f es (subst (λ (k : ℕ). slice_get t.flows k ≡ Some f) now
-          (listed zero f refl)) here,
-      flows_stand t trees (n + 1) fs flows
-          (λ k g at. let next : n + suc k ≡ (n + 1) + k =
-          omega arith in subst (λ (m : ℕ). slice_get t.flows m ≡ Some g) next
-          (listed (suc k) g at))
-          (omega (arith, count)) all,
-    )
 
 -- ---- the text as a whole
 
@@ -543,8 +452,9 @@ document_read : (flows trees : Items) (n : ℕ) → of_items (items_outline flow
     (number (unsigned n)) no_members)))
 document_read flows trees n e f small = rw (e, f, number_of-decimal n small) refl
 
-good_document : (t : TopologyValue) (places : List ℕ) (trees : List Tree) → IsTopology t
-    → AllByRecursion (λ n. n < 2 ^ 64) places → AllByRecursion (IsWrittenTree t) trees
+-- the whole value is one that is read again
+pub good_document : (t : TopologyValue) (places : List ℕ) (trees : List Tree) → IsTopology t
+    → AllByRecursion (λ n. n < 2 ^ 64) places → AllByRecursion (IsWritableTree t) trees
     → IsGood 127 (object (document t places trees))
 good_document t places trees rules small written =
     let flows_good =
@@ -552,7 +462,7 @@ good_document t places trees rules small written =
     (each_follows (λ (p : Flow × ℕ). p.1 < 2 ^ 64) (λ (p : Flow × ℕ). IsGood 2 (flow_data p))
     good_flow (zip t.flows places) (each_second (λ n. n < 2 ^ 64) t.flows places small)) in
     let trees_good = good_items (tree_data t) 2 trees
-    (each_follows (IsWrittenTree t) (λ es. IsGood 2 (tree_data t es))
+    (each_follows (IsWritableTree t) (λ es. IsGood 2 (tree_data t es))
     (λ es is. good_tree t es rules is) trees written) in
     no_deeper 4 127 _ (omega arith)
     (good_object 3 (document t places trees) (document_read _ _ 2 flows_good.reads trees_good.reads
@@ -562,8 +472,9 @@ good_document t places trees rules small written =
     (good_member 3 (codes "version") _ no_members (IsUtf8-are_ascii _ refl)
     (good_number 3 2 (omega arith)) (good_none 3)))))
 
-written_document : (t : TopologyValue) (places : List ℕ) (trees : List Tree) → IsTopology t
-    → AllByRecursion (IsWrittenTree t) trees → text_of t places trees
+-- its text is that of the numbers and the trees
+pub written_document : (t : TopologyValue) (places : List ℕ) (trees : List Tree) → IsTopology t
+    → AllByRecursion (IsWritableTree t) trees → text_of t places trees
     ≡ compact_text (object (document t places trees))
 unfolding escape_byte
 written_document t places trees rules written =
@@ -572,106 +483,5 @@ written_document t places trees rules written =
     (each_always (λ p. flow_text p.0 p.1 ≡ compact_text (flow_data p)) flow_spelled
     (zip t.flows places)))
     (list_spelled (tree_text t) (tree_data t) false trees
-    (each_follows (IsWrittenTree t) (λ es. tree_text t es ≡ compact_text (tree_data t es))
+    (each_follows (IsWritableTree t) (λ es. tree_text t es ≡ compact_text (tree_data t es))
     (λ es is. written_tree t es rules is) trees written))
-
--- what is written stands for the certificate
-written_stands : (t : TopologyValue) (flows : List Tree) → IsTopology t
-    → length flows ≡ length t.flows → All (IsWrittenTree t) (distinct_trees flows)
-    → length (certificate_text t flows) ≤ 16777216
-    → CertificateStands t (certificate_text t flows) flows
-written_stands t flows rules count all few =
-    let trees = distinct_trees flows in
-    let places = map (place_of trees) flows in
-    let written : AllByRecursion (IsWrittenTree t) trees = each_of (IsWrittenTree t) trees all in
-    let few_trees : length trees ≤ 4096 = omega (
-      arith,
-      distinct_few [] flows,
-      count,
-      rules.few_flows,
-    ) in
-    let at : AllByRecursion (IsPlaced trees) flows =
-    each_follows (λ es. (k : ℕ) × (place_in trees es ≡ Some k)) (IsPlaced trees)
-    (placed trees) flows (found_all [] flows) in
-    let small : AllByRecursion (λ n. n < 2 ^ 64) places =
-    each_map (λ n. n < 2 ^ 64) (place_of trees) flows
-    (each_follows (IsPlaced trees) (λ es. place_of trees es < 2 ^ 64)
-    (λ es is. omega (arith, is.within, few_trees)) flows at) in
-    let good = good_document t places trees rules small written in
-    let text = written_document t places trees rules written in
-    let flow_count = rows_length flow_data (zip t.flows places) in
-    let zipped = zip_length t.flows places
-    (omega (arith, length-map flows (place_of trees), count)) in
-    let tree_count = rows_length (tree_data t) trees in
-    record {
-      document = document t places trees;
-      version = Two;
-      few = few;
-      utf8 = subst (λ (s : List ℕ). IsUtf8 s) (sym text) good.utf8;
-      reads = ap read text ∙ good_reads (object (document t places trees)) good;
-      version_number = refl;
-      keys = refl;
-      stands = record {
-        rows = rows_in (items_from flow_data (zip t.flows places));
-        tree_rows = rows_in (items_from (tree_data t) trees);
-        trees = trees;
-        list = (
-          array (items_from flow_data (zip t.flows places)),
-          refl,
-          (items_from flow_data (zip t.flows places), refl, refl),
-        );
-        count = omega (arith, flow_count, zipped);
-        tree_list = (
-          array (items_from (tree_data t) trees),
-          refl,
-          (items_from (tree_data t) trees, refl, refl),
-        );
-        few_trees = omega (arith, tree_count, few_trees);
-        each_tree = each_stands (λ _. IsTree t) (tree_data t) 0 trees
-            (each_follows (IsWrittenTree t) (λ es. (m : ℕ) → IsTree t (tree_data t es) es)
-            (λ es is m. tree_stands t es rules is) trees written);
-        each = flows_stand t trees 0 t.flows flows
-            (λ k f here. let same : k ≡ 0 + k = omega arith in subst
-            (λ (m : ℕ). slice_get t.flows m ≡ Some f) same here) count at;
-      };
-    }
-
-written_tree_is : (t : TopologyValue) (es : Tree) → IsList es → All IsOfBytes es
-    → All (IsEntryOf t) es → IsWrittenTree t es
-written_tree_is t es list bytes among =
-    record {
-      few = list.few;
-      each = each_of (IsWritten t) es
-          (λ k d lt. record {
-            listed = list.each k d lt;
-            among = among k d lt;
-            need =
-                (bytes k d lt).need;
-            rank = (bytes k d lt).rank;
-          });
-    }
-
--- the same by the different trees
-pub text_stands : (t : TopologyValue) (flows trees : List Tree) (text : List ℕ) → IsTopology t
-    → BelongsTo t flows → trees ≡ distinct_trees flows → All IsList trees
-    → All (All IsOfBytes) trees
-    → text ≡ certificate_text t flows → length text ≤ 16777216 → CertificateStands t text flows
-text_stands t flows trees text rules belongs made lists bytes is few =
-    let among : All (All (IsEntryOf t)) trees = distinct_belong
-    (All (IsEntryOf t)) flows flows trees refl belongs.entries made in
-    let written : All (IsWrittenTree t) trees = λ k d lt. written_tree_is t (get_or trees k d)
-    (lists k d lt) (bytes k d lt) (among k d lt) in
-    let short : length (certificate_text t flows) ≤ 16777216 =
-    subst (λ (s : List ℕ). length s ≤ 16777216) is few in
-    subst (λ (s : List ℕ). CertificateStands t s flows) (sym is)
-    (written_stands t flows rules belongs.count
-    (subst (λ (ts : List Tree). All (IsWrittenTree t) ts) made written) short)
-
-pub texts_stand : (t : TopologyValue) (flows : List Tree) → IsTopology t → BelongsTo t flows
-    → All IsList flows → All (All IsOfBytes) flows → length (certificate_text t flows) ≤ 16777216
-    → CertificateStands t (certificate_text t flows) flows
-texts_stand t flows rules belongs lists bytes few =
-    let trees = distinct_trees flows in
-    text_stands t flows trees (certificate_text t flows) rules belongs refl
-    (distinct_belong IsList flows flows trees refl lists refl)
-    (distinct_belong (All IsOfBytes) flows flows trees refl bytes refl) refl few

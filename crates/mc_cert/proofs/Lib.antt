@@ -4,10 +4,15 @@ pub mod Each
 pub mod Fields
 pub mod JsonValues
 pub mod Kept
+pub mod LineFeed
 pub mod ListLemmas
 pub mod Objects
 pub mod Parts
+pub mod PieceLemmas
 pub mod PlaceLemmas
 pub mod ReadLemmas
+pub mod SeparatorLemmas
 pub mod TextLemmas
+pub mod TreesStand
 pub mod Whole
+pub mod WrittenCertificates

@@ -67,7 +67,8 @@ lists_with trees es (n ∷ places) named =
     ap₂ (λ t ts. t ∷ ts) (tree_with trees es n (named zero n (omega arith)))
     (lists_with trees es places (λ k d lt. named (suc k) d (omega (arith, lt))))
 
-few_from : (trees flows : List Tree)
+-- there are no more different trees than flows
+pub few_from : (trees flows : List Tree)
     → length (fold with_tree trees flows) ≤ length trees + length flows
 few_from trees [] = omega arith
 few_from trees (f ∷ flows) = omega (arith, few_from (with_tree trees f) flows, with_one trees f)

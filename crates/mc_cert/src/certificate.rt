@@ -4,6 +4,7 @@ ghost use Rattle.std.specs.Prelude.{◌≡◌, ◌<◌, ◌≤◌, All, length, 
 ghost use Rattle.std.specs.Prelude.{option_map, string_bytes};
 ghost use Rattle.mc_cert.specs.Certificate.{IsList, flows_of, tree_at};
 
+use crate::compact::compact_certificate;
 use crate::distinct::{Distinct, distinct_trees};
 use crate::fault::CertFault;
 use crate::reached::{FlowCert, Reached};
@@ -56,6 +57,10 @@ impl Certificate {
         // Which fault it is.
         ensures fault { Gives (λ c. c) result (reading_of topology.now text.now) }
     {
+        // What `to_json` writes is read with no tree of values, and every other text with one.
+        if let Ok(certificate) = compact_certificate(alloc, topology, text) {
+            return Ok(certificate);
+        }
         reading_of(alloc, topology, text)
     }
 

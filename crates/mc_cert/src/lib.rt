@@ -3,12 +3,14 @@
 #![tactic(auto)]
 
 mod certificate;
+mod compact;
 mod distinct;
 mod entry;
 mod fault;
 mod laws;
 mod lists;
 mod object;
+mod pieces;
 mod reached;
 mod read;
 mod version;

@@ -26,7 +26,8 @@ use Rattle.mc_cert.specs.Certificate.{Tree, IsOfBytes}
 use Rattle.mc_cert.specs.CertificateText.{certificate_text}
 use Rattle.mc_cert.specs.Reading.{reading_of}
 use Rattle.mc_cert.specs.Stands.{CertificateStands}
-use Rattle.mc_cert.proofs.Documents.{texts_stand}
+use Rattle.mc_cert.proofs.WrittenCertificates.{texts_stand}
+use Rattle.mc_cert.proofs.LineFeed.{read_fed}
 use Rattle.mc_cert.proofs.ReadLemmas.{one_certificate}
 use Rattle.mc_cert.proofs.Whole.{reading_again}
 use Rattle.mc_check.specs.Reasons.{reason_value}
@@ -42,7 +43,6 @@ use Rattle.mc_run.specs.CheckRun.{IsVerdictText}
 use Rattle.mc_run.specs.MakeRun.{AreExamined, IsMadeText, are_certified, lists_of}
 use Rattle.mc_run.specs.MakeRun.{with_certificate}
 use Rattle.mc_run.specs.VerdictText.{AreVerdicts, IsVerdict, are_yes, check_text}
-use Rattle.mc_run.proofs.LineFeed.{read_fed}
 use Rattle.mc_run.proofs.OneDomain.{one_of_bundle, some_is}
 use Rattle.mc_run.proofs.MakeLemmas.{at as at_place, each_list, lists_belong, lists_kept, within}
 

@@ -4,7 +4,6 @@ pub mod AuditLines
 pub mod BundleFront
 pub mod CertifiedLemmas
 pub mod CheckLemmas
-pub mod LineFeed
 pub mod MakeLemmas
 pub mod OneDomain
 pub mod PackingLemmas

@@ -2,7 +2,7 @@ use Rattle.std.proofs.Common.{◌≡◌, rules, ◌∙◌, All, string_bytes, su
 use Rattle.mc_cert.specs.Certificate.{IsEntryOf, tree_at, flows_of}
 use Rattle.mc_cert.specs.Distinct.{distinct_trees}
 use Rattle.mc_cert.specs.Certificate.{IsList}
-use Rattle.mc_cert.proofs.Documents.{text_stands}
+use Rattle.mc_cert.proofs.WrittenCertificates.{text_stands}
 use Rattle.mc_cert.proofs.Kept.{all_listed}
 use Rattle.mc_cert.proofs.PlaceLemmas.{distinct_belong}
 use Rattle.mc_cert.proofs.certificate.Certificate.to_json.Goals as goal

@@ -1,0 +1,95 @@
+-- A text that is read from the front, piece by piece.
+use Rattle.std.proofs.Common.{◌≡◌, ℕ, ◌+◌, ◌*◌, ◌/◌, ◌%◌, ◌^◌, ◌<◌, List, [], ◌∷◌, ◌++◌, map}
+use Rattle.std.proofs.Common.{codes, decimal, Option, Some, sym, ap, ap₂, ◌∙◌, arith, append_assoc}
+use Rattle.std.specs.Prelude.{unwrap_or}
+use Rattle.std.proofs.lemmas.Fmt.{decimal_digit, decimal_step}
+use Rattle.mc_text.specs.Addr.{dotted}
+use Rattle.mc_topology.specs.declared.flow.Flow.{Flow}
+use Rattle.mc_topology.specs.Names.{index_of}
+use Rattle.mc_topology.specs.Routers.{router_no_of}
+use Rattle.mc_topology.specs.Topology.{TopologyValue}
+use Rattle.mc_topology.proofs.NameLemmas.{name_of_lan, name_of_router}
+use Rattle.mc_cert.specs.Certificate.{Tree}
+use Rattle.mc_cert.specs.CertificateText.{lan_name, router_name, listed, flow_text, flow_texts}
+use Rattle.mc_cert.specs.CertificateText.{tree_text, text_of}
+
+-- ---- numbers
+
+-- a number of one digit
+pub one_digit : (d : ℕ) (s rest : List ℕ) → d < 10 → s ≡ (48 + d) ∷ rest → s ≡ decimal d ++ rest
+one_digit d s rest small e = e ∙ ap (λ x. x ++ rest) (sym (decimal_digit d small))
+
+-- one digit more
+pub one_digit_more : (n d : ℕ) (s rest : List ℕ) → 0 < n → n < 10 ^ 8 → d < 10
+    → s ≡ (48 + d) ∷ rest → decimal (n * 10 + d) ++ rest ≡ decimal n ++ s
+one_digit_more n d s rest some small digit e =
+    let m : ℕ = n * 10 + d in
+    let front : m / 10 ≡ n = omega arith in
+    let last : m % 10 ≡ d = omega arith in
+    ap (λ x. x ++ rest) (decimal_step m (omega arith) (omega arith)
+    ∙ ap₂ (λ x y. decimal x ++ ((48 + y) ∷ [])) front last)
+    ∙ append_assoc (decimal n) ((48 + d) ∷ []) rest ∙ ap (λ x. decimal n ++ x) (sym e)
+
+-- ---- names
+
+-- a name that is found in the list of LANs is that of the LAN with the number
+pub lan_read : (t : TopologyValue) (lan : ℕ) (s name rest : List ℕ) → s ≡ name ++ rest
+    → index_of name t.lans ≡ Some lan → s ≡ lan_name t lan ++ rest
+lan_read t lan s name rest e is =
+    e ∙ ap (λ (o : Option (List ℕ)). unwrap_or o [] ++ rest) (sym (name_of_lan t.lans lan name is))
+
+-- and so for a router
+pub router_read : (t : TopologyValue) (router : ℕ) (s name rest : List ℕ) → s ≡ name ++ rest
+    → router_no_of name t.routers ≡ Some router → s ≡ router_name t router ++ rest
+router_read t router s name rest e is =
+    e ∙ ap (λ (o : Option (List ℕ)). unwrap_or o [] ++ rest)
+    (sym (name_of_router t.routers router name is))
+
+-- ---- one piece behind another
+
+-- one piece more behind those that are read
+then : {s u : List ℕ} (a b v : List ℕ) → s ≡ a ++ u → u ≡ b ++ v → s ≡ (a ++ b) ++ v
+then a b v e f = e ∙ ap (λ x. a ++ x) f ∙ sym (append_assoc a b v)
+
+-- three pieces, each behind the one before
+three : (s x1 x2 x3 r1 r2 r3 : List ℕ)
+    → s ≡ x1 ++ r1 → r1 ≡ x2 ++ r2 → r2 ≡ x3 ++ r3
+    → s ≡ ((x1 ++ x2) ++ x3) ++ r3
+three s x1 x2 x3 r1 r2 r3 p1 p2 p3 =
+    then (x1 ++ x2) x3 r3 (then x1 x2 r2 p1 p2) p3
+
+-- five pieces
+five : (s x1 x2 x3 x4 x5 r1 r2 r3 r4 r5 : List ℕ)
+    → s ≡ x1 ++ r1 → r1 ≡ x2 ++ r2 → r2 ≡ x3 ++ r3 → r3 ≡ x4 ++ r4 → r4 ≡ x5 ++ r5
+    → s ≡ ((((x1 ++ x2) ++ x3) ++ x4) ++ x5) ++ r5
+five s x1 x2 x3 x4 x5 r1 r2 r3 r4 r5 p1 p2 p3 p4 p5 =
+    then (x1 ++ x2 ++ x3 ++ x4) x5 r5 (then (x1 ++ x2 ++ x3) x4 r4
+    (three s x1 x2 x3 r1 r2 r3 p1 p2 p3) p4) p5
+
+-- seven pieces
+seven : (s x1 x2 x3 x4 x5 x6 x7 r1 r2 r3 r4 r5 r6 r7 : List ℕ)
+    → s ≡ x1 ++ r1 → r1 ≡ x2 ++ r2 → r2 ≡ x3 ++ r3 → r3 ≡ x4 ++ r4 → r4 ≡ x5 ++ r5
+    → r5 ≡ x6 ++ r6 → r6 ≡ x7 ++ r7
+    → s ≡ ((((((x1 ++ x2) ++ x3) ++ x4) ++ x5) ++ x6) ++ x7) ++ r7
+seven s x1 x2 x3 x4 x5 x6 x7 r1 r2 r3 r4 r5 r6 r7 p1 p2 p3 p4 p5 p6 p7 =
+    then (x1 ++ x2 ++ x3 ++ x4 ++ x5 ++ x6) x7 r7 (then (x1 ++ x2 ++ x3 ++ x4 ++ x5) x6 r6
+    (five s x1 x2 x3 x4 x5 r1 r2 r3 r4 r5 p1 p2 p3 p4 p5) p6) p7
+
+-- the pieces of a flow
+pub flow_pieces : (f : Flow) (place : ℕ) (s a b c d e g h : List ℕ)
+    → s ≡ codes "{\"group\":\"" ++ a → a ≡ dotted f.group ++ b
+    → b ≡ codes "\",\"source\":\"" ++ c → c ≡ dotted f.source ++ d
+    → d ≡ codes "\",\"tree\":" ++ e → e ≡ decimal place ++ g → g ≡ codes "}" ++ h
+    → s ≡ flow_text f place ++ h
+flow_pieces f place s a b c d e g h p1 p2 p3 p4 p5 p6 p7 =
+    seven s (codes "{\"group\":\"") (dotted f.group) (codes "\",\"source\":\"") (dotted f.source)
+    (codes "\",\"tree\":") (decimal place) (codes "}") a b c d e g h p1 p2 p3 p4 p5 p6 p7
+
+-- the pieces of the whole text
+pub text_pieces : (t : TopologyValue) (places : List ℕ) (trees : List Tree) (s a b c d e : List ℕ)
+    → s ≡ codes "{\"flows\":[" ++ a → a ≡ listed (flow_texts t.flows places) ++ b
+    → b ≡ codes "],\"trees\":[" ++ c → c ≡ listed (map (tree_text t) trees) ++ d
+    → d ≡ codes "],\"version\":2}" ++ e → s ≡ text_of t places trees ++ e
+text_pieces t places trees s a b c d e p1 p2 p3 p4 p5 =
+    five s (codes "{\"flows\":[") (listed (flow_texts t.flows places)) (codes "],\"trees\":[")
+    (listed (map (tree_text t) trees)) (codes "],\"version\":2}") a b c d e p1 p2 p3 p4 p5

@@ -1,0 +1,123 @@
+-- Texts with commas between them, of which a loop reads one more.
+use Rattle.std.proofs.Common.{◌≡◌, ℕ, All, List, [], ◌∷◌, ◌++◌, length, map, codes, Some, refl, sym}
+use Rattle.std.proofs.Common.{ap, ap₂, subst, ◌∙◌, append_assoc, append-nil}
+use Rattle.std.specs.Prelude.{slice_get}
+use Rattle.std.specs.List.{zip}
+use Rattle.std.proofs.lemmas.List.{map_push}
+use Rattle.std.proofs.lemmas.List.Elements.{All-push}
+use Rattle.mc_topology.specs.declared.flow.Flow.{Flow}
+use Rattle.mc_cert.specs.CertificateText.{listed_after, listed, flow_text, flow_texts}
+
+-- ---- the separator
+
+-- what stands before one more item: this text before the first one, and a comma before each other
+abbrev separator_after : {A : Type 0} → List ℕ → List A → List ℕ
+separator_after first [] = first
+separator_after first (x ∷ xs) = codes ","
+
+-- what stands before one more item, with nothing before the first one
+abbrev pub separator_of : {A : Type 0} → List A → List ℕ
+separator_of [] = []
+separator_of (x ∷ xs) = codes ","
+
+-- behind an item a comma comes next
+separator_pushed : {A : Type 0} (xs : List A) (x : A) → separator_of (xs ++ x ∷ []) ≡ codes ","
+separator_pushed [] x = refl
+separator_pushed (y ∷ xs) x = refl
+
+-- where a comma stands before the first item, one stands before each
+comma_after : {A : Type 0} (xs : List A) → separator_after (codes ",") xs ≡ codes ","
+comma_after [] = refl
+comma_after (x ∷ xs) = refl
+
+-- the separator goes by whether there are items, and not by what their texts are
+separator_of-map : {A : Type 0} (f : A → List ℕ) (xs : List A)
+    → separator_after [] (map f xs) ≡ separator_of xs
+separator_of-map f [] = refl
+separator_of-map f (x ∷ xs) = refl
+
+-- ---- one item more
+
+-- the text of items and one more is theirs, the separator, and that of the one more
+listed_after-push : (first : List ℕ) (xs : List (List ℕ)) (x : List ℕ)
+    → listed_after first (xs ++ x ∷ []) ≡ listed_after first xs ++ (separator_after first xs ++ x)
+listed_after-push first [] x = append-nil (first ++ x)
+listed_after-push first (y ∷ ys) x =
+    ap (λ later. (first ++ y) ++ later) (listed_after-push (codes ",") ys x
+    ∙ ap (λ c. listed_after (codes ",") ys ++ (c ++ x)) (comma_after ys))
+    ∙ sym (append_assoc (first ++ y) (listed_after (codes ",") ys) (codes "," ++ x))
+
+module _ {A : Type 0} (f : A → List ℕ) where
+  -- one more item of a list is read
+  pub items_read : (s before after later separator : List ℕ) (xs new : List A) (x : A)
+      → new ≡ xs ++ x ∷ [] → s ≡ listed (map f xs) ++ before → before ≡ separator ++ after
+      → after ≡ f x ++ later → separator ≡ separator_of xs → s ≡ listed (map f new) ++ later
+  items_read s before after later separator xs new x made e cut piece is =
+      let all = listed (map f xs) in
+      e ∙ ap (λ r. all ++ r) (cut ∙ ap₂ (λ c r. c ++ r) is piece
+      ∙ sym (append_assoc (separator_of xs) (f x) later))
+      ∙ sym (append_assoc all (separator_of xs ++ f x) later)
+      ∙ ap (λ l. l ++ later)
+      (ap (λ c. all ++ (c ++ f x)) (sym (separator_of-map f xs))
+      ∙ sym (listed_after-push [] (map f xs) (f x))
+      ∙ ap listed (sym (map_push f xs x) ∙ ap (map f) (sym made)))
+
+-- a comma comes next
+pub comma_next : {A : Type 0} (xs new : List A) (x : A) → new ≡ xs ++ x ∷ []
+    → codes "," ≡ separator_of new
+comma_next {A} xs new x made =
+    sym (separator_pushed xs x) ∙ ap (λ (l : List A). separator_of l) (sym made)
+
+-- what holds of the items and of one more holds of all
+pub all_next : {A : Type 0} (P : A → Type 0) (xs new : List A) (x : A) → new ≡ xs ++ x ∷ []
+    → All P xs → P x → All P new
+all_next {A} P xs new x made all here =
+    subst (λ (l : List A). All P l) (sym made) (All-push P xs x all here)
+
+-- what is kept of the items and of one more
+pub map_next : {A B : Type 0} (g : A → B) (xs new : List A) (x : A) → new ≡ xs ++ x ∷ []
+    → map g new ≡ map g xs ++ g x ∷ []
+map_next g xs new x made = ap (map g) made ∙ map_push g xs x
+
+-- ---- flows, each with its place
+
+-- no item stands beside none
+zip-none : {A : Type 0} (B : Type 0) (xs : List A) → let none : List B = [] in zip xs none ≡ []
+zip-none B [] = refl
+zip-none B (x ∷ xs) = refl
+
+-- one more stands beside the item with its number
+zip-push : {A : Type 0} {B : Type 0} (xs : List A) (ys : List B) (x : A) (y : B)
+    → slice_get xs (length ys) ≡ Some x → zip xs (ys ++ y ∷ []) ≡ zip xs ys ++ (x, y) ∷ []
+zip-push [] ys x y e = absurd cc
+zip-push (z ∷ xs) [] x y e =
+    let same : z ≡ x = cc in
+    ap₂ (λ w l. (w, y) ∷ l) same (zip-none _ xs)
+zip-push (z ∷ xs) (w ∷ ys) x y e = ap (λ l. (z, w) ∷ l) (zip-push xs ys x y e)
+
+-- no flow is read, and nothing stands before the first one
+pub no_flow : (flows : List Flow) (s : List ℕ) → s ≡ listed (flow_texts flows []) ++ s
+no_flow [] s = refl
+no_flow (f ∷ flows) s = refl
+
+pub no_flow_separator : (flows : List Flow) → let none : List ℕ = [] in
+    [] ≡ separator_of (zip flows none)
+no_flow_separator [] = refl
+no_flow_separator (f ∷ flows) = refl
+
+-- one more flow is read, with its place, and a comma comes next
+pub flows_read : (s before after later separator : List ℕ) (flows : List Flow)
+    (places new : List ℕ) (f : Flow) (place n : ℕ) → n ≡ length places
+    → slice_get flows n ≡ Some f → new ≡ places ++ place ∷ []
+    → s ≡ listed (flow_texts flows places) ++ before → before ≡ separator ++ after
+    → after ≡ flow_text f place ++ later → separator ≡ separator_of (zip flows places)
+    → (s ≡ listed (flow_texts flows new) ++ later) × (codes "," ≡ separator_of (zip flows new))
+flows_read s before after later separator flows places new f place n long here made e cut piece is =
+    let there : slice_get flows (length places) ≡ Some f =
+    ap (slice_get flows) (sym long) ∙ here in
+    let grown : zip flows new ≡ zip flows places ++ (f, place) ∷ [] =
+    ap (λ (l : List ℕ). zip flows l) made ∙ zip-push flows places f place there in (
+      items_read (λ (p : Flow × ℕ). flow_text p.0 p.1) s before after later separator
+          (zip flows places) (zip flows new) (f, place) grown e cut piece is,
+      comma_next (zip flows places) (zip flows new) (f, place) grown,
+    )

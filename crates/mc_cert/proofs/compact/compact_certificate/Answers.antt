@@ -1,0 +1,31 @@
+use Rattle.std.proofs.Common.{◌≡◌, ◌<◌, ℕ, All, List, length, map, subst, refl, sym, arith}
+use Rattle.std.proofs.lemmas.List.{length-map}
+use Rattle.mc_cert.specs.Certificate.{Tree}
+use Rattle.mc_cert.specs.Stands.{CertificateStands}
+use Rattle.mc_cert.proofs.Documents.{each_of}
+use Rattle.mc_cert.proofs.PieceLemmas.{text_pieces}
+use Rattle.mc_cert.proofs.TreesStand.{end_of, trees_stand}
+use Rattle.mc_cert.proofs.compact.compact_certificate.Goals as goal
+
+pub returns : goal.returns
+returns c =
+    let places = c.in-Ok.places.items in
+    let trees = map (λ t. t.items) c.in-Ok-read_trees.trees.items in
+    let many : c.len.result ≡ length trees =
+    omega (arith, length-map c.in-Ok-read_trees.trees.items (λ t. t.items)) in
+    let named : All (λ n. n < length trees) places =
+    subst (λ (m : ℕ). All (λ n. n < m) places) many
+    (subst (λ (ns : List ℕ). All (λ n. n < c.len.result) ns) c.deref.ensures.value
+    (c.if-not-are_below.ensures refl)) in
+    subst (λ (flows : List Tree). CertificateStands c.args.topology.now c.args.text.now flows)
+    (sym c.from_trees.ensures)
+    (trees_stand c.args.topology.now places trees c.args.text.now c.in-Some-behind-2.rest.now
+    c.flows-rules.ensures.rules (omega (arith, c.in-Ok.ensures.count))
+    (each_of (λ n. n < length trees) places named)
+    (omega (arith, many, c.in-Ok-read_trees.ensures.few)) c.in-Ok-read_trees.ensures.writable
+    (omega (arith, c.if-text-gt-MAX_TEXT.false))
+    (text_pieces c.args.topology.now places trees c.args.text.now c.in-Some.rest.now
+    c.in-Ok.rest.now c.in-Some-behind.rest.now c.in-Ok-read_trees.rest.now
+    c.in-Some-behind-2.rest.now c.in-Some.ensures c.in-Ok.ensures.text c.in-Some-behind.ensures
+    c.in-Ok-read_trees.ensures.text c.in-Some-behind-2.ensures)
+    (end_of c.in-Some-behind-2.rest.now (c.if-not-is_end.ensures refl)))

@@ -1,0 +1,291 @@
+//! Reading a text in the form that `Certificate::to_json` gives it, in one pass and with no tree of
+//! JSON values. Every other text is left to the reader of JSON, which says what is wrong with it.
+
+ghost use Rattle.std.specs.Prelude.{◌≡◌, ◌++◌, ◌<◌, ◌≤◌, ◌⊎◌, [], ◌∷◌, true, All, length, vec_len};
+ghost use Rattle.std.specs.Prelude.{map, codes, decimal, IfSome, IfOk};
+ghost use Rattle.mc_text.specs.Addr.{dotted};
+ghost use Rattle.mc_cert.specs.CertificateText.{lan_name, router_name, listed, forwarder_text};
+ghost use Rattle.mc_cert.specs.CertificateText.{entry_text, tree_text, flow_text, flow_texts};
+ghost use Rattle.mc_cert.specs.Stands.{CertificateStands};
+ghost use Rattle.mc_cert.specs.Writable.{IsWritable, IsWritableTree};
+
+use crate::certificate::Certificate;
+use crate::entry::MAX_ENTRIES;
+use crate::pieces::{behind, number, quoted};
+use crate::reached::Reached;
+use crate::version_two::MAX_TREES;
+use mc_text::{Addr, MAX_TEXT};
+use mc_topology::{Flow, LanNo, RouterNo, Topology};
+use std::alloc::{AllocError, AllocFailed, Global};
+
+/// The text isn't in that form, or memory ran out.
+#[derive(Drop)]
+pub(crate) struct Unread;
+
+impl From<AllocError> for Unread {
+    fn from(_refused: AllocError) -> Unread {
+        Unread
+    }
+}
+
+impl<T: Drop> From<AllocFailed<T>> for Unread {
+    fn from(_refused: AllocFailed<T>) -> Unread {
+        Unread
+    }
+}
+
+/// The LAN whose name stands before the next quotation mark, and what is left from there.
+fn read_lan<'a>(topology: &Topology, text: &'a [u8]) -> Option<(LanNo, &'a [u8])>
+    ensures text { IfSome result (λ r. text.now ≡ lan_name topology.now r.0 ++ r.1.now) }
+    ensures listed { IfSome result (λ r. r.0 < length topology.now.lans) }
+{
+    let (name, rest) = quoted(text)?;
+    let lan = topology.lan_no(name)?;
+    Some((lan, rest))
+}
+
+/// The router whose name stands before the next quotation mark, and what is left from there.
+fn read_router<'a>(topology: &Topology, text: &'a [u8]) -> Option<(RouterNo, &'a [u8])>
+    ensures text { IfSome result (λ r. text.now ≡ router_name topology.now r.0 ++ r.1.now) }
+    ensures listed { IfSome result (λ r. r.0 < length topology.now.routers) }
+{
+    let (name, rest) = quoted(text)?;
+    let router = topology.router_no(name)?;
+    Some((router, rest))
+}
+
+/// What stands behind the address at the front of the text.
+fn behind_address<'a>(text: &'a [u8], address: Addr) -> Option<&'a [u8]>
+    ensures { IfSome result (λ rest. text.now ≡ dotted address ++ rest.now) }
+{
+    let (word, rest) = quoted(text)?;
+    let found = Addr::parse_dotted(word.as_bytes())?;
+    if found != address {
+        return None;
+    }
+    Some(rest)
+}
+
+/// The need and the rank at the front of the text, with their keys, and what stands behind them.
+fn read_numbers(text: &[u8]) -> Option<(u8, u8, &[u8])>
+    ensures text { IfSome result (λ r. text.now ≡
+        (codes "\",\"need\":" ++ decimal r.0 ++ codes ",\"rank\":" ++ decimal r.1) ++ r.2.now) }
+    ensures need { IfSome result (λ r. 1 ≤ r.0) }
+{
+    let rest = behind(text, b"\",\"need\":")?;
+    let (need, rest) = number(rest)?;
+    let rest = behind(rest, b",\"rank\":")?;
+    let (rank, rest) = number(rest)?;
+    if need == 0 || need > 255 || rank > 255 {
+        return None;
+    }
+    Some((need as u8, rank as u8, rest))
+}
+
+/// The interface that sends, if its keys stand at the front of the text, and what stands behind
+/// them.
+fn read_forwarder<'a>(
+    topology: &Topology,
+    text: &'a [u8],
+) -> Option<(Option<(RouterNo, u8)>, &'a [u8])>
+    ensures text { IfSome result (λ r. text.now ≡ forwarder_text topology.now r.0 ++ r.1.now) }
+    ensures listed { IfSome result (λ r.
+        IfSome r.0 (λ i. i.0 < length topology.now.routers)) }
+    ensures vif { IfSome result (λ r. IfSome r.0 (λ i. i.1 ≤ 31)) }
+{
+    let Some(named) = behind(text, b",\"router\":\"") else {
+        return Some((None, text));
+    };
+    let Some((router, rest)) = read_router(topology, named) else {
+        return None;
+    };
+    let rest = behind(rest, b"\",\"vif\":")?;
+    let (vif, rest) = number(rest)?;
+    if vif > 31 {
+        return None;
+    }
+    Some((Some((router, vif as u8)), rest))
+}
+
+/// The entry at the front of the text, and what stands behind it.
+fn read_entry<'a>(topology: &Topology, text: &'a [u8]) -> Option<(Reached, &'a [u8])>
+    ensures text { IfSome result (λ r. text.now ≡ entry_text topology.now r.0 ++ r.1.now) }
+    ensures writable { IfSome result (λ r. IsWritable topology.now r.0) }
+{
+    let rest = behind(text, b"{\"lan\":\"")?;
+    let Some((lan, rest)) = read_lan(topology, rest) else {
+        return None;
+    };
+    let (need, rank, rest) = read_numbers(rest)?;
+    let Some((forwarder, rest)) = read_forwarder(topology, rest) else {
+        return None;
+    };
+    let rest = behind(rest, b"}")?;
+    let entry = Reached {
+        lan,
+        rank,
+        need,
+        forwarder,
+    };
+    Some((entry, rest))
+}
+
+/// The list of entries at the front of the text, and what stands behind it.
+fn read_tree<'a>(
+    alloc: Global,
+    topology: &Topology,
+    text: &'a [u8],
+) -> Result<(Vec<Reached>, &'a [u8]), Unread>
+    ensures text { IfOk result (λ r.
+        text.now ≡ tree_text topology.now r.0.items ++ r.1.now) }
+    ensures writable { IfOk result (λ r. IsWritableTree topology.now r.0.items) }
+{
+    let Some(mut rest) = behind(text, b"[") else {
+        return Err(Unread);
+    };
+    let mut entries = Vec::new(alloc);
+    let mut separator: &[u8] = b"";
+    for _number in 0..MAX_ENTRIES {
+        if rest.starts_with(b"]") {
+            break;
+        }
+        let Some(after) = behind(rest, separator) else {
+            return Err(Unread);
+        };
+        let Some((entry, after)) = read_entry(topology, after) else {
+            return Err(Unread);
+        };
+        entries.push(entry)?;
+        rest = after;
+        separator = b",";
+    }
+    let Some(rest) = behind(rest, b"]") else {
+        return Err(Unread);
+    };
+    Ok((entries, rest))
+}
+
+/// The trees at the front of the text, with commas between them, and what stands behind them.
+fn read_trees<'a>(
+    alloc: Global,
+    topology: &Topology,
+    text: &'a [u8],
+) -> Result<(Vec<Vec<Reached>>, &'a [u8]), Unread>
+    ensures text { IfOk result (λ r. text.now ≡
+        listed (map (tree_text topology.now) (map (λ t. t.items) r.0.items)) ++ r.1.now) }
+    ensures writable { IfOk result (λ r.
+        All (IsWritableTree topology.now) (map (λ t. t.items) r.0.items)) }
+    ensures few { IfOk result (λ r. vec_len r.0 ≤ 4096) }
+{
+    let mut rest = text;
+    let mut trees = Vec::new(alloc);
+    let mut separator: &[u8] = b"";
+    for _number in 0..MAX_TREES {
+        if rest.starts_with(b"]") {
+            break;
+        }
+        let Some(after) = behind(rest, separator) else {
+            return Err(Unread);
+        };
+        let Ok((tree, after)) = read_tree(alloc, topology, after) else {
+            return Err(Unread);
+        };
+        trees.push(tree)?;
+        rest = after;
+        separator = b",";
+    }
+    Ok((trees, rest))
+}
+
+/// The number of the flow's tree, where the flow stands at the front of the text, and what stands
+/// behind it.
+fn read_flow<'a>(flow: &Flow, text: &'a [u8]) -> Option<(u32, &'a [u8])>
+    ensures { IfSome result (λ r. text.now ≡ flow_text flow.now r.0 ++ r.1.now) }
+{
+    let rest = behind(text, b"{\"group\":\"")?;
+    let rest = behind_address(rest, flow.group)?;
+    let rest = behind(rest, b"\",\"source\":\"")?;
+    let rest = behind_address(rest, flow.source)?;
+    let rest = behind(rest, b"\",\"tree\":")?;
+    let (place, rest) = number(rest)?;
+    let rest = behind(rest, b"}")?;
+    Some((place, rest))
+}
+
+/// The numbers of the flows' trees, where the flows of the topology stand at the front of the text
+/// with commas between them, and what stands behind them.
+fn read_flows<'a>(
+    alloc: Global,
+    topology: &Topology,
+    text: &'a [u8],
+) -> Result<(Vec<u32>, &'a [u8]), Unread>
+    ensures text { IfOk result (λ r. text.now ≡
+        listed (flow_texts topology.now.flows r.0.items) ++ r.1.now) }
+    ensures count { IfOk result (λ r. vec_len r.0 ≡ length topology.now.flows) }
+{
+    let mut rest = text;
+    let mut places = Vec::new(alloc);
+    let mut separator: &[u8] = b"";
+    for number in 0..topology.flows() {
+        let Some(after) = behind(rest, separator) else {
+            return Err(Unread);
+        };
+        let Some((place, after)) = read_flow(topology.flow(number), after) else {
+            return Err(Unread);
+        };
+        places.push(place)?;
+        rest = after;
+        separator = b",";
+    }
+    Ok((places, rest))
+}
+
+/// Whether each number is below the count.
+fn are_below(numbers: &[u32], count: usize) -> bool
+    ensures { result ≡ true → All (λ n. n < count) numbers.now }
+{
+    numbers.iter().all(|number| (*number as usize) < count)
+}
+
+/// Whether nothing or a line feed is left.
+fn is_end(rest: &[u8]) -> bool
+    ensures { result ≡ true → (rest.now ≡ []) ⊎ (rest.now ≡ 10 ∷ []) }
+{
+    match rest {
+        [] | [b'\n'] => true,
+        _ => false,
+    }
+}
+
+/// The certificate of a text in that form, with nothing or a line feed behind it.
+pub(crate) fn compact_certificate(
+    alloc: Global,
+    topology: &Topology,
+    text: &[u8],
+) -> Result<Certificate, Unread>
+    ensures { IfOk result (CertificateStands topology.now text.now) }
+{
+    if text.len() > MAX_TEXT {
+        return Err(Unread);
+    }
+    let _rules = topology.flows();
+    let Some(rest) = behind(text, b"{\"flows\":[") else {
+        return Err(Unread);
+    };
+    let Ok((places, rest)) = read_flows(alloc, topology, rest) else {
+        return Err(Unread);
+    };
+    let Some(rest) = behind(rest, b"],\"trees\":[") else {
+        return Err(Unread);
+    };
+    let Ok((trees, rest)) = read_trees(alloc, topology, rest) else {
+        return Err(Unread);
+    };
+    let Some(rest) = behind(rest, b"],\"version\":2}") else {
+        return Err(Unread);
+    };
+    if !is_end(rest) || !are_below(&places, trees.len()) {
+        return Err(Unread);
+    }
+    Ok(Certificate::from_trees(trees, places))
+}

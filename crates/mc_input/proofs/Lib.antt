@@ -1,5 +1,6 @@
 mod NameLemmas
 mod ContentLemmas
+pub mod Counted
 mod FilesLemmas
 mod FilesStand
 mod InputLemmas

@@ -19,3 +19,4 @@ pub use Rattle.mc_topology.specs.Topology
 pub use Rattle.mc_topology.specs.Stands
 pub use Rattle.mc_topology.specs.Reading
 pub use Rattle.mc_forward.specs.Domains
+pub use Rattle.mc_forward.specs.Assembling

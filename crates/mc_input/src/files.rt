@@ -1,8 +1,9 @@
 //! What a folder's files tell of a domain. The files are read one after another: each is judged
 //! before the next one is asked for, and its text is let go.
 
-ghost use Rattle.std.specs.Prelude.{◌≡◌, ◌<◌, List, IsTrue, Some, IfOk, IfSome, Ok};
+ghost use Rattle.std.specs.Prelude.{◌≡◌, ◌<◌, List, IsTrue, Some, IfOk, IfSome, Ok, length};
 ghost use Rattle.mc_files.specs.Files.{FileText};
+ghost use Rattle.mc_forward.specs.Assembling.{AreCounted};
 ghost use Rattle.mc_topology.specs.Names.{is_name};
 ghost use Rattle.mc_input.specs.FilesFault.{Gives, GivesOf, failed_files};
 ghost use Rattle.mc_input.specs.FilesInput.{FilesStand};
@@ -65,6 +66,8 @@ fn tables_in<F: FileSource>(
     ensures kept { F.told files.new ≡ F.told files.old }
     ensures tables { GivesOf (F.told files.old) (λ tables. tables.items) result
         (all_tables topology.now.routers) }
+    ensures count { IfOk result (λ tables.
+        length tables.items ≡ length topology.now.routers) }
     ensures failures { F.failed files.new ≡ failed_files result (F.failed files.old) }
 {
     let mut tables = Vec::new(alloc);
@@ -87,6 +90,7 @@ fn reports_of_lans<F: FileSource>(
     ensures kept { F.told files.new ≡ F.told files.old }
     ensures reports { GivesOf (F.told files.old) (λ reports. reports.items) result
         (all_reports topology.now.lans) }
+    ensures count { IfOk result (λ reports. length reports.items ≡ length topology.now.lans) }
     ensures failures { F.failed files.new ≡ failed_files result (F.failed files.old) }
 {
     let mut reports = Vec::new(alloc);
@@ -109,6 +113,8 @@ fn contents_in<F: FileSource>(
     ensures contents { (told : List FileText) → F.told files.old ≡ Some told
         → topology_of told ≡ Ok topology.now
         → Gives (contents_value topology.now) result (files_of told) }
+    ensures counted { IfOk result (λ contents.
+        AreCounted topology.now contents.tables.items contents.reports.items) }
     ensures failures { F.failed files.new ≡ failed_files result (F.failed files.old) }
 {
     let tables = tables_in(alloc, files, topology)?;
@@ -132,6 +138,9 @@ pub fn read_files<F: FileSource>(alloc: Global, files: &mut F) -> Result<FilesIn
     // What is read is what the files stand for.
     ensures found { IfOk result (λ input.
         IfSome (F.told files.old) (λ told. FilesStand told (files_value input))) }
+    // There are tables for each router and a report list for each LAN.
+    ensures counted { IfOk result (λ input.
+        AreCounted input.topology input.tables.items input.reports.items) }
     // Files that stand for an input are read as that, unless the source fails or memory runs out.
     ensures only { (told : List FileText) (value : InputValue) → F.told files.old ≡ Some told
         → FilesStand told value → Gives files_value result (Ok value) }

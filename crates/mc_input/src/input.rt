@@ -1,6 +1,7 @@
 //! What a bundle tells of a domain, read in the order in which its parts are judged.
 
 ghost use Rattle.std.specs.Prelude.{◌≡◌, ℕ, Bool, List, length, Option, is_some, IfOk, OnOk, Ok};
+ghost use Rattle.mc_forward.specs.Assembling.{AreCounted};
 ghost use Rattle.mc_input.specs.Input.{InputValue, InputStands};
 ghost use Rattle.mc_input.specs.InputReading.{Gives, certificate_in, input_in as input_in_parts};
 ghost use Rattle.mc_input.specs.InputReading.{input_of, part_count, refused_as};
@@ -172,6 +173,9 @@ pub fn read_input<'a>(
     // What is read is what the bundle stands for.
     ensures found { IfOk result (λ input.
         InputStands text.now (input_value input) (certificate_seen input.certificate)) }
+    // There are tables for each router and a report list for each LAN.
+    ensures counted { IfOk result (λ input.
+        AreCounted input.topology input.tables.items input.reports.items) }
     // It has the text of a certificate exactly where one was asked for.
     ensures certified { IfOk result (λ input. is_some (certificate_seen input.certificate)
         ≡ certified) }

@@ -1,10 +1,10 @@
 -- What a run of `mcaudit audit` shows of the files that it read.
-use Rattle.std.proofs.Common.{◌≡◌, ◌≢◌, ℕ, zero, suc, ◌+◌, ◌<◌, inl, inr, Bool, true, List}
+use Rattle.std.proofs.Common.{◌≡◌, ◌≢◌, ℕ, zero, suc, ◌<◌, inl, inr, Bool, true, List}
 use Rattle.std.proofs.Common.{[], ◌∷◌, ◌++◌}
 use Rattle.std.proofs.Common.{length, take, drop, Option, Some, None, Result, Ok, Err, refl, sym}
 use Rattle.std.proofs.Common.{ap, subst, ◌∙◌, arith}
 use Rattle.std.proofs.Common.{append_assoc}
-use Rattle.std.specs.Prelude.{◌↔◌, IfSome, IsTrue, codes, flat_map, slice_get}
+use Rattle.std.specs.Prelude.{◌↔◌, ◌⊎◌, IfSome, IsTrue, codes, flat_map, slice_get}
 use Rattle.std.specs.Io.KnownBytes.{Appends}
 use Rattle.std.proofs.lemmas.Bool.{false≢true}
 use Rattle.std.proofs.lemmas.List.{take_all, take-append-drop}
@@ -19,9 +19,10 @@ use Rattle.mc_cert.specs.Certificate.{Tree, tree_at}
 use Rattle.mc_maker.specs.Examined.{IfCertified, is_certified}
 use Rattle.mc_maker.specs.declared.examination.Examined.{Examined}
 use Rattle.mc_maker.specs.declared.examination.Examined.TheVariants.{Certified, Found}
-use Rattle.mc_run.specs.AuditRun.{Answers, AreChecked, HeadlineOf, IsAuditText, SaysIfRight}
-use Rattle.mc_run.specs.AuditRun.{SaysWhichAreRight, WritesAudit, WritesPartOfAudit}
-use Rattle.mc_run.specs.AuditRun.{WritesWhichAreRight}
+use Rattle.mc_run.specs.AuditRun.{Answers, AreChecked, HeadlineOf, IsAuditText, IsChecked}
+use Rattle.mc_run.specs.AuditRun.{SaysIfRight, SaysOfEach, SaysWhatIsFound, SaysWhichAreRight}
+use Rattle.mc_run.specs.AuditRun.{SaysYesOf, WritesAudit, WritesOfEach, WritesPartOfAudit}
+use Rattle.mc_run.specs.AuditRun.{WritesPartOfEach, WritesWhichAreRight}
 use Rattle.mc_run.specs.AuditRun.{events_told, flow_told, flows_told}
 use Rattle.mc_run.specs.CheckRun.{SaysYes, WroteYes}
 use Rattle.mc_run.specs.Failures.{failed_by, failed_reads, failed_writes}
@@ -96,6 +97,24 @@ lines_all travels t (f ∷ fs) [] = refl
 lines_all travels t (f ∷ fs) (x ∷ xs) =
     ap (λ more. flow_told travels t f x ++ more) (lines_all travels t fs xs)
 
+-- what holds of each flow's examination by its lines holds of the lines at its place
+told_each : (P : ℕ → Flow → List ℕ → Type 0) (travels : Bool) (t : TopologyValue) (fs : List Flow)
+    (xs : List Examined) → ((flow : ℕ) (f : Flow) (x : Examined) → slice_get xs flow ≡ Some x
+    → P flow f (flow_told travels t f x))
+    → (flow : ℕ) (f : Flow) (ls : List ℕ) → slice_get fs flow ≡ Some f
+    → slice_get (lines_each travels t fs xs) flow ≡ Some ls → P flow f ls
+unfolding lines_each
+told_each P travels t [] xs holds flow f ls listed told = absurd cc
+told_each P travels t (g ∷ fs) [] holds flow f ls listed told = absurd cc
+told_each P travels t (g ∷ fs) (x ∷ xs) holds zero f ls listed told =
+    let same : g ≡ f = cc in
+    let here : flow_told travels t g x ≡ ls = cc in
+    subst (P 0 f) here (subst (λ (h : Flow). P 0 f (flow_told travels t h x)) (sym same)
+    (holds 0 f x refl))
+told_each P travels t (g ∷ fs) (x ∷ xs) holds (suc flow) f ls listed told =
+    told_each (λ k. P (suc k)) travels t fs xs (λ k h y at. holds (suc k) h y at) flow f ls listed
+    told
+
 line_right : (d : DomainValue) (flow : ℕ) (travels : Bool) (f : Flow) (x : Examined)
     → (IsTrue (is_certified x) ↔ IsRight (net_of d flow))
     → SaysIfRight d.topology f (net_of d flow) (flow_told travels d.topology f x)
@@ -112,32 +131,6 @@ line_right d flow travels f (Found ttl travel) right = record {
   );
 }
 
-lines_right : (d : DomainValue) (travels : Bool) (fs : List Flow) (xs : List Examined) (front : ℕ)
-    → ((flow : ℕ) (x : Examined) → slice_get xs flow ≡ Some x
-    → IsTrue (is_certified x) ↔ IsRight (net_of d (front + flow)))
-    → (flow : ℕ) (f : Flow) (ls : List ℕ) → slice_get fs flow ≡ Some f
-    → slice_get (lines_each travels d.topology fs xs) flow ≡ Some ls
-    → SaysIfRight d.topology f (net_of d (front + flow)) ls
-unfolding lines_each
-lines_right d travels [] xs front right flow f ls listed told = absurd cc
-lines_right d travels (g ∷ fs) [] front right flow f ls listed told = absurd cc
-lines_right d travels (g ∷ fs) (x ∷ xs) front right zero f ls listed told =
-    let t = d.topology in
-    let n = net_of d (front + 0) in
-    let same : g ≡ f = cc in
-    let here : flow_told travels t g x ≡ ls = cc in
-    subst (λ (bytes : List ℕ). SaysIfRight t f n bytes) here
-    (subst (λ (h : Flow). SaysIfRight t h n (flow_told travels t g x)) same
-    (line_right d (front + 0) travels g x (right 0 x refl)))
-lines_right d travels (g ∷ fs) (x ∷ xs) front right (suc flow) f ls listed told =
-    let next : (front + 1) + flow ≡ front + suc flow = omega arith in
-    let rest : (k : ℕ) (y : Examined) → slice_get xs k ≡ Some y
-    → IsTrue (is_certified y) ↔ IsRight (net_of d ((front + 1) + k)) =
-    λ k y at. subst (λ (n : ℕ). IsTrue (is_certified y) ↔ IsRight (net_of d n))
-    (let same : front + suc k ≡ (front + 1) + k = omega arith in same) (right (suc k) y at) in
-    subst (λ (n : ℕ). SaysIfRight d.topology f (net_of d n) ls) next
-    (lines_right d travels fs xs (front + 1) rest flow f ls listed told)
-
 -- each flow's lines say whether it is right, and the answer whether all are
 pub audit_right : (files : List FileText) (travels all : Bool) (written : List ℕ)
     → IsAuditText files travels all written → SaysWhichAreRight files all written
@@ -146,18 +139,13 @@ audit_right files travels all written a =
     let t = d.topology in
     let xs = a.audited.examined in
     let are = a.audited.are_checked in
-    let each : (flow : ℕ) (x : Examined) → slice_get xs flow ≡ Some x
-    → IsTrue (is_certified x) ↔ IsRight (net_of d (0 + flow)) =
-    λ flow x at. subst (λ (n : ℕ). IsTrue (is_certified x) ↔ IsRight (net_of d n))
-    (let same : flow ≡ 0 + flow = omega arith in same) (are.each flow x at).examined.right in
     record {
       domain = d;
       lines = lines_each travels t t.flows xs;
       means = a.means;
       count = lines_count travels t t.flows xs are.count;
-      each = λ flow f ls listed told. subst (λ (n : ℕ). SaysIfRight t f (net_of d n) ls)
-          (let same : 0 + flow ≡ flow = omega arith in same)
-          (lines_right d travels t.flows xs 0 each flow f ls listed told);
+      each = told_each (λ flow f ls. SaysIfRight t f (net_of d flow) ls) travels t t.flows xs
+          (λ flow f x at. line_right d flow travels f x (are.each flow x at).examined.right);
       spelled = a.audited.spelled
           ∙ ap (λ ls. ls ++ last_line (are_certified xs)) (lines_all travels t t.flows xs)
           ∙ ap (λ b. flat_map (λ ls. ls) (lines_each travels t t.flows xs) ++ last_line b)
@@ -165,6 +153,49 @@ audit_right files travels all written a =
       answer = subst (λ (b : Bool). IsTrue b
           ↔ ((flow : ℕ) → flow < length t.flows → IsRight (net_of d flow)))
           (sym a.audited.answer) (certified_right d xs (examined_of d xs are));
+    }
+
+-- ---- what each flow's lines say
+
+line_so : (d : DomainValue) (flow : ℕ) (travels : Bool) (f : Flow) (x : Examined)
+    → IsChecked d flow x → SaysYesOf d flow f (flow_told travels d.topology f x)
+    ⊎ SaysWhatIsFound d flow f travels (flow_told travels d.topology f x)
+line_so d flow travels f (Certified entries) checked = inl (record {
+  list = entries.items;
+  right = checked.examined.right.0 refl;
+  accepted = checked.examined.accepted;
+  headline = checked.headline;
+  spelled = refl;
+})
+line_so d flow travels f (Found ttl travel) checked = inr (record {
+  ttl = ttl;
+  travel = travel;
+  wrong = λ is. false≢true (checked.examined.right.1 is);
+  runs = checked.examined.travel;
+  fault = checked.examined.fault;
+  ttl_told = checked.examined.ttl;
+  spelled = refl;
+})
+
+-- a yes for which the headline holds, or what a run of its net finds
+pub audit_each : (files : List FileText) (travels all : Bool) (written : List ℕ)
+    → IsAuditText files travels all written → SaysOfEach files travels written
+audit_each files travels all written a =
+    let d = a.domain in
+    let t = d.topology in
+    let xs = a.audited.examined in
+    let are = a.audited.are_checked in
+    record {
+      domain = d;
+      lines = lines_each travels t t.flows xs;
+      all = are_certified xs;
+      means = a.means;
+      count = lines_count travels t t.flows xs are.count;
+      each = told_each
+          (λ flow f ls. SaysYesOf d flow f ls ⊎ SaysWhatIsFound d flow f travels ls)
+          travels t t.flows xs (λ flow f x at. line_so d flow travels f x (are.each flow x at));
+      spelled = a.audited.spelled
+          ∙ ap (λ ls. ls ++ last_line (are_certified xs)) (lines_all travels t t.flows xs);
     }
 
 -- ---- devices
@@ -260,6 +291,30 @@ pub audit_part : (told : Option (List FileText)) (travels all : Bool) (written b
 audit_part None travels all written bytes old new a same puts = tt
 audit_part (Some fs) travels all written bytes old new a same puts =
     (all, written, a, subst (λ (b : List ℕ). AppendsPart old new b) same puts)
+
+-- so it is of the whole,
+pub each_written : (told : Option (List FileText)) (travels all : Bool) (written bytes : List ℕ)
+    (old new : Option (List ℕ)) → IfSome told (λ fs. IsAuditText fs travels all written)
+    → bytes ≡ written → Appends old new bytes
+    → IfSome told (λ fs. WritesOfEach fs travels old new)
+each_written None travels all written bytes old new a same puts = tt
+each_written (Some fs) travels all written bytes old new a same puts = (
+  written,
+  audit_each fs travels all written a,
+  subst (λ (b : List ℕ). Appends old new b) same puts,
+)
+
+-- and of a part
+pub each_part : (told : Option (List FileText)) (travels all : Bool) (written bytes : List ℕ)
+    (old new : Option (List ℕ)) → IfSome told (λ fs. IsAuditText fs travels all written)
+    → bytes ≡ written → AppendsPart old new bytes
+    → IfSome told (λ fs. WritesPartOfEach fs travels old new)
+each_part None travels all written bytes old new a same puts = tt
+each_part (Some fs) travels all written bytes old new a same puts = (
+  written,
+  audit_each fs travels all written a,
+  subst (λ (b : List ℕ). AppendsPart old new b) same puts,
+)
 
 -- ---- yes
 

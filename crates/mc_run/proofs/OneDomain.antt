@@ -3,7 +3,6 @@ use Rattle.std.proofs.Common.{◌≡◌, ℕ, zero, suc, Bool, true, false, List
 use Rattle.std.proofs.Common.{Some, None, refl, sym, ap, subst, ◌∙◌, arith}
 use Rattle.std.specs.Prelude.{◌↔◌, IsTrue, is_some, slice_get, slice_index_or}
 use Rattle.mc_text.specs.Bundle.{PartText}
-use Rattle.mc_igmp.specs.declared.record.Record.{Record}
 use Rattle.mc_igmp.specs.Wants.{Wants}
 use Rattle.mc_files.specs.Files.{FileText}
 use Rattle.mc_topology.specs.Topology.{TopologyValue}
@@ -12,7 +11,8 @@ use Rattle.mc_forward.specs.Domains.{DomainValue, IsDomain, wants_of}
 use Rattle.mc_cert.specs.Certificate.{Tree}
 use Rattle.mc_cert.specs.Stands.{CertificateStands}
 use Rattle.mc_cert.proofs.ReadLemmas.{one_certificate}
-use Rattle.mc_input.specs.Input.{InputValue, PartsStand, TellReports}
+use Rattle.mc_input.specs.Input.{InputValue, PartsStand}
+use Rattle.mc_input.proofs.Counted.{counted}
 use Rattle.mc_input.proofs.OneInput.{one_input, one_input_of_files}
 use Rattle.mc_run.specs.BundleMeaning.{MeansDomain, MeansCertified}
 use Rattle.mc_run.specs.FilesMeaning.{MeansFiles}
@@ -48,16 +48,6 @@ wants_is : (d : DomainValue) (lan flow : ℕ) (row : List Bool) (b : Bool)
 wants_is d lan flow row b at here =
     ap (λ (bs : List Bool). slice_index_or bs flow false) (index_is d.wants lan row [] at)
     ∙ index_is row flow b false here
-
-reports_count : (lans : List (List ℕ)) (here : List PartText) (all : List (List Record))
-    (rest : List PartText)
-    → TellReports lans here all rest → length all ≡ length lans
-reports_count [] here [] rest h = refl
-reports_count [] here (records ∷ all) rest h = absurd h
-reports_count (lan ∷ lans) [] all rest h = absurd h
-reports_count (lan ∷ lans) (part ∷ here) [] rest h = absurd h
-reports_count (lan ∷ lans) (part ∷ here) (records ∷ all) rest h =
-    ap suc (reports_count lans here all rest h.1)
 
 wants_same : (v : InputValue) (d e : DomainValue) → IsDomain d → IsDomain e
     → length v.reports ≡ length v.topology.lans → IsAssembled v.topology v.tables v.reports d
@@ -99,8 +89,7 @@ same_of : (v w : InputValue) (c : Option (List ℕ)) (parts : List PartText) (d 
     → IsAssembled v.topology v.tables v.reports d → IsAssembled w.topology w.tables w.reports e
     → d ≡ e
 same_of v w c parts d e same stand ok_d ok_e is_d is_e =
-    domain_same v d e ok_d ok_e
-    (reports_count v.topology.lans stand.of_lans v.reports stand.last stand.reports) is_d
+    domain_same v d e ok_d ok_e (counted parts v c stand).lans is_d
     (subst (λ (x : InputValue). IsAssembled x.topology x.tables x.reports e) (sym same) is_e)
 
 -- ---- and so the text and the files mean one

@@ -1,6 +1,6 @@
 -- What `mcaudit audit` answers and writes, and what its yes is worth.
 use Rattle.std.specs.Prelude.{◌≡◌, ◌↔◌, ℕ, ◌<◌, Bool, true, false, IsTrue, List, [], ◌∷◌, ◌++◌}
-use Rattle.std.specs.Prelude.{flat_map, length, slice_get}
+use Rattle.std.specs.Prelude.{flat_map, length, slice_get, ◌⊎◌}
 use Rattle.std.specs.Prelude.{Option, Some, Result, Ok, Err}
 use Rattle.std.specs.Io.KnownBytes.{Appends}
 use Rattle.mc_text.specs.Device.{AppendsPart}
@@ -8,12 +8,14 @@ use Rattle.mc_files.specs.Files.{FileText}
 use Rattle.mc_topology.specs.declared.flow.Flow.{Flow}
 use Rattle.mc_topology.specs.Topology.{TopologyValue}
 use Rattle.mc_theory.specs.Nets.{Net}
-use Rattle.mc_theory.specs.Certificates.{IsRight}
+use Rattle.mc_theory.specs.Certificates.{IsAccepted, IsRight}
 use Rattle.mc_theory.specs.Headline.{HeadlineHolds}
 use Rattle.mc_forward.specs.Domains.{DomainValue, net_of}
+use Rattle.mc_cert.specs.Certificate.{Tree}
 use Rattle.mc_check.specs.declared.verdict.Verdict.TheVariants.{Yes}
 use Rattle.mc_replay.specs.declared.travel.Travel.{Travel}
-use Rattle.mc_maker.specs.Examined.{IfCertified, is_certified}
+use Rattle.mc_maker.specs.Examined.{FindsFault, IfCertified, IsTravelOfFirst, IsTtlOfFault}
+use Rattle.mc_maker.specs.Examined.{is_certified}
 use Rattle.mc_maker.specs.declared.examination.Examined.{Examined}
 use Rattle.mc_maker.specs.declared.examination.Examined.TheVariants.{Certified, Found}
 use Rattle.mc_run.specs.declared.fault.RunFault.{RunFault}
@@ -130,6 +132,53 @@ abbrev pub WritesWhichAreRight : List FileText → (all : Bool) → Option (List
     → Option (List ℕ) → Type 0
 WritesWhichAreRight files all old new =
     (written : List ℕ) × SaysWhichAreRight files all written × Appends old new written
+
+-- The lines say yes to the flow with so many copies, and so it is: the flow is right, the checker
+-- accepts a list of so many entries, and the headline holds with so many named.
+pub record SaysYesOf (d : DomainValue) (flow : ℕ) (f : Flow) (lines : List ℕ) : Type 0 where
+  pub list : Tree
+  pub right : IsRight (net_of d flow)
+  pub accepted : IsAccepted (net_of d flow) list
+  pub headline : HeadlineHolds (net_of d flow) (length list)
+  pub spelled : lines ≡ flow_line d.topology f (Yes (length list))
+
+-- The lines say that the flow has no certificate, and what is found, and so it is: the flow isn't
+-- right, and that is found by a run of its net: the travel of a packet with the told TTL.
+pub record SaysWhatIsFound (d : DomainValue) (flow : ℕ) (f : Flow) (travels : Bool)
+    (lines : List ℕ) : Type 0 where
+  pub ttl : ℕ
+  pub travel : Travel
+  pub wrong : ¬ IsRight (net_of d flow)
+  pub runs : IsTravelOfFirst d flow ttl travel
+  pub fault : FindsFault travel
+  pub ttl_told : IsTtlOfFault d flow ttl
+  pub spelled : lines ≡ found_lines d.topology f ttl travel.finding
+      ++ events_told travels d.topology travel
+
+-- The files mean a domain, and this is written of it: for each flow in order lines that say the one
+-- or the other of it, and the last line.
+pub record SaysOfEach (files : List FileText) (travels : Bool) (written : List ℕ) : Type 0 where
+  pub domain : DomainValue
+  pub lines : List (List ℕ)
+  pub all : Bool
+  pub means : MeansFiles files domain
+  pub count : length lines ≡ length domain.topology.flows
+  pub each : (flow : ℕ) (f : Flow) (ls : List ℕ) → slice_get domain.topology.flows flow ≡ Some f
+      → slice_get lines flow ≡ Some ls
+      → SaysYesOf domain flow f ls ⊎ SaysWhatIsFound domain flow f travels ls
+  pub spelled : written ≡ flat_map (λ ls. ls) lines ++ last_line all
+
+-- that was written whole,
+abbrev pub WritesOfEach : List FileText → (travels : Bool) → Option (List ℕ) → Option (List ℕ)
+    → Type 0
+WritesOfEach files travels old new =
+    (written : List ℕ) × SaysOfEach files travels written × Appends old new written
+
+-- or a proper part of it, from its front
+abbrev pub WritesPartOfEach : List FileText → (travels : Bool) → Option (List ℕ)
+    → Option (List ℕ) → Type 0
+WritesPartOfEach files travels old new =
+    (written : List ℕ) × SaysOfEach files travels written × AppendsPart old new written
 
 -- The files mean a domain, each of whose flows has a list for which the headline holds.
 pub record HeadlineOf (files : List FileText) : Type 0 where

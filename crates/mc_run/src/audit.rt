@@ -8,12 +8,13 @@ ghost use Rattle.std.specs.String.{string_bytes};
 ghost use Rattle.mc_theory.specs.Certificates.{IsAccepted};
 ghost use Rattle.mc_theory.specs.Headline.{HeadlineHolds};
 ghost use Rattle.mc_topology.specs.declared.flow.Flow.{Flow};
-ghost use Rattle.mc_forward.specs.Assembling.{IsAssembled};
+ghost use Rattle.mc_forward.specs.Assembling.{AreCounted, IsAssembled};
 ghost use Rattle.mc_forward.specs.Domains.{IsDomain, net_of};
 ghost use Rattle.mc_check.specs.Verdicts.{is_yes};
 ghost use Rattle.mc_check.specs.declared.verdict.Verdict.TheVariants.{Yes};
 ghost use Rattle.mc_run.specs.AuditRun.{Answers, HeadlineOf, IsAudited, IsAuditText};
-ghost use Rattle.mc_run.specs.AuditRun.{IsFlowAudited, WritesAudit, WritesPartOfAudit};
+ghost use Rattle.mc_run.specs.AuditRun.{IsFlowAudited, WritesAudit, WritesOfEach};
+ghost use Rattle.mc_run.specs.AuditRun.{WritesPartOfAudit, WritesPartOfEach};
 ghost use Rattle.mc_run.specs.AuditRun.{WritesWhichAreRight, events_told};
 ghost use Rattle.mc_run.specs.CheckRun.{SaysYes};
 ghost use Rattle.mc_run.specs.Failures.{failed_by, failed_reads, failed_writes};
@@ -39,6 +40,7 @@ use std::alloc::Global;
 
 /// The domain of what the files tell.
 fn domain_with(alloc: Global, input: FilesInput) -> Result<Domain, RunFault>
+    requires counted { AreCounted input.topology input.tables.items input.reports.items }
     ensures assembled { IfOk result
         (IsAssembled input.topology input.tables.items input.reports.items) }
     ensures rules { IfOk result IsDomain }
@@ -222,6 +224,12 @@ pub fn run_audit<F: FileSource, W: Output>(
         WritesWhichAreRight told all (W.took output.old) (W.took output.new))) }
     ensures part { result ≡ Err RunFault.Write → IfSome (F.told files.old) (λ told.
         WritesPartOfAudit told travels (W.took output.old) (W.took output.new)) }
+    // Of each flow whose lines were written, in the whole or in the part, they are so: a yes of the
+    // checker, for which the headline holds, or what a run of its net finds.
+    ensures each { IfOk result (λ all. IfSome (F.told files.old) (λ told.
+        WritesOfEach told travels (W.took output.old) (W.took output.new))) }
+    ensures each_in_part { result ≡ Err RunFault.Write → IfSome (F.told files.old) (λ told.
+        WritesPartOfEach told travels (W.took output.old) (W.took output.new)) }
     ensures unwritten { IfErr result (λ fault. fault ≢ RunFault.Write → output.new ≡ output.old) }
     // Read and Write come only where the device's failures rose in the call.
     ensures read_failures { F.failed files.new ≡ failed_reads result (F.failed files.old) }

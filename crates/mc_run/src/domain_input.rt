@@ -1,14 +1,14 @@
 //! What a bundle in memory tells a run: a domain put together, and the text of a certificate.
 
 ghost use Rattle.std.specs.Prelude.{◌≡◌, IfErr, IfOk, is_some};
-ghost use Rattle.mc_forward.specs.Assembling.{IsAssembled};
+ghost use Rattle.mc_forward.specs.Assembling.{AreCounted, IsAssembled};
 ghost use Rattle.mc_forward.specs.Domains.{IsDomain};
 ghost use Rattle.mc_input.specs.InputView.{certificate_seen};
 ghost use Rattle.mc_run.specs.BundleMeaning.{IsRefusedFor, MeansDomain};
 ghost use Rattle.mc_run.specs.Failures.{IsNoDeviceFault};
 
 use crate::fault::RunFault;
-use mc_forward::{Domain, Tables};
+use mc_forward::{Domain, DomainFault, Tables};
 use mc_igmp::ReportList;
 use mc_input::{BundleInput, read_input};
 use mc_text::Memory as NoMemory;
@@ -28,21 +28,25 @@ pub(crate) struct DomainInput<'a> {
     pub(crate) certificate: Option<&'a [u8]>,
 }
 
-/// The domain of what files or a bundle's parts tell.
+/// The domain of what files or a bundle's parts tell: tables for each router, and a report list for
+/// each LAN.
 pub(crate) fn assembled(
     alloc: Global,
     topology: Topology,
     tables: Vec<Tables>,
     reports: Vec<ReportList>,
 ) -> Result<Domain, NoMemory>
+    requires counted { AreCounted topology tables.items reports.items }
     ensures assembled { IfOk result (IsAssembled topology tables.items reports.items) }
     ensures rules { IfOk result IsDomain }
 {
-    // There are tables for each router and a list for each LAN, so that memory alone can be
-    // wanting.
     match Domain::assemble(alloc, topology, tables, reports) {
         Ok(domain) => Ok(domain),
-        Err(_) => Err(NoMemory),
+        Err(refused) => {
+            // Since their numbers fit, memory alone can be wanting.
+            prove!(matches!(refused.fault, DomainFault::Memory));
+            Err(NoMemory)
+        }
     }
 }
 

@@ -1,4 +1,5 @@
 use Rattle.std.proofs.Common.{◌∙◌, ap, Err, arith}
+use Rattle.std.proofs.lemmas.Grind.{elements}
 use Rattle.std.proofs.lemmas.Result.{err_from_is_err_and}
 use Rattle.mc_input.proofs.FilesLemmas.{reports_refused, reports_next, reports_end}
 use Rattle.mc_input.proofs.files.reports_of_lans.Goals as goal
@@ -17,6 +18,7 @@ returns-in_err-reports_in-clause-reports g c =
 pub loop-lan-preserved : goal.loop-lan-preserved
 loop-lan-preserved g c = record {
   count = c.loop-lan.invariant.count;
+  so_far = grind (arith, elements, c.in_ok-push.ensures.items, c.loop-lan.invariant.so_far);
   same = c.reports_in.ensures.same ∙ c.loop-lan.invariant.same;
   kept = c.reports_in.ensures.kept ∙ c.loop-lan.invariant.kept;
   failures = c.in_ok-reports_in.ensures.failures ∙ c.loop-lan.invariant.failures;

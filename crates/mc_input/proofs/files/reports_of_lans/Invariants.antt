@@ -7,6 +7,7 @@ use Rattle.mc_input.proofs.files.reports_of_lans.Given as goal
 abbrev pub invariant-loop-lan : goal.invariant-loop-lan
 invariant-loop-lan g l = record {
   count : l.lan-end ≡ length l.fn.topology.lans;
+  so_far : length l.reports.items ≡ l.lan;
   same : g.F.FileSource.names l.files ≡ g.F.FileSource.names l.fn.files;
   kept : g.F.FileSource.told l.files ≡ g.F.FileSource.told l.fn.files;
   failures : g.F.FileSource.failed l.files ≡ g.F.FileSource.failed l.fn.files;

@@ -1,4 +1,5 @@
 use Rattle.std.proofs.Common.{◌∙◌, ap, Err, arith}
+use Rattle.std.proofs.lemmas.Grind.{elements}
 use Rattle.std.proofs.lemmas.Result.{err_from_is_err_and}
 use Rattle.mc_input.proofs.FilesLemmas.{tables_refused, tables_next, tables_end}
 use Rattle.mc_input.proofs.files.tables_in.Goals as goal
@@ -17,6 +18,7 @@ returns-in_err-tables_of-clause-tables g c =
 pub loop-router-preserved : goal.loop-router-preserved
 loop-router-preserved g c = record {
   count = c.loop-router.invariant.count;
+  so_far = grind (arith, elements, c.in_ok-push.ensures.items, c.loop-router.invariant.so_far);
   same = c.tables_of.ensures.same ∙ c.loop-router.invariant.same;
   kept = c.tables_of.ensures.kept ∙ c.loop-router.invariant.kept;
   failures = c.in_ok-tables_of.ensures.failures ∙ c.loop-router.invariant.failures;

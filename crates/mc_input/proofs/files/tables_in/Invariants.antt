@@ -7,6 +7,7 @@ use Rattle.mc_input.proofs.files.tables_in.Given as goal
 abbrev pub invariant-loop-router : goal.invariant-loop-router
 invariant-loop-router g l = record {
   count : l.router-end ≡ length l.fn.topology.routers;
+  so_far : length l.tables.items ≡ l.router;
   same : g.F.FileSource.names l.files ≡ g.F.FileSource.names l.fn.files;
   kept : g.F.FileSource.told l.files ≡ g.F.FileSource.told l.fn.files;
   failures : g.F.FileSource.failed l.files ≡ g.F.FileSource.failed l.fn.files;

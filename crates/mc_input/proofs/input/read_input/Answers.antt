@@ -1,4 +1,5 @@
 use Rattle.std.proofs.lemmas.Result.{err_from_is_err_and}
+use Rattle.mc_input.proofs.Counted.{read_counted}
 use Rattle.mc_input.proofs.ReadLemmas.{read_found, read_only, refused_only}
 use Rattle.mc_input.proofs.input.read_input.Goals as goal
 
@@ -12,6 +13,9 @@ pub returns-clause-found : goal.returns-clause-found
 returns-clause-found c =
     read_found c.args.certified c.args.text.now c.in_ok-bundle.bundle c.input_in.result
     c.in_ok-bundle.ensures c.input_in.ensures.input c.input_in.ensures.certificate
+
+pub returns-clause-counted : goal.returns-clause-counted
+returns-clause-counted c = read_counted c.args.text.now c.input_in.result (returns-clause-found c)
 
 pub returns-clause-only : goal.returns-clause-only
 returns-clause-only c =

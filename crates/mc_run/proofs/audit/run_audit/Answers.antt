@@ -3,8 +3,9 @@ use Rattle.std.proofs.lemmas.Result.{err_from_is_err_and}
 use Rattle.std.specs.Prelude.{is_ok}
 use Rattle.mc_run.specs.declared.audit.Told.{Told}
 use Rattle.mc_run.proofs.AuditLemmas.{audit_answer, audit_part, audit_refused, audit_unwritten}
-use Rattle.mc_run.proofs.AuditLemmas.{audit_written, by_reads, other_fault, part_says, same_writes}
-use Rattle.mc_run.proofs.AuditLemmas.{which_written, whole_says}
+use Rattle.mc_run.proofs.AuditLemmas.{audit_written, by_reads, each_part, each_written}
+use Rattle.mc_run.proofs.AuditLemmas.{other_fault, part_says, same_writes, which_written}
+use Rattle.mc_run.proofs.AuditLemmas.{whole_says}
 use Rattle.mc_run.proofs.CheckLemmas.{refused_unsaid}
 use Rattle.mc_run.proofs.RunLemmas.{only_write}
 use Rattle.mc_run.proofs.WantsLemmas.{where_failed, where_succeeded}
@@ -18,6 +19,12 @@ returns-in_err-told-clause-answer g c =
 
 pub returns-in_err-told-clause-part : goal.returns-in_err-told-clause-part
 returns-in_err-told-clause-part g c =
+    let p = err_from_is_err_and c.from_residual.result c.from_residual.ensures.1 in
+    other_fault c.in_err-told.field-0.0 _ _ (p.1 ∙ ap (λ f. Err f) p.2)
+    c.in_err-told.ensures.no_write
+
+pub returns-in_err-told-clause-each_in_part : goal.returns-in_err-told-clause-each_in_part
+returns-in_err-told-clause-each_in_part g c =
     let p = err_from_is_err_and c.from_residual.result c.from_residual.ensures.1 in
     other_fault c.in_err-told.field-0.0 _ _ (p.1 ∙ ap (λ f. Err f) p.2)
     c.in_err-told.ensures.no_write
@@ -51,6 +58,13 @@ returns-in_err-map_err-clause-part g c =
     c.as_bytes.result.now _ _ c.in_ok-told.ensures.text c.as_bytes.ensures.value
     (where_failed c.write_all.result _ failed c.write_all.ensures.err)
 
+pub returns-in_err-map_err-clause-each_in_part : goal.returns-in_err-map_err-clause-each_in_part
+returns-in_err-map_err-clause-each_in_part g c =
+    let failed = sym c.map_err.ensures.variant ∙ ap is_ok c.in_err-map_err.was in
+    λ _. each_part (g.F.FileSource.told c.args.files.now) c.args.travels c.in_ok-told.told.yes _
+    c.as_bytes.result.now _ _ c.in_ok-told.ensures.text c.as_bytes.ensures.value
+    (where_failed c.write_all.result _ failed c.write_all.ensures.err)
+
 pub returns-in_err-map_err-clause-unwritten : goal.returns-in_err-map_err-clause-unwritten
 returns-in_err-map_err-clause-unwritten g c =
     only_write c.from_residual-in_err-map_err.result _ (search rules)
@@ -79,6 +93,13 @@ pub returns-clause-right : goal.returns-clause-right
 returns-clause-right g c =
     let done = sym c.map_err.ensures.variant ∙ ap is_ok c.in_ok-map_err.was in
     which_written (g.F.FileSource.told c.args.files.now) c.args.travels c.in_ok-told.told.yes _
+    c.as_bytes.result.now _ _ c.in_ok-told.ensures.text c.as_bytes.ensures.value
+    (where_succeeded c.write_all.result _ done c.write_all.ensures.ok)
+
+pub returns-clause-each : goal.returns-clause-each
+returns-clause-each g c =
+    let done = sym c.map_err.ensures.variant ∙ ap is_ok c.in_ok-map_err.was in
+    each_written (g.F.FileSource.told c.args.files.now) c.args.travels c.in_ok-told.told.yes _
     c.as_bytes.result.now _ _ c.in_ok-told.ensures.text c.as_bytes.ensures.value
     (where_succeeded c.write_all.result _ done c.write_all.ensures.ok)
 

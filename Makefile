@@ -2,16 +2,18 @@
 # make example    shows an audit of a fault and of its mending, and the whole way to a verdict; by the program if it is built
 # make test       the gate: every proof, the edits that must fail, the tests, the command-line cases, and those of tools/;
 #                 REPORT=bench/gate.md writes what each part took
-# make bench      does steps of a run on large texts, and prints what they took in time and memory (it needs python3)
-# make lab        from routers to a verdict, in network namespaces (it needs root, smcroute, tcpdump and python3)
+# make bench      runs the program on large domains, and writes what that took into bench/RESULTS.md (it needs python3);
+#                 BEFORE=PATH, an earlier build of the program, runs beside it. It fails where a certificate as `make`
+#                 writes it isn't read in a seventh of the time that the same takes behind one space
+# make lab        from routers to a verdict, in network namespaces (it needs root; the file `packages` says what else)
 # make install    puts the program and its tools into $(PREFIX)/bin, the manual page and the completion into $(PREFIX)/share
 
 PREFIX ?= /usr/local
 PROGRAM = crates/mcaudit/out/mcaudit
-MEASURE = crates/measure/out/measure
+TOOLS = mcaudit-collect mcaudit-draft mcaudit-query mcaudit-reports mcaudit-site
 SOURCES = $(shell find crates \( -path '*/out' -o -path 'crates/mc_tests_*' \) -prune -o -type f \( -name '*.rt' -o -name '*.antt' \) -print) crates.txt
 # the libraries below the program, lowest first
-LIBRARIES = $(filter-out mcaudit measure mc_samples mc_tests_%,$(shell sed -n 's/^\([a-z_]*\):.*/\1/p' crates.txt))
+LIBRARIES = $(filter-out mcaudit mc_samples mc_tests_%,$(shell sed -n 's/^\([a-z_]*\):.*/\1/p' crates.txt))
 
 .PHONY: all example test bench lab install
 
@@ -30,23 +32,18 @@ example:
 test:
 	python3 tests/gate/run.py $(REPORT)
 
-bench: $(MEASURE)
-	python3 bench/run.py $(MEASURE)
-
-$(MEASURE): $(SOURCES)
-	rm -f $(MEASURE)
-	sh crates/prove.sh $(LIBRARIES)
-	cd crates/measure && rt run -- vif /dev/null
-	test -x $(MEASURE)
+bench: $(PROGRAM)
+	python3 bench/run.py --write bench/RESULTS.md $(PROGRAM) $(BEFORE)
+	python3 bench/run.py $(PROGRAM) --only reading --bounds reading
 
 lab: $(PROGRAM)
 	sh tests/lab/run.sh $(PROGRAM)
 
 install: $(PROGRAM)
 	install -D -m 755 $(PROGRAM) $(DESTDIR)$(PREFIX)/bin/mcaudit
-	install -D -m 755 tools/mcaudit-collect $(DESTDIR)$(PREFIX)/bin/mcaudit-collect
-	install -D -m 755 tools/mcaudit-reports $(DESTDIR)$(PREFIX)/bin/mcaudit-reports
+	for tool in $(TOOLS); do \
+		install -D -m 755 tools/$$tool $(DESTDIR)$(PREFIX)/bin/$$tool || exit 1; done
 	install -D -m 644 docs/mcaudit.1 $(DESTDIR)$(PREFIX)/share/man/man1/mcaudit.1
 	install -D -m 644 tools/mcaudit.bash $(DESTDIR)$(PREFIX)/share/bash-completion/completions/mcaudit
-	ln -sf mcaudit $(DESTDIR)$(PREFIX)/share/bash-completion/completions/mcaudit-collect
-	ln -sf mcaudit $(DESTDIR)$(PREFIX)/share/bash-completion/completions/mcaudit-reports
+	for tool in $(TOOLS); do \
+		ln -sf mcaudit $(DESTDIR)$(PREFIX)/share/bash-completion/completions/$$tool || exit 1; done

@@ -1,183 +1,257 @@
 #!/usr/bin/env python3
-"""Makes texts from a seed, does one step with each through the program crates/measure, and prints a table of what
-that took.
+"""Runs a built program on the domains of shapes.py, and says what that took: processor time, memory and growth.
 
-usage: run.py MEASURE [RUNS [WORD]]
+usage: run.py PROGRAM [BEFORE] [--only NAMES] [--runs N] [--write FILE] [--commit WORD] [--before-commit WORD]
+              [--bounds NAMES]
 
-With a WORD, only the texts are measured whose names have it.
+PROGRAM and BEFORE are two builds of mcaudit, which run in turn on the same files. The files lie in memory. Each answer
+is held against what the domain says that it has to be (texts.py), and another one ends the run. What is told is the
+best of N runs (3, if not given, and some more of short ones) in processor time, of user and system, and the most
+memory of any.
 
-step      the best time of the step alone: the reader, the text being in memory, or what follows after it
-whole     the best time of the whole process: start, the text from the file, what comes before the step, exit
-memory    the most that the process had at once, the text among it
-wc -l     the best time of that process over the same file
+--only    the names of shapes, with commas between; `unkind` means all tables of unkind rows, and `reading` the reading
+          of a certificate by its two ways
+--write   writes the tables into this file too, as bench/RESULTS.md has them
+--bounds  ends with status 1 where something misses one of these bounds, or nothing was measured that has it: `growth`,
+          `reading`, or both with a comma between (results.py, BOUNDS)
 """
-import random
+import argparse
+import json
+import os
+import signal
 import subprocess
 import sys
 import tempfile
-import time
+from typing import NamedTuple
 
-from domains import Domain, Tree, dotted, word
+sys.dont_write_bytecode = True
+import results
+import shapes
 
-SEED = 7761
-SHARES = (4, 2, 1)  # a quarter, a half and the whole
-
-
-def outgoing(rng):
-    vifs = sorted(rng.sample(range(1, 32), rng.randrange(1, 4)))
-    return "".join(f" {vif:2d}:{rng.choice((1, 1, 1, 2, 16)):<3d}" for vif in vifs)
-
-
-def cache(rng, pairs):
-    """Rows of sources and groups, padded as ipmr_mfc_seq_show of net/ipv4/ipmr.c pads them."""
-    lines = ["Group    Origin   Iif     Pkts    Bytes    Wrong Oifs\n"]
-    for source, group in pairs:
-        packets = rng.randrange(10**6)
-        counters = f" {packets:8d} {packets * 1316:8d} {rng.randrange(100):8d}"
-        lines.append(f"{word(group)} {word(source)} {0:<3d}{counters}{outgoing(rng)}\n")
-    return "".join(lines)
+MEMORY = "/dev/shm"  # where files lie in memory
+HERE = os.path.dirname(os.path.abspath(__file__))
+COMMANDS = ("check", "make", "replay", "audit", "wants")
+FEW = ("check", "audit")
+SIZES = [(share, COMMANDS) for share in (0.25, 0.5, 1)]
+SIZES_OF = {"campus": [(0.2706, COMMANDS), (0.5412, COMMANDS), (1, COMMANDS), (1.0776, FEW)]}  # 64, 128 and 256 MiB
+UNKIND_SIZES = [(share, FEW) for share in (0.25, 0.5, 1)]
+READING = 0.865  # the share of the shape whose certificate has 14 MB
+SHORT = 0.5  # seconds of all runs of a case, below which it runs more often, MORE times as often at the most
+MORE = 5
 
 
-def groups(rng, share):
-    some = rng.sample(range(0xEF000000, 0xF0000000), 65536 // share)
-    return cache(rng, ((0x0A000005, group) for group in some))
+class Case(NamedTuple):
+    """The words of a command, the file or folder that it reads, the file of what it must write, and its status."""
+
+    words: list
+    path: str
+    wanted: str
+    status: int
 
 
-def ascending_groups(rng, share):
-    return cache(rng, ((0x0A000005, 0xEF000000 + n) for n in range(65536 // share)))
+class Unexpected(Exception):
+    """A program gave another answer than the domain says."""
 
 
-def sources(rng, share):
-    some = rng.sample(range(0x0A000001, 0x0B000000), 65536 // share)
-    return cache(rng, ((source, 0xEF010203) for source in some))
+def spawn(words, source, folder):
+    """Runs a command with a file as its input; its status, processor seconds and most memory in KiB."""
+    how = [sys.executable, "-I", "-S", f"{HERE}/spawn.py", source, f"{folder}/stdout", f"{folder}/stderr", *words]
+    told = subprocess.run(how, stdout=subprocess.PIPE, check=True).stdout.split()
+    return int(told[0]), float(told[1]), int(told[2])
 
 
-def wildcards(rng, share):
-    some = rng.sample(range(0xEF000000, 0xF0000000), 65536 // share)
-    return cache(rng, ((0, group) for group in some))
+def first_difference(path, wanted):
+    """The first line in which two files differ, as a pair, if they do."""
+    with open(path, "rb") as is_there, open(wanted, "rb") as is_wanted:
+        while True:
+            lines = is_there.readline(4096), is_wanted.readline(4096)
+            if lines[0] != lines[1]:
+                return lines
+            if not lines[0]:
+                return None
 
 
-def vifs(rng, share):
-    """Vifs, padded as ipmr_vif_seq_show of net/ipv4/ipmr.c pads them."""
-    lines = ["Interface      BytesIn  PktsIn  BytesOut PktsOut Flags Local    Remote\n"]
-    for index in range(32 // share):
-        counters = f"{rng.randrange(10**9):8d} {rng.randrange(10**6):7d}  {0:8d} {0:7d}"
-        local = word(0x0A000001 + 256 * index)
-        lines.append(f"{index:2d} {'eth' + str(index):<10s} {counters} {0:05X} {local} {0:08X}\n")
-    return "".join(lines)
+def size_of(path):
+    """The bytes of a file, or of all files of a folder."""
+    if os.path.isdir(path):
+        return sum(entry.stat().st_size for entry in os.scandir(path))
+    return os.stat(path).st_size
 
 
-def topology(rng, share):
-    """A domain at its limits: routers, LANs, interfaces, sources and flows."""
-    lans, routers = 1024 // share, 256 // share
-    lines = ["version = 1\n", "lans = [", ", ".join(f'"lan-{lan}"' for lan in range(lans)), "]\n"]
-    for router in range(routers):
-        order = rng.choice(("little", "big"))
-        lines.append(f'\n[[router]]\nname = "router-{router}"\norder = "{order}"\n')
-    for router in range(routers):
-        for vif, lan in enumerate(rng.sample(range(lans), 32)):
-            lines.append(
-                f'\n[[interface]]\nrouter = "router-{router}"\ndevice = "eth{vif}"\nlan = "lan-{lan}"\n'
-            )
-    hosts = rng.sample(range(0x0A000001, 0x0B000000), 4096 // share)
-    for host in hosts:
-        lines.append(f'\n[[source]]\naddress = "{dotted(host)}"\nlan = "lan-{rng.randrange(lans)}"\n')
-    for host, group in zip(hosts, rng.sample(range(0xEF000000, 0xF0000000), len(hosts))):
-        ttl = rng.randrange(1, 256)
-        lines.append(f'\n[[flow]]\nsource = "{dotted(host)}"\ngroup = "{dotted(group)}"\nttl = {ttl}\n')
-    return "".join(lines)
+def cases_of(folder):
+    """The case of each command."""
+    with open(f"{folder}/facts", encoding="ascii") as file:
+        facts = json.load(file)
+    with open(f"{folder}/answer", "w", encoding="ascii") as file:
+        file.write(facts["answer"])
+    unwanted = int(facts["answer"] != "wanted\n")
+    return {
+        "check": Case(["check"], f"{folder}/certified", f"{folder}/verdicts", 0),
+        "make": Case(["make"], f"{folder}/bundle", f"{folder}/certificate", 0),
+        "replay": Case(["replay", "1", str(facts["ttl"])], f"{folder}/bundle", f"{folder}/travel", 0),
+        "audit": Case(["audit", f"{folder}/files"], f"{folder}/files", f"{folder}/verdicts", 0),
+        "wants": Case(["wants", *facts["words"]], f"{folder}/files/{facts['list']}", f"{folder}/answer", unwanted),
+    }
 
 
-def domain(rng, share):
-    """All counts at their limits, and 64 reports of each LAN."""
-    return Domain(rng, 1024 // share, 256 // share, 4096 // share).forwarded(64)
+def run_once(program, case, folder):
+    """What one run took, if it answered as it must."""
+    source = "/dev/null" if os.path.isdir(case.path) else case.path
+    status, seconds, kib = spawn([program, *case.words], source, folder)
+    difference = first_difference(f"{folder}/stdout", case.wanted)
+    if status != case.status or difference:
+        with open(f"{folder}/stderr", encoding="utf-8", errors="replace") as file:
+            said = file.read(400)
+        raise Unexpected(
+            f"{program} {' '.join(case.words)}: status {status}, not {case.status}; its first other line, and the one"
+            f" that was wanted: {difference}; on standard error: {said!r}"
+        )
+    return seconds, kib
 
 
-def domain_flows(rng, share):
-    """The same, of which only the flows become fewer."""
-    return Domain(rng, 1024, 256, 4096 // share).forwarded(64)
+def make_domain(name, share, folder):
+    """Writes the texts of a domain, by a process of its own."""
+    os.mkdir(folder)
+    subprocess.run([sys.executable, f"{HERE}/shapes.py", name, str(share), folder], check=True)
+    return cases_of(folder)
 
 
-def reports_of_groups(rng, share):
-    """One LAN with 65,536 reports, over all groups of 4,096 flows."""
-    return Domain(rng, 1024, 256, 4096).reported(65536 // share)
+class Taken:
+    """What the runs of one case took so far: of each program, and of `wc -l` over the same bytes."""
+
+    def __init__(self, case, folder, programs):
+        self.case = case
+        self.folder = folder
+        self.programs = programs
+        self.runs = [[] for _ in programs]
+        self.lines = []
+
+    def is_enough(self, runs):
+        """Whether it was run as often as asked for, and, where that is short, some more."""
+        took = sum(seconds for seconds, _ in self.runs[0])
+        return len(self.lines) >= runs and (took >= SHORT or len(self.lines) >= MORE * runs)
+
+    def run(self):
+        """Runs it once more."""
+        path = self.case.path
+        files = sorted(entry.path for entry in os.scandir(path)) if os.path.isdir(path) else [path]
+        self.lines.append(spawn(["wc", "-l", *files], "/dev/null", self.folder)[1])
+        for program, runs in zip(self.programs, self.runs):
+            runs.append(run_once(program, self.case, self.folder))
+
+    def best(self):
+        """The least time and the most memory."""
+        seconds = [min(seconds for seconds, _ in runs) for runs in self.runs]
+        memory = [max(kib for _, kib in runs) for runs in self.runs]
+        return results.Measure(size_of(self.case.path), min(self.lines), seconds, memory)
 
 
-def reports_of_one_group(rng, share):
-    """One LAN with 65,536 reports, of the one group of 4,096 flows."""
-    return Domain(rng, 1024, 256, 4096, one_group=True).reported(65536 // share)
+def measure_together(programs, domains, runs):
+    """What the commands took on some domains, each a name, a share and commands.
+
+    All are made first, and run by turns, so that another load of the machine falls on all alike."""
+    place = MEMORY if os.path.isdir(MEMORY) else None
+    with tempfile.TemporaryDirectory(dir=place) as folder:
+        rooms = [f"{folder}/{number}" for number in range(len(domains))]
+        cases = [make_domain(name, share, room) for (name, share, _), room in zip(domains, rooms)]
+        taken = [{} for _ in domains]
+        for command in COMMANDS:
+            here = [n for n, (_, _, commands) in enumerate(domains) if command in commands]
+            for number in here:
+                taken[number][command] = Taken(cases[number][command], folder, programs)
+            waiting = [(domains[number], taken[number][command]) for number in here]
+            while waiting:
+                for domain, one in waiting:
+                    try:
+                        one.run()
+                    except Unexpected as fault:
+                        sys.exit(f"run.py: {domain[0]} at {domain[1]}: {fault}")
+                waiting = [(domain, one) for domain, one in waiting if not one.is_enough(runs)]
+        return [{command: one.best() for command, one in all_of_it.items()} for all_of_it in taken]
 
 
-def travel(rng, share):
-    """8,192 interfaces, and a flow that reaches all of its LANs, among 256 flows."""
-    return Domain(rng, 1024 // share, 256 // share, 256).forwarded(0)
+def measure_shape(programs, name, sizes, runs):
+    """The measures of each command at its sizes, the smallest first."""
+    taken = measure_together(programs, [(name, share, commands) for share, commands in sizes], runs)
+    return {command: [size[command] for size in taken if command in size] for command in taken[0]}
 
 
-def served(rng, share):
-    """Flows of one source that go the same way to 1,024 LANs."""
-    return Tree(rng, 4096 // share).served()
+def measure_reading(programs, runs):
+    """The measures of a check with a certificate that is read by either of two ways, and of a replay without it."""
+    commands = ["check", "replay"]
+    taken = measure_together(programs, [(name, READING, commands) for name in shapes.READING], runs)
+    return {name: {each: [one[each]] for each in commands} for name, one in zip(shapes.READING, taken)}
 
 
-# What is made, and the steps that are measured with it.
-TEXTS = (
-    ("cache: different groups", ["cache"], groups),
-    ("cache: ascending groups", ["cache"], ascending_groups),
-    ("cache: sources of one group", ["cache"], sources),
-    ("cache: rows for every source", ["cache"], wildcards),
-    ("vifs", ["vif"], vifs),
-    ("topology", ["topology"], topology),
-    ("domain", ["bundle", "assemble"], domain),
-    ("domain, flows", ["bundle", "assemble"], domain_flows),
-    ("one list: all groups", ["bundle", "assemble"], reports_of_groups),
-    ("one list: one group", ["bundle", "assemble"], reports_of_one_group),
-    ("travel", ["assemble", "travel"], travel),
-    ("flows of one tree", ["examine"], served),
-)
+def measure_all(programs, only, runs):
+    """The measures of all that is asked for, by the names of shapes."""
+    taken = {}
+    for name in asked_for(only):
+        if name == "reading":
+            measured = measure_reading(programs, runs)
+        elif name in shapes.UNKIND:
+            measured = {name: measure_shape(programs, name, UNKIND_SIZES, runs)}
+        else:
+            measured = {name: measure_shape(programs, name, SIZES_OF.get(name, SIZES), runs)}
+        for shape, commands in measured.items():
+            print(results.line_of(shape, commands), file=sys.stderr, flush=True)
+        taken |= measured
+    return taken
 
 
-def run(command):
-    """The seconds that the command took, and its output."""
-    start = time.perf_counter()
-    ended = subprocess.run(command, stdout=subprocess.PIPE, check=True)
-    return time.perf_counter() - start, ended.stdout.decode()
+def asked_for(only):
+    """The names of what is measured."""
+    known = [*shapes.SHAPES, *shapes.UNKIND, "reading"]
+    groups = {"unkind": list(shapes.UNKIND)}
+    names = [name for word in only.split(",") for name in groups.get(word, [word])] if only else known
+    for name in names:
+        if name not in known:
+            sys.exit(f"run.py: no shape is named {name}: there are {', '.join([*known, *groups])}")
+    return names
 
 
-def measured(measure, step, path, runs):
-    """The best times of the step, of the whole process and of `wc -l`, and the memory."""
-    took = whole = lines = float("inf")
-    memory = 0
-    for _ in range(runs):
-        all_of_it, output = run([measure, step, path])
-        micros, answer, kib, _ = output.split()
-        if answer != "good":
-            sys.exit(f"run.py: {step} of {path} was refused")
-        took, whole, memory = min(took, int(micros) / 1e6), min(whole, all_of_it), max(memory, int(kib))
-        lines = min(lines, run(["wc", "-l", path])[0])
-    return took, whole, memory, lines
+def words_of_command():
+    """What is asked for; wrong words end the run."""
+    parser = argparse.ArgumentParser(description="Measures a built program on domains of ten shapes and more.")
+    parser.add_argument("program")
+    parser.add_argument("before", nargs="?", help="an earlier build, to be measured beside it")
+    parser.add_argument("--only", metavar="NAMES", default="", help="names of shapes, with commas between")
+    parser.add_argument("--runs", metavar="N", type=int, default=3, help="the best of so many runs")
+    parser.add_argument("--write", metavar="FILE", help="writes the tables into this file too")
+    parser.add_argument("--commit", metavar="WORD", help="what the program was built of")
+    parser.add_argument("--before-commit", metavar="WORD", help="what the earlier one was built of")
+    parser.add_argument("--bounds", metavar="NAMES", default="", help="fails where one of these bounds is missed")
+    asked = parser.parse_args()
+    if asked.runs < 1:
+        parser.error("at least one run has to be made")
+    asked.bounds = [name for name in asked.bounds.split(",") if name]
+    for name in asked.bounds:
+        if name not in results.BOUNDS:
+            parser.error(f"no bound is named {name}: there are {', '.join(results.BOUNDS)}")
+    asked.programs = [os.path.abspath(path) for path in (asked.program, asked.before) if path]
+    for program in asked.programs:
+        if not os.access(program, os.X_OK):
+            parser.error(f"{program} can't be run")
+    return asked
 
 
 def main():
-    measure, runs = sys.argv[1], int(sys.argv[2]) if len(sys.argv) > 2 else 9
-    among = sys.argv[3] if len(sys.argv) > 3 else ""
-    print(
-        f"{'text':30} {'step':>11} {'bytes':>9} {'lines':>7} {'step':>10} {'whole':>10} {'memory':>11}"
-        f" {'wc -l':>8} {'step / wc':>9}"
-    )
+    asked = words_of_command()
+    signal.signal(signal.SIGTERM, lambda number, _: sys.exit(128 + number))  # so that its files go
+    programs = asked.programs
+    commits = [asked.commit or results.commit_here(HERE), asked.before_commit or "an earlier build"][: len(programs)]
     with tempfile.TemporaryDirectory() as folder:
-        for name, steps, make in (text for text in TEXTS if among in text[0]):
-            for share in SHARES:
-                text = make(random.Random(SEED), share)
-                path = f"{folder}/text"
-                with open(path, "w", encoding="ascii") as file:
-                    file.write(text)
-                title = name if share == 1 else f"{name}, 1/{share}"
-                for step in steps:
-                    took, whole, memory, lines = measured(measure, step, path, runs)
-                    print(
-                        f"{title:30} {step:>11} {len(text):9} {text.count(chr(10)):7} {took * 1e3:7.2f} ms"
-                        f" {whole * 1e3:7.2f} ms {memory:7} KiB {lines * 1e3:5.2f} ms {took / lines:9.1f}",
-                        flush=True,
-                    )
+        floor = spawn(["true"], "/dev/null", folder)[2]
+    taken = measure_all(programs, asked.only, asked.runs)
+    page = results.page_of(taken, commits, asked.runs, floor)
+    print(page)
+    if asked.write:
+        with open(asked.write, "w", encoding="utf-8") as file:
+            file.write(page)
+    missed = results.missed_bounds(taken, asked.bounds)
+    if missed:
+        sys.exit("\n".join(f"run.py: {line}" for line in missed))
 
 
-main()
+if __name__ == "__main__":
+    main()

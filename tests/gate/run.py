@@ -5,15 +5,16 @@
 
 It works on a copy of the repository, in steps:
 
+  packages  tests/packages.sh installs what of the file `packages` is missing; what can't be had ends the gate by name
   proofs    `rt ci` proves each crate and its tests from nothing, runs the tests, and builds and runs the program
   edits     tests/edits/try.py tries the wrong bodies of crates/*/must-fail, many in one check: the prover must
             refuse each. (The copy that `rt ci` sees has none of them: it would try each in a check of its own.)
   cases     tests/cli on the program that was built, tests/refusals, which refuses it each request for memory,
             each read and each write in turn, and tests/tools on the shell tools
 
-Where the proofs fail, it ends there. What only `make bench` needs, the crate `measure`, is left out. At the end
-stands what each step and each crate took in processor time; with REPORT, a path, the same as a page in
-Markdown. The last line counts everything, `N passed, M failed`, and the status is 0 if nothing failed.
+Where a package is missing or the proofs fail, it ends there. At the end stands what each step and each crate took in
+processor time; with REPORT, a path, the same as a page in Markdown. The last line counts everything, `N passed, M
+failed`, and the status is 0 if nothing failed.
 """
 import os
 import re
@@ -25,7 +26,6 @@ import tempfile
 import threading
 import time
 
-LEFT_OUT = {"measure"}
 MARK = "MCAUDIT_GATE"
 TICK = os.sysconf("SC_CLK_TCK")
 COUNTS = re.compile(r"(\d+) passed, (\d+) failed")
@@ -113,16 +113,12 @@ def copy_repository(root, room):
     edits = []
     for path in sorted(set(filter(None, listed))):
         parts = path.split("/")
-        if not os.path.lexists(f"{root}/{path}") or parts[0] == "crates" and parts[1] in LEFT_OUT:
+        if not os.path.lexists(f"{root}/{path}"):
             continue
         if parts[0] == "crates" and parts[2:3] == ["must-fail"]:
             edits.append(path)
             continue
         copy_file(root, room, path)
-    with open(f"{room}/crates.txt", encoding="utf-8") as file:
-        lines = [line for line in file if line.partition(":")[0] not in LEFT_OUT]
-    with open(f"{room}/crates.txt", "w", encoding="utf-8") as file:
-        file.writelines(lines)
     return edits
 
 
@@ -176,7 +172,9 @@ def main():
         prover = Prover(room)
         edits = copy_repository(root, room)
         gate = Gate(room)
-        gate.step("proofs, tests and programs", "rt", "ci")
+        gate.step("packages", "sh", "tests/packages.sh", "gate")
+        if not gate.failed:
+            gate.step("proofs, tests and programs", "rt", "ci")
         if not gate.failed:
             for path in edits:
                 copy_file(root, room, path)

@@ -35,7 +35,9 @@ _mcaudit_tool() {
     COMPREPLY=()
     case $before in
         -o | --routers | --capture) kind='file' ;;
+        --all) kind=directory ;;
         --readings | --pause | --timeout | --at-once | --ssh | --wait | --slack) return ;;
+        --tries | --static | --by | --shell | --ttl | --measure | --count | --tenths) return ;;
     esac
     case $word in
         -*) mapfile -t COMPREPLY < <(compgen -W "$*" -- "$word") ;;
@@ -47,14 +49,40 @@ _mcaudit_tool() {
 
 _mcaudit_collect() {
     _mcaudit_tool "${COMP_WORDS[COMP_CWORD]}" "${COMP_WORDS[COMP_CWORD - 1]}" directory \
-        --routers --adopt --readings --pause --timeout --at-once --ssh --help
+        --routers --adopt --readings --pause --timeout --at-once --ssh --facts --shell --version --help
+}
+
+_mcaudit_draft() {
+    _mcaudit_tool "${COMP_WORDS[COMP_CWORD]}" "${COMP_WORDS[COMP_CWORD - 1]}" directory \
+        --routers --ssh --timeout --ttl --measure --update --version --help
+}
+
+_mcaudit_query() {
+    _mcaudit_tool "${COMP_WORDS[COMP_CWORD]}" "${COMP_WORDS[COMP_CWORD - 1]}" file \
+        --count --pause --tenths --print --version --help
+}
+
+_mcaudit_site() {
+    local word=${COMP_WORDS[COMP_CWORD]}
+    if [ "$COMP_CWORD" -eq 1 ]; then
+        mapfile -t COMPREPLY < <(compgen -W 'init lans --version --help' -- "$word")
+    elif [ "${COMP_WORDS[1]}" = init ]; then
+        _mcaudit_tool "$word" "${COMP_WORDS[COMP_CWORD - 1]}" directory \
+            --routers --ssh --ttl --wait --tries --static --ask --empty --help
+    else
+        _mcaudit_tool "$word" "${COMP_WORDS[COMP_CWORD - 1]}" directory --help
+    fi
 }
 
 _mcaudit_reports() {
     _mcaudit_tool "${COMP_WORDS[COMP_CWORD]}" "${COMP_WORDS[COMP_CWORD - 1]}" file \
-        -o --capture --text --wait --slack --help
+        -o --by --capture --text --static --all --empty --ask --tries --wait --slack --routers --ssh \
+        --version --help
 }
 
 complete -F _mcaudit mcaudit
 complete -F _mcaudit_collect mcaudit-collect
+complete -F _mcaudit_draft mcaudit-draft
+complete -F _mcaudit_query mcaudit-query
 complete -F _mcaudit_reports mcaudit-reports
+complete -F _mcaudit_site mcaudit-site

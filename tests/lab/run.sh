@@ -1,10 +1,13 @@
 #!/bin/sh
 # From routers to a verdict, on a network of this machine's kernel: two routers with smcroute, three
-# LANs and two hosts, in network namespaces. The routers' tables are collected by mcaudit-collect, the
-# hosts' reports by mcaudit-reports; mcaudit judges the folder, and its certificate is kept. Then one
-# router gets one entry too many, and mcaudit has to find the second copy that a host sees come, and to
-# say that the tables aren't those of the certificate any more.
-# Usage: run.sh PROGRAM. It needs root, and what is named below; what it made it takes away again.
+# LANs and two hosts, in network namespaces. mcaudit-site makes the whole folder: the topology is drafted
+# of what the routers say, with the times to live of packets that come; the tables are collected, and the
+# hosts asked, since no router of this network asks them; mcaudit judges the folder, and its certificate
+# is kept. Then one router gets one entry too many, and mcaudit has to find the second copy that a host
+# sees come, and to say that the tables aren't those of the certificate any more.
+#
+# The switch of l2 snoops: what it shows of the reports, it shows to the port of the router that asked.
+# Usage: run.sh PROGRAM. It needs root, and the lab's packages; what it made it takes away again.
 #
 #   source 10.77.0.5 -- l0 -- r1 -- l1 -- r2 -- l2 -- member 10.77.2.7
 #                              \________________/
@@ -13,26 +16,21 @@
 # onto l2, and r2 has no entry for it: the one that it gets in the end makes the second copy.
 
 set -u
-missing=
-for command in ip smcrouted smcroutectl tcpdump python3; do
-    command -v "$command" > /dev/null || missing="$missing $command"
-done
-if [ -n "$missing" ]; then
-    echo "the lab needs$missing (Debian: iproute2, smcroute, tcpdump, python3)" >&2
-    exit 1
-fi
 if [ "$(id -u)" -ne 0 ]; then
     echo 'the lab needs root' >&2
     exit 1
 fi
+here=$(cd "$(dirname "$0")" && pwd) || exit 1
+sh "$here/../packages.sh" lab || exit 1
 if [ $# -ne 1 ] || [ ! -x "$1" ]; then
     echo 'Usage: run.sh PROGRAM, the built mcaudit (make)' >&2
     exit 1
 fi
 
 mcaudit=$(cd "$(dirname "$1")" && pwd)/$(basename "$1")
-here=$(cd "$(dirname "$0")" && pwd) || exit 1
-tools=$here/../../tools
+tools=$(cd "$here/../../tools" && pwd) || exit 1
+PATH=$(dirname "$mcaudit"):$PATH
+export PATH
 lab=mclab$$
 scratch=$(mktemp -d) || exit 1
 site=$scratch/site
@@ -80,7 +78,9 @@ build_network() {
             /proc/sys/net/ipv4/conf/default/rp_filter > /dev/null
     done
     for lan in l0 l1 l2; do
-        ip -n "$lab-lans" link add "$lan" type bridge mcast_snooping 0 || fail "no bridge $lan"
+        snooping=0
+        [ "$lan" != l2 ] || snooping=1
+        ip -n "$lab-lans" link add "$lan" type bridge mcast_snooping "$snooping" || fail "no bridge $lan"
         ip -n "$lab-lans" link set "$lan" up
     done
     join source eth0 l0 10.77.0.5
@@ -123,35 +123,32 @@ mroute from eth0 source 10.77.0.5 group 239.1.2.3 to eth1
 END
 }
 
-write_topology() {
-    cat > "$site/topology" <<'END'
-version = 1
-lans = ["l0", "l1", "l2"]
-router = [{name = "r1"}, {name = "r2"}]
-interface = [
-{router = "r1", device = "eth0", lan = "l0"},
-{router = "r1", device = "eth1", lan = "l1"},
-{router = "r1", device = "eth2", lan = "l2"},
-{router = "r2", device = "eth0", lan = "l1"},
-{router = "r2", device = "eth1", lan = "l2"},
-]
-source = [{address = "10.77.0.5", lan = "l0"}]
-flow = [
-{source = "10.77.0.5", group = "239.1.2.3", ttl = 4},
-{source = "10.77.0.5", group = "239.1.2.4", ttl = 4},
-]
-END
+# Sends packets of both flows all the while that the further words run.
+while_sending() {
+    ip netns exec "$lab-source" python3 "$here/traffic.py" source 10.77.0.5 4 3000 239.1.2.3 239.1.2.4 &
+    sending=$!
+    "$@"
+    status=$?
+    kill "$sending"
+    wait "$sending" 2> /dev/null
+    return "$status"
 }
 
-# Gathers the reports of a LAN at a router's device, whose address asks.
-gather_reports() {
-    at "$2" sh "$tools/mcaudit-reports" -o "$site/igmp-$1" --wait 20 "$3" 2> "$scratch/$1.said" &
-    gathering=$!
-    while kill -0 "$gathering" 2> /dev/null; do
-        at "$2" python3 "$here/traffic.py" query "$4" 10
-        sleep 3
-    done
-    wait "$gathering" || fail "reports of $1: $(cat "$scratch/$1.said")"
+# Runs one of the tools that ask all routers of the site.
+on_routers() {
+    tool=$1
+    shift
+    "$tools/$tool" "$@" "$site" "r1=!ip netns exec $lab-r1" "r2=!ip netns exec $lab-r2"
+}
+
+# What the topology has beside its comments.
+print_topology() {
+    sed -e '/^#/d' -e 's/, # .*/,/' "$site/topology"
+}
+
+# The ports behind which the switch of l2 knows of a router.
+print_router_ports() {
+    bridge -n "$lab-lans" -d mdb show dev l2 | sed -n 's/^ *router ports on l2: *\(.*[^ ]\) *$/\1/p'
 }
 
 # Sends three packets of each flow while the member listens, and says what reached it.
@@ -176,10 +173,9 @@ expect() {
     cat "$scratch/printed"
 }
 
-# Collects the routers into a new set; the first time the plain folder becomes a set before.
+# Collects the routers into a new set.
 collect() {
-    sh "$tools/mcaudit-collect" --adopt "$site" "r1=!ip netns exec $lab-r1" "r2=!ip netns exec $lab-r2" ||
-        fail 'the tables were not collected'
+    on_routers mcaudit-collect || fail 'the tables were not collected'
 }
 
 make_certificate() {
@@ -192,14 +188,48 @@ check_certificate() {
 
 build_network
 start_routers
-mkdir "$site"
-write_topology
 ip netns exec "$lab-member" python3 "$here/traffic.py" member 10.77.2.7 600 239.1.2.3 239.1.2.4 \
     > /dev/null &
 started="$started $!"
-gather_reports l0 r1 eth0 10.77.0.1
-gather_reports l1 r1 eth1 10.77.1.1
-gather_reports l2 r2 eth1 10.77.2.2
+
+echo '- Nobody asks on l2, so there is no list of it.'
+expect 1 at r2 "$tools/mcaudit-reports" --empty --wait 2 eth1 < /dev/null
+echo '- The whole folder in one go, of routers and hosts that nobody has asked before.'
+expect 0 print_router_ports < /dev/null
+while_sending on_routers mcaudit-site init --ask --empty --wait 5 > "$scratch/init" 2> "$scratch/said" ||
+    fail "init: $(cat "$scratch/init" "$scratch/said")"
+cat "$scratch/init"
+expect 0 print_topology <<'END'
+version = 1
+lans = [
+"10.77.0.0-24",
+"10.77.1.0-24",
+"10.77.2.0-24",
+]
+router = [
+{name = "r1"},
+{name = "r2"},
+]
+interface = [
+{router = "r1", device = "eth0", lan = "10.77.0.0-24"},
+{router = "r1", device = "eth1", lan = "10.77.1.0-24"},
+{router = "r1", device = "eth2", lan = "10.77.2.0-24"},
+{router = "r2", device = "eth0", lan = "10.77.1.0-24"},
+{router = "r2", device = "eth1", lan = "10.77.2.0-24"},
+]
+source = [
+{address = "10.77.0.5", lan = "10.77.0.0-24"},
+]
+flow = [
+{source = "10.77.0.5", group = "239.1.2.3", ttl = 4},
+{source = "10.77.0.5", group = "239.1.2.4", ttl = 4},
+]
+END
+expect 0 print_router_ports <<'END'
+r1-l2
+END
+while_sending on_routers mcaudit-draft --update > "$scratch/update" 2>&1 ||
+    fail "the topology is another one at once: $(cat "$scratch/update")"
 
 echo '- Right tables: each packet reaches the member once.'
 expect 0 send_packets <<'END'
@@ -230,14 +260,14 @@ collect
 expect 1 "$mcaudit" audit "$site" --travel <<'END'
 flow 10.77.0.5 239.1.2.3 ttl 4 yes copies 3
 flow 10.77.0.5 239.1.2.4 ttl 4 no certificate
-found ttl 255 Duplicate l2
+found ttl 255 Duplicate 10.77.2.0-24
 event r1 0 ttl 255 sent 2 strayed 0
 event r2 0 ttl 254 sent 1 strayed 0
 verdict no
 END
 expect 1 check_certificate <<'END'
 flow 10.77.0.5 239.1.2.3 ttl 4 yes copies 3
-flow 10.77.0.5 239.1.2.4 ttl 4 no Extra r2 1 l2
+flow 10.77.0.5 239.1.2.4 ttl 4 no Extra r2 1 10.77.2.0-24
 verdict no
 END
 echo 'lab: the verdicts are those of the network'

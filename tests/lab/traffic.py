@@ -1,9 +1,6 @@
-"""Multicast traffic for the lab: General Queries, members and a source.
+"""Multicast traffic for the lab: members and a source.
 
-Usage: traffic.py query ADDRESS TENTHS
-           sends one IGMPv3 General Query by the interface of the address; its answers have so many
-           tenths of a second, 1 to 127
-       traffic.py member ADDRESS SECONDS GROUP ...
+Usage: traffic.py member ADDRESS SECONDS GROUP ...
            joins the groups on the interface of the address, and after so many seconds prints for each
            how many packets came
        traffic.py source ADDRESS TTL COUNT GROUP ...
@@ -12,28 +9,10 @@ Usage: traffic.py query ADDRESS TENTHS
 
 import select
 import socket
-import struct
 import sys
 import time
 
 PORT = 5004
-
-
-def checksum(message):
-    """The checksum of a message of whole 16-bit words (RFC 3376, section 4.1.2)."""
-    total = sum(struct.unpack(f"!{len(message) // 2}H", message))
-    while total >> 16:
-        total = (total & 0xFFFF) + (total >> 16)
-    return 0xFFFF - total
-
-
-def query(address, tenths):
-    parts = [0x11, int(tenths), 0, bytes(4), 2, 125, 0]
-    parts[2] = checksum(struct.pack("!BBH4sBBH", *parts))
-    sender = socket.socket(socket.AF_INET, socket.SOCK_RAW, socket.IPPROTO_IGMP)
-    sender.setsockopt(socket.IPPROTO_IP, socket.IP_OPTIONS, bytes([0x94, 4, 0, 0]))
-    sender.setsockopt(socket.IPPROTO_IP, socket.IP_MULTICAST_IF, socket.inet_aton(address))
-    sender.sendto(struct.pack("!BBH4sBBH", *parts), ("224.0.0.1", 0))
 
 
 def member(address, seconds, *groups):
@@ -67,4 +46,4 @@ def source(address, ttl, count, *groups):
 
 
 if __name__ == "__main__":
-    {"query": query, "member": member, "source": source}[sys.argv[1]](*sys.argv[2:])
+    {"member": member, "source": source}[sys.argv[1]](*sys.argv[2:])

@@ -1,9 +1,11 @@
 #!/bin/sh
-# Runs the tools mcaudit-collect and mcaudit-reports on the cases beside this script, and compares what
-# they do with what the case's folder says: by dash with each awk that is installed, by bash, and by
-# busybox sh with busybox's own commands. It needs no network: the folder commands/ has what stands for
-# the ways to a router. The words of the file completion are completed by mcaudit.bash, and shellcheck
-# reads all shell of the tools and of their cases. Usage: run.sh [CASE ...], as collect/unreachable
+# Runs the tools on the cases beside this script, and compares what they do with what the case's folder
+# says: those in shell by dash with each awk that is installed, by bash, and by busybox sh with busybox's
+# own commands; those in Python by the system's python3 and by the one on the path. It needs no network:
+# the folder commands/ has what stands for the ways to a router. The words of the file completion are
+# completed by mcaudit.bash, all tools are to tell one version, and shellcheck reads all shell of the
+# tools and of their cases. What it needs that is not there is named, and is a failure.
+# Usage: run.sh [CASE ...], as collect/unreachable
 #
 # A case has, beside its note:
 #   args       the tool's words, one a line
@@ -15,20 +17,24 @@
 #   output     where standard output goes: /dev/full, or `closed`
 #   limit      how many blocks of 512 bytes a file may have: as a disk with a quota
 #   term       a file: when it is there, the tool gets a TERM
+#   left/      files that lie there afterwards
+#   gone       the names of what is not there afterwards
 #   disk.size  how much the folder disk/ takes: a disk of its own, with disk.filled KB of other things;
-#              it needs the right to mount, and the case is named where that is not given
-# A case of collect/ may have, too:
+#              it needs the right to mount
 #   routers/   the recorded texts of each router, a folder each
+# A case of collect/ may have, too:
 #   before/    the files of the set that the link `site` leads to before (without it: no site); or
 #   plain/     those of the plain folder `site`
 #   after/     those of the new set that `site` leads to afterwards (without it: `site` is as before)
 #   ssh.words  the words that ssh was called with, a line a call, sorted
 # Its outputs are compared line by line, in any order, with TIME for each time.
-# A case of reports/ may have:
+# A case of another tool may have:
 #   stdin      the recorded text; or place/tcpdump.text, with what tcpdump says when it ends in
 #              place/tcpdump.said, for the words that call tcpdump
-#   after/     the files that the folder disk/ has afterwards
-# Whatever the stand-ins write into the file `pids` is to have ended with the tool.
+#   after/     the files that the folder disk/ has afterwards; of draft/ and site/ those of disk/site,
+#              with N for each digit of a rate
+#   any.order  a file: when it is there, the lines of the outputs come in any order
+# Whatever the stand-ins write into the file `pids` is to have ended with the tool, and no case takes 50 s.
 #
 # The last line counts the cases: N passed, M failed. The status is 0 if none failed and one was run.
 
@@ -41,7 +47,8 @@ trap 'exit 1' HUP INT TERM
 mkdir "$scratch/none" "$scratch/results"
 first=20260101T000000Z
 runs=0
-applets='cp date grep ln ls mkdir mktemp mv od readlink rm rmdir sed setsid sh sleep sync tail timeout tr wc'
+parts=6
+applets='cp date grep ln ls mkdir mkfifo mktemp mv od readlink rm rmdir sed setsid sh sleep sync tail timeout tr wc'
 wanted_cases=$*
 
 expected_of() {
@@ -49,7 +56,8 @@ expected_of() {
 }
 
 without_times() {
-    sed -e 's/[0-9]\{8\}T[0-9]\{6\}Z/TIME/g' -e 's/"[-0-9]\{10\}T[:0-9]\{8\}Z"/"TIME"/g' "$@"
+    sed -e 's/[0-9]\{8\}T[0-9]\{6\}Z/TIME/g' -e 's/"[-0-9]\{10\}T[:0-9]\{8\}Z"/"TIME"/g' \
+        -e ':digit' -e 's/[0-9]\([0-9.N]* \(packets\|bit\|kbit\|Mbit\)\/s\)/N\1/' -e 't digit' "$@"
 }
 
 # Compares an output, stdout or stderr, with what the case's folder $1 says.
@@ -62,8 +70,8 @@ judge_output() {
         done < "$1/$2.has"
         return
     fi
-    case $1 in
-        */collect/*)
+    case $1$(ls "$1") in
+        */collect/* | *any.order*)
             sort "$(expected_of "$1/$2" "$scratch/empty")" > "$2.wanted"
             sort "$2.told" | diff "$2.wanted" - ;;
         *) diff "$(expected_of "$1/$2" "$scratch/empty")" "$2.told" ;;
@@ -74,7 +82,9 @@ judge_output() {
 same_folder() {
     rm -rf "$place.copy"
     cp -RL "$2/." "$place.copy" || return 1
-    [ ! -f "$2/collected.json" ] || without_times "$2/collected.json" > "$place.copy/collected.json"
+    for file in collected.json topology; do
+        [ ! -f "$2/$file" ] || without_times "$2/$file" > "$place.copy/$file"
+    done
     diff -r "$1" "$place.copy"
 }
 
@@ -115,6 +125,12 @@ judge() {
     if [ -f "$1/ssh.words" ]; then
         sort ssh.words | diff "$1/ssh.words" - || return 1
     fi
+    for file in "$1"/left/*; do
+        [ ! -f "$file" ] || diff "$file" "${file##*/}" || return 1
+    done
+    while read -r name; do
+        [ ! -e "$name" ] || { echo "there is a $name"; return 1; }
+    done < "$(expected_of "$1/gone" "$scratch/empty")"
     if [ -f pids ]; then
         while read -r process; do
             ! is_alive "$process" || { echo "a command lives on"; kill "$process"; return 1; }
@@ -122,6 +138,7 @@ judge() {
     fi
     case $1 in
         */collect/*) judge_site "$1" ;;
+        */draft/* | */site/*) [ ! -d "$1/after" ] || same_folder "$1/after" disk/site/ ;;
         *) [ ! -d "$1/after" ] || diff -r "$1/after" disk ;;
     esac
 }
@@ -206,11 +223,14 @@ run_case() {
     folder=$1
     shift
     : > stdout
+    started=$(date +%s)
     (run_tool "$folder" "$tool" "$@") &
     [ ! -f "$folder/term" ] || end_at "$(cat "$folder/term")" $!
     wait $! 2> /dev/null
     status=$?
     rm -f disk/filler
+    took=$(($(date +%s) - started))
+    [ "$took" -lt 50 ] || { echo "it took $took s"; return 1; }
     judge "$folder"
 }
 
@@ -224,6 +244,9 @@ choose_commands() {
     AWK=$*
     export AWK
     case $shell in
+        *python*)
+            ln -s "$dash" "$commands.below/sh"
+            ln -s "$shell" "$commands.below/python3" ;;
         *busybox*)
             for applet in $applets; do
                 ln -s "${shell%% *}" "$commands.below/$applet"
@@ -233,32 +256,41 @@ choose_commands() {
     PATH=$commands:$commands.below:$PATH
 }
 
-# Runs all cases by the shell with the awk of the further words, and counts them in a file of results.
+# Runs all cases of the kinds $2 by the shell with the awk of the further words; with parts, only those
+# whose number leaves $part.
 run_by() {
     shell=$1
-    work=$2
-    shift 2
+    kinds=$2
+    work=$3
+    shift 3
     place=$work.place
     choose_commands "$work.commands" "$@"
-    for folder in "$here"/collect/*/ "$here"/reports/*/; do
+    number=0
+    for folder in "$here"/*/*/; do
         folder=${folder%/}
         kind=$(basename "$(dirname "$folder")")
         name=$kind/$(basename "$folder")
+        case " $kinds " in
+            *" $kind "*) ;;
+            *) continue ;;
+        esac
         case " $wanted_cases " in
             '  ' | *" $name "*) ;;
             *) continue ;;
         esac
+        number=$((number + 1))
+        [ -z "$part" ] || [ $((number % parts)) -eq "$part" ] || continue
         (run_case "$folder" "$kind") > "$work.difference" 2>&1
         case $? in
             0) echo passed ;;
-            2) echo "not tried: $name, since nothing can be mounted" ;;
+            2) echo "failed: $name, since nothing can be mounted" ;;
             *) echo "failed: $name by $shell with $*"; cat "$work.difference" ;;
         esac
     done 2>&1
 }
 
-# Begins to run all cases beside the others, unless they are run so already: by the shell $1, with the
-# awk of the further words.
+# Begins to run all cases of the tools in shell beside the others, unless they are run so already: by the
+# shell $1, with the awk of the further words.
 begin() {
     case $begun in
         *" $1 $(readlink -f "$2") "*) return ;;
@@ -267,7 +299,23 @@ begin() {
     runs=$((runs + 1))
     by=$1
     shift
-    run_by "$by" "$scratch/run$runs" "$@" > "$scratch/results/$runs" &
+    part=
+    run_by "$by" 'collect reports' "$scratch/run$runs" "$@" > "$scratch/results/$runs" &
+}
+
+# Begins to run all cases of the tools in Python by this Python, some parts side by side, since most of
+# their time is spent waiting.
+begin_python() {
+    case $begun in
+        *" $(readlink -f "$1") "*) return ;;
+    esac
+    begun="$begun $(readlink -f "$1") "
+    part=0
+    while [ "$part" -lt "$parts" ]; do
+        runs=$((runs + 1))
+        run_by "$1" 'draft query site' "$scratch/run$runs" "$awk" > "$scratch/results/$runs" &
+        part=$((part + 1))
+    done
 }
 
 # Completes the words of the file completion in a folder that has one folder and one file.
@@ -280,17 +328,41 @@ complete_words() {
 
 # Reads all shell with shellcheck.
 check_shell() {
-    shellcheck "$tools"/mcaudit-* "$tools/mcaudit.bash" "$here"/*.sh "$here"/commands/* "$here"/../lab/run.sh
+    cd "$here/../.." || return 1
+    # shellcheck disable=SC2046 # names without spaces
+    shellcheck $(grep -lE '^#!/bin/(ba)?sh' tools/* tests/tools/*.sh tests/tools/commands/* tests/lab/*.sh \
+        tests/*.sh) tools/mcaudit.bash
 }
 
-# Runs the further words as a case of this name, or names it where the command $2 is not there.
+# Asks all tools for their version: it is one.
+compare_versions() {
+    for tool in "$tools"/mcaudit-*; do
+        "$tool" --version
+    done > versions || return 1
+    sed 's/^mcaudit-[a-z]* //' versions | sort -u > version
+    cat versions
+    [ "$(wc -l < version)" -eq 1 ] && grep -qx '[0-9.]*' version
+}
+
+# Asks for a package that can't be had, where apt-get installs nothing: it is named, and a failure.
+want_package() {
+    mkdir -p wanting/tests wanting/commands && cp "$here/../packages.sh" wanting/tests || return 1
+    echo 'no-such-package no-such-command gate' > wanting/packages
+    printf '#!/bin/sh\nexit 100\n' > wanting/commands/apt-get && chmod 755 wanting/commands/apt-get
+    PATH=$PWD/wanting/commands:$PATH sh wanting/tests/packages.sh gate > wanting/said 2>&1 && return 1
+    cat wanting/said
+    grep -qx 'the gate needs these packages, which are not there: no-such-package' wanting/said &&
+        sh wanting/tests/packages.sh lab
+}
+
+# Runs the further words as a case of this name, which needs the command $2.
 run_apart() {
     name=$1
     command=$2
     shift 2
     if ! command -v "$command" > /dev/null; then
-        echo "not tried: $name, since there is no $command"
-    elif ("$@") > "$scratch/difference" 2>&1; then
+        echo "failed: $name, since there is no $command"
+    elif (cd "$scratch" && "$@") > "$scratch/difference" 2>&1; then
         echo passed
     else
         echo "failed: $name"
@@ -308,10 +380,17 @@ done
 path=$(command -v busybox) && begin "$dash" "$path" awk
 path=$(command -v bash) && begin "$path" "$awk"
 path=$(command -v busybox) && begin "$path sh" "$awk"
-run_apart completion bash complete_words
-run_apart shellcheck shellcheck check_shell
-for other in dash bash busybox mawk gawk original-awk; do
-    command -v "$other" > /dev/null || echo "not tried: $other, which is not there"
+for path in /usr/bin/python3 python3; do
+    path=$("$path" -c 'import sys; print(sys.executable)') && begin_python "$path"
+done
+if [ -z "$wanted_cases" ]; then
+    run_apart completion bash complete_words
+    run_apart versions python3 compare_versions
+    run_apart packages sh want_package
+    run_apart shellcheck shellcheck check_shell
+fi
+for other in dash bash busybox mawk gawk original-awk python3; do
+    command -v "$other" > /dev/null || echo "failed: $other, which is not there" > "$scratch/results/$other"
 done
 wait
 cat "$scratch"/results/* 2> /dev/null | grep -v '^passed$'

@@ -32,7 +32,7 @@
 #   stdin      the recorded text; or place/tcpdump.text, with what tcpdump says when it ends in
 #              place/tcpdump.said, for the words that call tcpdump
 #   after/     the files that the folder disk/ has afterwards; of draft/ and site/ those of disk/site,
-#              with N for each digit of a rate
+#              with N for each rate, which hangs on how long the machine took between two readings
 #   any.order  a file: when it is there, the lines of the outputs come in any order
 # Whatever the stand-ins write into the file `pids` is to have ended with the tool, and no case takes 50 s.
 #
@@ -57,7 +57,7 @@ expected_of() {
 
 without_times() {
     sed -e 's/[0-9]\{8\}T[0-9]\{6\}Z/TIME/g' -e 's/"[-0-9]\{10\}T[:0-9]\{8\}Z"/"TIME"/g' \
-        -e ':digit' -e 's/[0-9]\([0-9.N]* \(packets\|bit\|kbit\|Mbit\)\/s\)/N\1/' -e 't digit' "$@"
+        -e 's/[0-9][0-9.]* \(packets\|bit\|kbit\|Mbit\)\/s/N \1\/s/g' "$@"
 }
 
 # Compares an output, stdout or stderr, with what the case's folder $1 says.

@@ -1,6 +1,6 @@
 -- What a call does to the number of a device's calls that failed.
 use Rattle.std.specs.Prelude.{ℕ, ◌+◌, ◌<◌, ◌==◌, ◌&&◌, nat_lt, List, length, take, Option, Result}
-use Rattle.std.specs.Prelude.{Ok, Err, if◌then◌else◌}
+use Rattle.std.specs.Prelude.{Ok, Err, Bool, true, cond, if◌then◌else◌}
 use Rattle.std.specs.Io.KnownBytes.{Appends}
 use Rattle.mc_text.specs.declared.device.DeviceFault.{DeviceFault}
 
@@ -19,6 +19,16 @@ failed_by_write (Err e) text before = before + 1
 abbrev pub failed_by_write_all : {X : Type 0} → Result X DeviceFault → ℕ → ℕ
 failed_by_write_all (Ok x) before = before
 failed_by_write_all (Err e) before = before + 1
+
+-- A call that ends with the first failure adds one failure of the device where its fault is the
+-- device's own, and none else.
+abbrev pub counted : {X E : Type 0} → (E → Bool) → Result X E → ℕ → ℕ
+counted is_own (Ok x) before = before
+counted is_own (Err e) before = cond (is_own e) (before + 1) before
+
+-- each fault of a device is its own
+abbrev pub is_failure : DeviceFault → Bool
+is_failure e = true
 
 -- a proper part of the text was taken, from its front
 abbrev pub AppendsPart : Option (List ℕ) → Option (List ℕ) → List ℕ → Type 0

@@ -1,8 +1,14 @@
 -- What a call that reads many times does.
-use Rattle.std.specs.Prelude.{◌≡◌, ℕ, ◌+◌, ◌≤◌, List, ◌++◌, length, Option, Result, Ok, Err}
+use Rattle.std.specs.Prelude.{◌≡◌, ℕ, ◌+◌, ◌≤◌, Bool, true, false, List, ◌++◌, length, Option}
+use Rattle.std.specs.Prelude.{Result, Ok, Err}
 use Rattle.std.specs.Io.KnownBytes.{Consumes}
 use Rattle.mc_text.specs.declared.input_bytes.ReadFault.{ReadFault}
 use Rattle.mc_text.specs.declared.input_bytes.ReadFault.TheVariants.{Read, Memory}
+
+-- whether the fault is a read that failed
+abbrev pub is_read : ReadFault → Bool
+is_read Read = true
+is_read Memory = false
 
 -- it ends with the first read that fails, and want of memory is no failure of the device
 abbrev pub failed_by_reading : {X : Type 0} → Result X ReadFault → ℕ → ℕ

@@ -105,12 +105,6 @@ line_alone n line without some =
     (All-from_recursion (λ b. eqb b 10 ≡ false) line without) in
     rw (one, some) refl
 
--- the lines to come after bytes without a line feed have come
-pub more_begun : (lines : LinesSoFar) (size : ℕ) (bytes more : List ℕ)
-    → lines_to_come lines (bytes ++ more) ≡ lines_to_come (with_begun lines size bytes) more
-more_begun lines size bytes more =
-    ap (lines_from (lines.ended + 1)) (sym (append_assoc lines.begun bytes more))
-
 -- the first of the lines to come, where a line feed stands in the next bytes
 pub first_to_come : (lines : LinesSoFar) (rest more : List ℕ) (end : ℕ)
     → WithoutLineFeed lines.begun → position (λ b. eqb b 10) rest ≡ Some end
@@ -177,12 +171,6 @@ module _ {S A : Type 0} (first : List ℕ) (read : S → List LineText → Resul
         rw (none, zero_is) (header_steps read state lines (header_line first line))
     | inr some ↦ rw (some, ← numbered) (steps.line state line lines)
   ]
-
-  -- bytes without a line feed change nothing of what reading gives
-  pub read_more : (lines : LinesSoFar) (size : ℕ) (state : S) (bytes more : List ℕ)
-      → read_after first (read state) lines (bytes ++ more)
-      ≡ read_after first (read state) (with_begun lines size bytes) more
-  read_more lines size state bytes more = rw (more_begun lines size bytes more) refl
 
   -- once a line has ended, the others are read
   once_ended : (lines : LinesSoFar) (state : S) (more : List ℕ)

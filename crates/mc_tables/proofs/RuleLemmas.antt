@@ -1,5 +1,5 @@
 -- What tables keep, whatever text they were read from.
-use Rattle.std.proofs.Common.{◌≡◌, ◌≢◌, ◌≤◌, ℕ, false, List, Option, Some, Result, Ok, Err, sym}
+use Rattle.std.proofs.Common.{◌≡◌, ◌≢◌, ◌≤◌, ℕ, false, List, Option, Some, sym}
 use Rattle.std.proofs.Common.{subst, ◌∙◌}
 use Rattle.std.specs.Prelude.{IfSome, ◌↔◌}
 use Rattle.std.specs.List.{IsDistinct, AllByRecursion, filter_map}
@@ -9,16 +9,13 @@ use Rattle.std.specs.FinMap.{FinMap, from_entries, get-from_entries}
 use Rattle.std.proofs.lemmas.Bool.{both_ways}
 use Rattle.std.proofs.lemmas.Slice.Eq.{bytes_eq-Decides}
 use Rattle.mc_text.specs.declared.addr.Order.{Order}
-use Rattle.mc_tables.specs.declared.fault.TableFault.{TableFault}
-use Rattle.mc_tables.specs.Memory.{out_of_memory}
-use Rattle.mc_tables.specs.CacheReading.{cache_in}
 use Rattle.mc_tables.specs.declared.entry.Entry.{Entry}
 use Rattle.mc_tables.specs.VifTable.{VifText, no_device, device_of}
 use Rattle.mc_tables.specs.VifLookups.{HasDevice, IsVifTable, first_index_with}
 use Rattle.mc_tables.specs.CacheTable.{RowText, CacheText, IsEntry, IsCache, StandsForCache}
 use Rattle.mc_tables.specs.CacheTable.{exact_entry, table_of}
 use Rattle.mc_tables.proofs.VifLookupLemmas.{index_only_in_map, index_in_map}
-use Rattle.mc_tables.proofs.CacheLemmas.{key_total, cache_found}
+use Rattle.mc_tables.proofs.CacheLemmas.{key_total}
 use Rattle.mc_tables.proofs.CacheLookupLemmas.{zero_absent}
 use Rattle.mc_tables.proofs.EntryLemmas.{HaveEntries, rows_stand, found_stands}
 
@@ -65,12 +62,3 @@ pub cache_is : (order : Order) (text : List ℕ) (table : CacheText) → StandsF
 cache_is order text table stands =
     subst IsCache (sym stands.as_table)
     (cache_rules stands.rows (rows_stand order stands.lines.lines stands.rows stands.lines.told))
-
--- and so does a table that was read
-pub read_keeps_rules : (order : Order) (text : List ℕ) (read : Result CacheText TableFault)
-    (table : CacheText) →
-    read ≡ Ok table → ((read ≡ Err out_of_memory → ⊥) → read ≡ cache_in order text) → IsCache table
-read_keeps_rules order text read table is exact =
-    let read_as : read ≡ cache_in order text =
-    exact (λ e. let wrong : Ok table ≡ Err out_of_memory = sym is ∙ e in absurd cc) in
-    cache_is order text table (cache_found order text table (sym read_as ∙ is))

@@ -163,9 +163,6 @@ slice_get-in [] i x e = absurd cc
 slice_get-in (y ∷ xs) zero x e = inl cc
 slice_get-in (y ∷ xs) (suc i) x e = inr (slice_get-in xs i x e)
 
-pub remove-zero : {A : Type 0} (x : A) (xs : List A) → remove (x ∷ xs) 0 ≡ xs
-remove-zero x xs = refl
-
 pub in-remove : {A : Type 0} (x : A) (xs : List A) (i : ℕ) → In x (remove xs i) → In x xs
 in-remove x [] zero h = h
 in-remove x [] (suc i) h = h

@@ -13,7 +13,8 @@ use Rattle.mc_text.specs.AddressWord.{printed_octets, IsAddressWord}
 use Rattle.mc_text.specs.Hex.{decode_of}
 use Rattle.mc_text.proofs.AddrLemmas.{octets_of-from, from_octets_fits, decoded_fit}
 use Rattle.mc_text.proofs.AddrLemmas.{length-printed_octets}
-use Rattle.mc_tables.specs.TableWords.{WritesAddress, octets_in_order, address_of_octets}
+use Rattle.mc_text.specs.AddressReading.{octets_in_order, address_of_octets}
+use Rattle.mc_tables.specs.TableWords.{WritesAddress}
 use Rattle.mc_tables.specs.TableWords.{address_in}
 use Rattle.mc_tables.proofs.WordLemmas.{option_from_clauses, guarded_is}
 

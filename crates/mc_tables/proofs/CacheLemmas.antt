@@ -30,7 +30,8 @@ use Rattle.mc_tables.specs.CacheTable.{StandsForCache}
 use Rattle.mc_tables.specs.CacheReading.{oifs_in, incoming_number, incoming_in, entry_in}
 use Rattle.mc_tables.specs.CacheReading.{row_in_words, entry_repeats, row_in_line, row_at}
 use Rattle.mc_tables.specs.CacheReading.{cache_rows_in, cache_in}
-use Rattle.mc_tables.proofs.StepLemmas.{bind_ok, demand_then, ok_or_ok, at_line_ok, ok_is}
+use Rattle.mc_text.proofs.StepLemmas.{bind_ok, ok_or_ok, ok_is}
+use Rattle.mc_tables.proofs.StepLemmas.{demand_then, at_line_ok}
 use Rattle.mc_tables.proofs.WordLemmas.{number_found, number_only}
 use Rattle.mc_tables.proofs.AddressLemmas.{address_found, address_only}
 use Rattle.mc_tables.proofs.KeyLemmas.{distinct_grows, distinct_follows}

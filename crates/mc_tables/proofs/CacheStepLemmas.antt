@@ -14,7 +14,8 @@ use Rattle.std.proofs.lemmas.List.{append-nil}
 use Rattle.std.proofs.lemmas.List.Elements.{filter_map-append}
 use Rattle.mc_tables.specs.declared.entry.Entry.{Entry}
 use Rattle.mc_tables.specs.declared.fault.TableFaultKind.TheVariants.{RepeatedEntry}
-use Rattle.mc_tables.specs.Steps.{◌>>=◌, demand}
+use Rattle.mc_text.specs.Steps.{◌>>=◌}
+use Rattle.mc_tables.specs.Steps.{demand}
 use Rattle.mc_tables.specs.TableLines.{is_among}
 use Rattle.mc_tables.specs.CacheTable.{RowText, CacheText, key_cmp, same_key, exact_entry, key_of}
 use Rattle.mc_tables.specs.CacheTable.{wildcard_of, table_of}

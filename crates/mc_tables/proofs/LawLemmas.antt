@@ -10,7 +10,7 @@ use Rattle.mc_tables.specs.VifLookups.{IsVifTable}
 use Rattle.mc_tables.specs.CacheTable.{CacheText, StandsForCache}
 use Rattle.mc_tables.specs.VifReading.{vifs_in}
 use Rattle.mc_tables.specs.CacheReading.{cache_in}
-use Rattle.mc_tables.proofs.StepLemmas.{ok_is}
+use Rattle.mc_text.proofs.StepLemmas.{ok_is}
 use Rattle.mc_tables.proofs.VifLemmas.{told_to_31, vifs_found, vifs_only}
 use Rattle.mc_tables.proofs.CacheLemmas.{cache_found, cache_only}
 use Rattle.mc_tables.proofs.RuleLemmas.{vif_rules}

@@ -11,13 +11,13 @@ use Rattle.std.proofs.lemmas.Bool.{cases_Bool}
 use Rattle.mc_text.specs.declared.addr.Order.{Order}
 use Rattle.mc_tables.specs.declared.entry.Entry.{Entry}
 use Rattle.mc_tables.specs.declared.fault.TableFault.{TableFault}
-use Rattle.mc_tables.specs.Steps.{◌>>=◌}
+use Rattle.mc_text.specs.Steps.{◌>>=◌}
 use Rattle.mc_tables.specs.CacheTable.{RowText, CacheText, key_cmp, exact_entry}
 use Rattle.mc_tables.specs.CacheTable.{wildcard_of, table_of}
 use Rattle.mc_tables.specs.CacheReading.{cache_rows_in, cache_in}
 use Rattle.mc_tables.specs.ListedRows.{Listed, is_listed, is_kept_key, is_kept, kept_rows, listed_in}
 use Rattle.mc_tables.specs.ListedRows.{IsListedPart}
-use Rattle.mc_tables.proofs.StepLemmas.{bind_ok, ok_is}
+use Rattle.mc_text.proofs.StepLemmas.{bind_ok, ok_is}
 use Rattle.mc_tables.proofs.CacheLemmas.{key_total}
 use Rattle.mc_tables.proofs.RowsSoFarLemmas.{differ}
 

@@ -24,12 +24,14 @@ use Rattle.mc_tables.specs.declared.fault.TableFaultKind.{TableFaultKind}
 use Rattle.mc_tables.specs.declared.fault.TableFaultKind.TheVariants.{BadOif, BadThreshold}
 use Rattle.mc_tables.specs.declared.fault.TableFaultKind.TheVariants.{RepeatedOif}
 use Rattle.mc_tables.specs.TableWords.{number_in}
-use Rattle.mc_tables.specs.Steps.{◌>>=◌, demand}
+use Rattle.mc_text.specs.Steps.{◌>>=◌}
+use Rattle.mc_tables.specs.Steps.{demand}
 use Rattle.mc_tables.specs.TableLines.{EachTells, rows_after}
 use Rattle.mc_tables.specs.CacheTable.{WritesOif, WriteOifs, to_oif, by_vif}
 use Rattle.mc_tables.specs.CacheReading.{oif_in_parts, oif_in, oif_repeats, oif_after, oifs_in}
 use Rattle.mc_tables.specs.OutgoingSteps.{has_vif, with_oif, oifs_with, oifs_after}
-use Rattle.mc_tables.proofs.StepLemmas.{bind_ok, demand_then, ok_or_ok, ok_is}
+use Rattle.mc_text.proofs.StepLemmas.{bind_ok, ok_or_ok, ok_is}
+use Rattle.mc_tables.proofs.StepLemmas.{demand_then}
 use Rattle.mc_tables.proofs.WordLemmas.{number_found, number_only}
 use Rattle.mc_tables.proofs.KeyLemmas.{new_in_distinct}
 use Rattle.mc_tables.proofs.RowLemmas.{ReadsRows, rows_told, rows_read}

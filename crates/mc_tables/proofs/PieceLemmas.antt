@@ -16,7 +16,8 @@ use Rattle.mc_tables.specs.declared.fault.TableFault.{TableFault}
 use Rattle.mc_tables.specs.declared.fault.TableFaultKind.{TableFaultKind}
 use Rattle.mc_tables.specs.declared.fault.TableFaultKind.TheVariants.{NoHeader, Unended, Memory}
 use Rattle.mc_tables.specs.Memory.{out_of_memory, fault_at}
-use Rattle.mc_tables.specs.Steps.{◌>>=◌, at_line}
+use Rattle.mc_text.specs.Steps.{◌>>=◌}
+use Rattle.mc_tables.specs.Steps.{at_line}
 use Rattle.mc_tables.specs.TableLines.{header_in}
 use Rattle.mc_tables.specs.LinesSoFar.{LinesSoFar, AreLinesSoFar, WithoutLineFeed, with_begun}
 use Rattle.mc_tables.specs.LinesSoFar.{with_ended, line_begun, lines_to_come, read_after, header_line}

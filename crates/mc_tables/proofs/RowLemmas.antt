@@ -8,10 +8,12 @@ use Rattle.mc_text.specs.Lines.{LineText, lines_of}
 use Rattle.mc_text.specs.Words.{words_of}
 use Rattle.mc_tables.specs.declared.fault.TableFault.{TableFault}
 use Rattle.mc_tables.specs.declared.fault.TableFaultKind.TheVariants.{NoHeader, Unended, TooLarge}
-use Rattle.mc_tables.specs.Steps.{◌>>=◌, demand, at_line}
+use Rattle.mc_text.specs.Steps.{◌>>=◌}
+use Rattle.mc_tables.specs.Steps.{demand, at_line}
 use Rattle.mc_tables.specs.TableLines.{begins_with, HasHeader, EachTells, header_in, lines_in}
 use Rattle.mc_tables.specs.TableLines.{rows_after}
-use Rattle.mc_tables.proofs.StepLemmas.{bind_ok, demand_ok, demand_then, at_line_ok, ok_is}
+use Rattle.mc_text.proofs.StepLemmas.{bind_ok, ok_is}
+use Rattle.mc_tables.proofs.StepLemmas.{demand_ok, demand_then, at_line_ok}
 
 -- the lines that are read follow a header that ends and begins as it has to
 header_found : (first : List ℕ) (all lines : List LineText) → header_in first all ≡ Ok lines

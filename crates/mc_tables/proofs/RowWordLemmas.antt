@@ -10,7 +10,7 @@ use Rattle.mc_text.specs.declared.addr.Order.{Order}
 use Rattle.mc_tables.specs.declared.fault.TableFaultKind.{TableFaultKind}
 use Rattle.mc_tables.specs.declared.fault.TableFaultKind.TheVariants.{WordCount, BadOif}
 use Rattle.mc_tables.specs.declared.fault.TableFaultKind.TheVariants.{BadThreshold}
-use Rattle.mc_tables.specs.Steps.{◌>>=◌}
+use Rattle.mc_text.specs.Steps.{◌>>=◌}
 use Rattle.mc_tables.specs.TableWords.{number_in}
 use Rattle.mc_tables.specs.CacheReading.{oif_in_parts, oif_in, row_in_words}
 use Rattle.mc_tables.specs.OutgoingSteps.{threshold_in, oif_in_turn}

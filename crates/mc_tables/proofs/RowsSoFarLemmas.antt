@@ -20,7 +20,8 @@ use Rattle.mc_tables.specs.declared.fault.TableFault.{TableFault}
 use Rattle.mc_tables.specs.declared.fault.TableFaultKind.{TableFaultKind}
 use Rattle.mc_tables.specs.declared.fault.TableFaultKind.TheVariants.{Unended, RepeatedEntry}
 use Rattle.mc_tables.specs.declared.fault.TableFaultKind.TheVariants.{TooLarge}
-use Rattle.mc_tables.specs.Steps.{◌>>=◌, demand, at_line, unless_fault}
+use Rattle.mc_text.specs.Steps.{◌>>=◌}
+use Rattle.mc_tables.specs.Steps.{demand, at_line, unless_fault}
 use Rattle.mc_tables.specs.Memory.{fault_at}
 use Rattle.mc_tables.specs.TableLines.{is_among, header_in, rows_after}
 use Rattle.mc_tables.specs.CacheTable.{RowText, CacheText, IsEntry, IsCache, key_cmp, same_key}
@@ -33,7 +34,8 @@ use Rattle.mc_tables.specs.ListedRows.{Listed, is_listed, is_kept_key, is_kept, 
 use Rattle.mc_tables.specs.RowsSoFar.{other_keys, RowsSoFar, rows_so_far, other_added, kept_added}
 use Rattle.mc_tables.specs.RowsSoFar.{one_added, ListedSoFar, listed_so_far, listed_added, row_step}
 use Rattle.mc_tables.specs.RowsSoFar.{table_from, cache_after, CacheSoFar, no_cache, cache_if}
-use Rattle.mc_tables.proofs.StepLemmas.{bind_ok, demand_then, ok_is}
+use Rattle.mc_text.proofs.StepLemmas.{bind_ok, ok_is}
+use Rattle.mc_tables.proofs.StepLemmas.{demand_then}
 use Rattle.mc_tables.proofs.CacheLemmas.{key_total, row_words_found}
 use Rattle.mc_tables.proofs.CacheLookupLemmas.{zero_apart}
 use Rattle.mc_tables.proofs.CacheMapLemmas.{key_antisymmetric}

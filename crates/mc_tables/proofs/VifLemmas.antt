@@ -28,7 +28,8 @@ use Rattle.mc_tables.specs.VifTable.{VifText, is_tunnel, is_register, device_of,
 use Rattle.mc_tables.specs.VifTable.{LineTellsVif, AreVifRows, StandsForVifs}
 use Rattle.mc_tables.specs.VifReading.{device_in, flags_in, vif_in_words, index_repeats}
 use Rattle.mc_tables.specs.VifReading.{device_repeats, vif_in_line, vif_at, vif_rows_in, vifs_in}
-use Rattle.mc_tables.proofs.StepLemmas.{bind_ok, demand_then, if_ok, ok_or_ok, at_line_ok, ok_is}
+use Rattle.mc_text.proofs.StepLemmas.{bind_ok, if_ok, ok_or_ok, ok_is}
+use Rattle.mc_tables.proofs.StepLemmas.{demand_then, at_line_ok}
 use Rattle.mc_tables.proofs.WordLemmas.{number_found, number_only}
 use Rattle.mc_tables.proofs.KeyLemmas.{new_in_distinct, distinct_grows, distinct_follows}
 use Rattle.mc_tables.proofs.RowLemmas.{lines_found, lines_only, ReadsRows, rows_told, rows_read}

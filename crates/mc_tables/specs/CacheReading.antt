@@ -17,7 +17,8 @@ use Rattle.mc_tables.specs.declared.fault.TableFaultKind.TheVariants.{BadCounter
 use Rattle.mc_tables.specs.declared.fault.TableFaultKind.TheVariants.{BadIif, BadOif, BadThreshold}
 use Rattle.mc_tables.specs.declared.fault.TableFaultKind.TheVariants.{RepeatedOif, RepeatedEntry}
 use Rattle.mc_tables.specs.declared.fault.TableFaultKind.TheVariants.{TooLarge}
-use Rattle.mc_tables.specs.Steps.{◌>>=◌, demand, at_line}
+use Rattle.mc_text.specs.Steps.{◌>>=◌}
+use Rattle.mc_tables.specs.Steps.{demand, at_line}
 use Rattle.mc_tables.specs.TableWords.{is_counter, number_in, address_in}
 use Rattle.mc_tables.specs.TableLines.{is_among, lines_in, rows_after}
 use Rattle.mc_tables.specs.CacheTable.{RowText, CacheText, by_vif, same_key, key_of, table_of}

@@ -11,7 +11,8 @@ use Rattle.mc_tables.specs.declared.entry.Entry.{Entry}
 use Rattle.mc_tables.specs.declared.fault.TableFaultKind.{TableFaultKind}
 use Rattle.mc_tables.specs.declared.fault.TableFaultKind.TheVariants.{Unended, TooLarge}
 use Rattle.mc_tables.specs.declared.fault.TableFaultKind.TheVariants.{RepeatedEntry}
-use Rattle.mc_tables.specs.Steps.{◌>>=◌, demand}
+use Rattle.mc_text.specs.Steps.{◌>>=◌}
+use Rattle.mc_tables.specs.Steps.{demand}
 use Rattle.mc_tables.specs.CacheTable.{RowText, CacheText, key_cmp, exact_entry, wildcard_of}
 use Rattle.mc_tables.specs.CacheReading.{row_in_words}
 

@@ -16,6 +16,7 @@ pub mod ListedRows
 pub mod RowsSoFar
 pub mod CacheWords
 pub use Rattle.mc_text.specs.Addr
+pub use Rattle.mc_text.specs.AddressReading
 pub use Rattle.mc_text.specs.DeviceName
 pub use Rattle.mc_text.specs.AddressWord
 pub use Rattle.mc_text.specs.Lines

@@ -9,7 +9,8 @@ use Rattle.mc_text.specs.Lines.{LineText}
 use Rattle.mc_tables.specs.declared.fault.TableFault.{TableFault}
 use Rattle.mc_tables.specs.declared.fault.TableFaultKind.{TableFaultKind}
 use Rattle.mc_tables.specs.declared.fault.TableFaultKind.TheVariants.{RepeatedEntry}
-use Rattle.mc_tables.specs.Steps.{◌>>=◌, demand, at_line, unless_fault}
+use Rattle.mc_text.specs.Steps.{◌>>=◌}
+use Rattle.mc_tables.specs.Steps.{demand, at_line, unless_fault}
 use Rattle.mc_tables.specs.LinesSoFar.{LinesSoFar, no_lines, read_after}
 use Rattle.mc_tables.specs.CacheTable.{RowText, CacheText, cache_code, key_cmp, key_of, table_of}
 use Rattle.mc_tables.specs.ListedRows.{Listed, is_kept, kept_rows}

@@ -1,13 +1,7 @@
--- Reading in steps, of which the first that fails gives the fault.
+-- Steps of reading a table, and the lines whose faults they tell.
 use Rattle.std.specs.Prelude.{ℕ, Bool, Option, Some, None, Result, Ok, Err, if◌then◌else◌}
 use Rattle.mc_tables.specs.declared.fault.TableFault.{TableFault}
 use Rattle.mc_tables.specs.declared.fault.TableFaultKind.{TableFaultKind}
-
--- the next step is taken with the value of the one before
-infixl 10 ◌>>=◌
-abbrev pub ◌>>=◌ : {A B E : Type 0} → Result A E → (A → Result B E) → Result B E
-Ok x >>= f = f x
-Err e >>= f = Err e
 
 -- a test that has to be met
 abbrev pub demand : {E : Type 0} → Bool → E → Result (Unit {0}) E

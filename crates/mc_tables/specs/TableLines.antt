@@ -7,7 +7,8 @@ use Rattle.mc_text.specs.Lines.{LineText, lines_of}
 use Rattle.mc_text.specs.Words.{words_of}
 use Rattle.mc_tables.specs.declared.fault.TableFault.{TableFault}
 use Rattle.mc_tables.specs.declared.fault.TableFaultKind.TheVariants.{NoHeader, Unended, TooLarge}
-use Rattle.mc_tables.specs.Steps.{◌>>=◌, demand, at_line}
+use Rattle.mc_text.specs.Steps.{◌>>=◌}
+use Rattle.mc_tables.specs.Steps.{demand, at_line}
 
 -- ---- what a text says
 

@@ -1,14 +1,13 @@
 -- The words of the kernel's tables: what each kind of word is, and the value that it writes.
-use Rattle.std.specs.Prelude.{ℕ, ◌≤◌, ◌==◌, nat_le, Bool, ◌&&◌, List, length, drop, reverse}
-use Rattle.std.specs.Prelude.{slice_index, Option, Some, None, Result, Ok, Err, if◌then◌else◌}
+use Rattle.std.specs.Prelude.{ℕ, ◌≤◌, ◌==◌, nat_le, Bool, ◌&&◌, List, length, drop}
+use Rattle.std.specs.Prelude.{slice_index, Option, Some, None, if◌then◌else◌}
 use Rattle.std.specs.Char.{is_ascii_digit, is_ascii_hexdigit}
 use Rattle.std.specs.List.{list_all}
-use Rattle.std.specs.Int.{w32, from_be_bytes}
 use Rattle.std.specs.Str.Parse.{digits_value}
 use Rattle.mc_text.specs.Hex.{decode_of}
 use Rattle.mc_text.specs.declared.addr.Order.{Order}
-use Rattle.mc_text.specs.declared.addr.Order.TheVariants.{Little, Big}
 use Rattle.mc_text.specs.Addr.{IsAddr}
+use Rattle.mc_text.specs.AddressReading.{address_of_octets}
 use Rattle.mc_text.specs.AddressWord.{IsAddressWord}
 use Rattle.mc_text.specs.Number.{IsDecimal}
 
@@ -51,17 +50,6 @@ number_in least most word =
 -- the word shows the address a
 abbrev pub WritesAddress : Order → List ℕ → ℕ → Type 0
 WritesAddress order word a = IsAddr a × IsAddressWord order word a
-
--- the address whose octets are these, in the order of the digits
-abbrev pub octets_in_order : Order → List ℕ → List ℕ
-octets_in_order Big octets = octets
-octets_in_order Little octets = reverse octets
-
--- the address of four octets
-abbrev pub address_of_octets : {E : Type 0} → Order → Result (List ℕ) E → Option ℕ
-address_of_octets order (Ok octets) =
-    if length octets == 4 then Some (from_be_bytes w32 (octets_in_order order octets)) else None
-address_of_octets order (Err e) = None
 
 -- the address that the word shows
 abbrev pub address_in : Order → List ℕ → Option ℕ

@@ -16,7 +16,8 @@ use Rattle.mc_tables.specs.declared.fault.TableFaultKind.TheVariants.{Unended, W
 use Rattle.mc_tables.specs.declared.fault.TableFaultKind.TheVariants.{BadDevice, BadCounter}
 use Rattle.mc_tables.specs.declared.fault.TableFaultKind.TheVariants.{BadFlags, BadAddress}
 use Rattle.mc_tables.specs.declared.fault.TableFaultKind.TheVariants.{RepeatedIndex, RepeatedDevice}
-use Rattle.mc_tables.specs.Steps.{◌>>=◌, demand, at_line}
+use Rattle.mc_text.specs.Steps.{◌>>=◌}
+use Rattle.mc_tables.specs.Steps.{demand, at_line}
 use Rattle.mc_tables.specs.TableWords.{is_counter, is_hexadecimal, number_in}
 use Rattle.mc_tables.specs.TableLines.{is_among, lines_in, rows_after}
 use Rattle.mc_tables.specs.VifTable.{VifText, is_tunnel, is_register, device_of}

@@ -6,7 +6,8 @@ use Rattle.std.specs.FinMap.{FinMap, from_entries}
 use Rattle.mc_text.specs.Lines.{LineText}
 use Rattle.mc_tables.specs.declared.fault.TableFault.{TableFault}
 use Rattle.mc_tables.specs.declared.fault.TableFaultKind.{TableFaultKind}
-use Rattle.mc_tables.specs.Steps.{◌>>=◌, unless_fault}
+use Rattle.mc_text.specs.Steps.{◌>>=◌}
+use Rattle.mc_tables.specs.Steps.{unless_fault}
 use Rattle.mc_tables.specs.TableLines.{rows_after}
 use Rattle.mc_tables.specs.LinesSoFar.{LinesSoFar, no_lines, read_after}
 use Rattle.mc_tables.specs.VifTable.{VifText}

@@ -12,7 +12,7 @@ use Rattle.mc_text.specs.declared.bundle_fault.BundleFault.{BundleFault}
 use Rattle.mc_text.specs.declared.bundle_fault.BundleFault.TheVariants as faults
 use Rattle.mc_text.specs.Bundle.{PartText, IsPartName, part_spelling, IsBundle, max_part}
 use Rattle.mc_text.specs.Bundle.{max_bundle, max_parts}
-use Rattle.mc_text.specs.BundleReading.{Fails, Gives, Place, place_of, with_next, parts_from}
+use Rattle.mc_text.specs.BundleReading.{IsMemory, Gives, Place, place_of, with_next, parts_from}
 use Rattle.mc_text.specs.BundleReading.{bundle_of}
 use Rattle.mc_text.specs.Steps.{◌>>=◌}
 use Rattle.mc_text.proofs.StepLemmas.{bind_ok, ok_is, with_front, with_front-more}
@@ -58,11 +58,10 @@ module _ (front : List PartText) (place : Place) (total : Result (List PartText)
       ∙ ap (λ (ps : List PartText). Ok ps) (append-nil front)
 
   -- a fault at a place is one of reading the whole
-  pub fails : (fault : BundleFault) → Fails fault (place_of place)
-      → with_front front (parts_at place) ≡ total → Fails fault total
-  fails faults.Memory h so_far = tt
-  fails fault h so_far =
-      sym so_far ∙ ap (with_front front) (one_step place.parts place.room place.rest _ h)
+  pub fails : (fault : BundleFault) → (¬ IsMemory fault → place_of place ≡ Err fault)
+      → with_front front (parts_at place) ≡ total → ¬ IsMemory fault → total ≡ Err fault
+  fails fault h so_far told =
+      sym so_far ∙ ap (with_front front) (one_step place.parts place.room place.rest _ (h told))
 
 -- ---- the parts of a place
 

@@ -1,6 +1,6 @@
 -- The places of a bundle: a part and the place after it, or the end.
 use Rattle.std.proofs.Common.{arith, ◌≡◌, ℕ, suc, ◌+◌, ◌<◌, ◌≤◌, Bool, true, false, cond, List, ◌∷◌, ◌++◌}
-use Rattle.std.proofs.Common.{length, Option, Some, None, Ok, refl, sym, append_assoc}
+use Rattle.std.proofs.Common.{length, Option, Some, None, Ok, Err, refl, sym, append_assoc}
 use Rattle.std.specs.Prelude.{codes}
 use Rattle.std.specs.Fmt.{decimal}
 use Rattle.std.specs.Str.{bytes_eq}
@@ -11,9 +11,8 @@ use Rattle.std.proofs.lemmas.Fmt.{length-decimal-le}
 use Rattle.std.proofs.lemmas.List.{take_at, length-append, length-take, nil_from_length}
 use Rattle.std.proofs.lemmas.Slice.Eq.{bytes_eq-Decides}
 use Rattle.mc_text.specs.declared.bundle_fault.BundleFault.{BundleFault}
-use Rattle.mc_text.specs.declared.bundle_fault.BundleFault.TheVariants as faults
 use Rattle.mc_text.specs.Bundle.{PartText, IsPartName, part_line, part_spelling, max_line, max_part}
-use Rattle.mc_text.specs.BundleReading.{Fails, Place, line_at, part_said, part_bytes_at, part_room}
+use Rattle.mc_text.specs.BundleReading.{IsMemory, Place, line_at, part_said, part_bytes_at, part_room}
 use Rattle.mc_text.specs.BundleReading.{is_too_large, place_after, part_place, end_place, place_of}
 use Rattle.mc_text.proofs.StepLemmas.{bind_ok}
 use Rattle.mc_text.proofs.BundleWords.{cut_at, IsLine, line_takes, line_again, said_take}
@@ -150,16 +149,16 @@ part_again place part next h =
 -- ---- faults at a place
 
 -- a line that can't be read is the place's fault,
-pub line_fails : (place : Place) (fault : BundleFault) → Fails fault (line_at place.rest)
-    → Fails fault (place_of place)
+pub line_fails : (place : Place) (fault : BundleFault)
+    → (¬ IsMemory fault → line_at place.rest ≡ Err fault)
+    → ¬ IsMemory fault → place_of place ≡ Err fault
 unfolding place_of
-line_fails place faults.Memory h = tt
-line_fails place fault h = rw h refl
+line_fails place fault h told = rw (h told) refl
 
 -- and so is what is wrong with the end
 pub end_fails : (place : Place) (line after : List ℕ) (fault : BundleFault)
     → line_at place.rest ≡ Ok (line, after) → bytes_eq line (codes "end") ≡ true
-    → Fails fault (end_place place after) → Fails fault (place_of place)
+    → (¬ IsMemory fault → end_place place after ≡ Err fault)
+    → ¬ IsMemory fault → place_of place ≡ Err fault
 unfolding place_of
-end_fails place line after faults.Memory at is h = tt
-end_fails place line after fault at is h = rw (at, is, h) refl
+end_fails place line after fault at is h told = rw (at, is, h told) refl

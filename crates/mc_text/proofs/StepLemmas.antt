@@ -1,7 +1,8 @@
 -- What steps that did not fail show, and what was read before the rest is.
 use Rattle.std.proofs.Common.{◌≡◌, Bool, true, cond, List, [], ◌++◌, Option, Some, None, Result, Ok}
 use Rattle.std.proofs.Common.{Err, refl, sym, append_assoc, arith}
-use Rattle.std.specs.Prelude.{IfSome}
+use Rattle.std.specs.Prelude.{IfSome, OnOk}
+use Rattle.std.specs.Option.{ok_or}
 use Rattle.mc_text.specs.Steps.{◌>>=◌}
 
 module _ {A E : Type 0} where
@@ -9,14 +10,29 @@ module _ {A E : Type 0} where
   pub ok_is : (x y : A) → (let r : Result A E = Ok x in r) ≡ Ok y → x ≡ y
   ok_is x y e = cc
 
+  -- a fault that was answered is the one answered
+  pub err_is : {x y : E} → (let r : Result A E = Err x in r) ≡ Err y → x ≡ y
+  err_is e = cc
+
   -- the value of a first step, where the second gave one too
   pub bind_ok : {B : Type 0} (r : Result A E) (f : A → Result B E) (y : B) → (r >>= f) ≡ Ok y
       → (x : A) × (r ≡ Ok x) × (f x ≡ Ok y)
-  bind_ok r f y e = grind arith
+  bind_ok (Ok x) f y e = (x, refl, e)
+  bind_ok (Err d) f y e = absurd cc
 
   -- a value under a test that was met
   pub if_ok : (b : Bool) (d : E) (x y : A) → cond b (Ok x) (Err d) ≡ Ok y → (b ≡ true) × (x ≡ y)
   if_ok b d x y e = grind arith
+
+  -- a value that was there
+  pub ok_or_ok : (o : Option A) (d : E) (x : A) → ok_or o d ≡ Ok x → o ≡ Some x
+  ok_or_ok None d x e = absurd cc
+  ok_or_ok (Some y) d x e = cc
+
+  -- what follows from what an answer brings comes with it
+  pub on_ok : {P Q : Type 0} (r : Result A E) → OnOk r P → (P → Q) → OnOk r Q
+  on_ok (Ok x) there then = then there
+  on_ok (Err e) there then = tt
 
   -- what was read before, and what is still read
   abbrev pub with_front : List A → Result (List A) E → Result (List A) E

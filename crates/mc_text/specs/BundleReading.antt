@@ -1,5 +1,5 @@
 -- Reading a bundle from the front, with the first fault that is met.
-use Rattle.std.specs.Prelude.{◌≡◌, ℕ, zero, suc, ◌+◌, ◌-◌, ◌==◌, ◌&&◌, ◌||◌, nat_lt, nat_le, not}
+use Rattle.std.specs.Prelude.{ℕ, zero, suc, ◌+◌, ◌-◌, ◌==◌, ◌&&◌, ◌||◌, nat_lt, nat_le, not}
 use Rattle.std.specs.Prelude.{Bool, List, [], ◌∷◌, length, take, drop, slice_index, position, codes}
 use Rattle.std.specs.Prelude.{Option, Some, None, Result, Ok, Err, if◌then◌else◌}
 use Rattle.std.specs.List.{list_all}
@@ -8,19 +8,19 @@ use Rattle.std.specs.Str.Parse.{digits_value}
 use Rattle.mc_text.specs.declared.bundle_fault.BundleFault.{BundleFault}
 use Rattle.mc_text.specs.declared.bundle_fault.BundleFault.TheVariants as faults
 use Rattle.mc_text.specs.Number.{is_decimal}
+use Rattle.mc_text.specs.Steps as Steps
 use Rattle.mc_text.specs.Steps.{◌>>=◌}
 use Rattle.mc_text.specs.Bundle.{PartText, is_name_byte, max_name, max_line, max_part, max_bundle}
 use Rattle.mc_text.specs.Bundle.{max_parts}
 
--- A function's fault is the one that reading gives. Want of memory says nothing of reading.
-abbrev pub Fails : {Y : Type 0} → BundleFault → Result Y BundleFault → Type 0
-Fails faults.Memory read = Unit {0}
-Fails fault read = read ≡ Err fault
+-- want of memory, which says nothing of reading
+abbrev pub IsMemory : BundleFault → Type 0
+IsMemory faults.Memory = Unit {0}
+IsMemory fault = ⊥
 
 -- What a function answered, seen by view, is what reading gives, unless memory ran out.
 abbrev pub Gives : {X Y : Type 0} → (X → Y) → Result X BundleFault → Result Y BundleFault → Type 0
-Gives view (Ok x) read = read ≡ Ok (view x)
-Gives view (Err fault) read = Fails fault read
+Gives = Steps.Gives IsMemory
 
 -- ---- lines
 

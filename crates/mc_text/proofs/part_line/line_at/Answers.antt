@@ -13,6 +13,6 @@ returns-in-Some c =
     (sym (take_rest rest (c.in-Some.end + 1)))
 
 pub returns-in-None : goal.returns-in-None
-returns-in-None c =
+returns-in-None c said =
     line_found c.args.rest.now _ _ c.min.ensures c.in-None.ensures
     ∙ cond-true _ (Err NoEnd) (Err BadPartLine) (lt-ltb _ _ c.if-rest-lt-MAX_LINE.true)

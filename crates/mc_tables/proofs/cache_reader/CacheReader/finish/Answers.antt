@@ -1,7 +1,8 @@
 use Rattle.std.proofs.Common.{Ok, [], sym, ◌∙◌, ap}
 use Rattle.std.proofs.lemmas.Result.{err_from_is_err_and}
 use Rattle.std.specs.Prelude.{codes}
-use Rattle.mc_tables.specs.Steps.{◌>>=◌, unless_fault}
+use Rattle.mc_text.specs.Steps.{◌>>=◌}
+use Rattle.mc_tables.specs.Steps.{unless_fault}
 use Rattle.mc_tables.specs.RowsSoFar.{CacheSoFar, row_step, table_from, cache_after, cache_if}
 use Rattle.mc_tables.proofs.PieceLemmas.{read_end}
 use Rattle.mc_tables.proofs.RowsSoFarLemmas.{row_steps}

@@ -2,7 +2,7 @@ use Rattle.std.proofs.Common.{[], None, sym, ap, ◌∙◌}
 use Rattle.std.specs.Prelude.{Err}
 use Rattle.std.proofs.lemmas.Result.{err_from_is_err_and}
 use Rattle.mc_tables.specs.RowsSoFar.{CacheSoFar}
-use Rattle.mc_tables.proofs.StepLemmas.{err_is}
+use Rattle.mc_text.proofs.StepLemmas.{err_is}
 use Rattle.mc_tables.proofs.RowsSoFarLemmas.{whole_refused, whole_taken, all_listed}
 use Rattle.mc_tables.proofs.cache_table.CacheTable.from_text.Goals as goal
 

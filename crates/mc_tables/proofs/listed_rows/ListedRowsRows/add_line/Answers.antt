@@ -2,7 +2,7 @@ use Rattle.std.proofs.Common.{◌≡◌, Ok, sym, subst}
 use Rattle.mc_text.specs.LineView.{line_text}
 use Rattle.mc_tables.specs.CacheSteps.{row_with_room}
 use Rattle.mc_tables.specs.RowsSoFar.{ListedSoFar}
-use Rattle.mc_tables.proofs.StepLemmas.{on_ok}
+use Rattle.mc_text.proofs.StepLemmas.{on_ok}
 use Rattle.mc_tables.proofs.RowsSoFarLemmas.{row_keeps}
 use Rattle.mc_tables.proofs.listed_rows.ListedRowsRows.add_line.Goals as goal
 

@@ -2,7 +2,7 @@ use Rattle.std.proofs.Common.{[], ap, sym}
 use Rattle.std.specs.Prelude.{Err}
 use Rattle.std.proofs.lemmas.Result.{err_from_is_err_and}
 use Rattle.mc_tables.specs.VifsSoFar.{VifsSoFar}
-use Rattle.mc_tables.proofs.StepLemmas.{err_is}
+use Rattle.mc_text.proofs.StepLemmas.{err_is}
 use Rattle.mc_tables.proofs.VifPieceLemmas.{whole_refused}
 use Rattle.mc_tables.proofs.vif_table.VifTable.from_text.Goals as goal
 

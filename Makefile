@@ -13,7 +13,7 @@ PROGRAM = crates/mcaudit/out/mcaudit
 TOOLS = mcaudit-collect mcaudit-draft mcaudit-query mcaudit-reports mcaudit-site
 SOURCES = $(shell find crates \( -path '*/out' -o -path 'crates/mc_tests_*' \) -prune -o -type f \( -name '*.rt' -o -name '*.antt' \) -print) crates.txt
 # the libraries below the program, lowest first
-LIBRARIES = $(filter-out mcaudit mc_samples mc_tests_%,$(shell sed -n 's/^\([a-z_]*\):.*/\1/p' crates.txt))
+LIBRARIES = $(filter-out mcaudit mc_tests_%,$(shell sed -n 's/^\([a-z_]*\):.*/\1/p' crates.txt))
 
 .PHONY: all example test bench lab install
 

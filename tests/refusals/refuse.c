@@ -1,16 +1,21 @@
-// A library that is loaded before the program (LD_PRELOAD), and refuses it memory, reads or writes.
+// A library that is loaded before a program (LD_PRELOAD), and refuses it memory, files, reads or writes.
 //
 //   REFUSE_GROWTH=n    the n-th request for memory is refused
 //   REFUSE_FROM=n      the n-th and all later ones are
 //   INPUT_ENDS=n       standard input gives n bytes, and then fails
 //   INPUT_PIECE=n      it gives at most n bytes at a time
 //   OUTPUT_ENDS=n      standard output takes n bytes, and then fails
+//   OUTPUT_STOPS=n     standard output takes n bytes, and then none, without failing
 //   OUTPUT_PIECE=n     it takes at most n bytes at a time
-//   COUNT=FILE         how many requests for memory came is written there at the end
+//   OPEN_FAILS=n       the n-th file that is opened can't be
+//   READ_FAILS=n       the n-th read of another file than standard input fails
+//   FILE_PIECE=n       such a read gives at most n bytes
+//   COUNT=FILE         how many requests for memory, opened files and reads of them came is written there at the end
 #define _GNU_SOURCE
 #include <dlfcn.h>
 #include <errno.h>
 #include <fcntl.h>
+#include <stdarg.h>
 #include <stdio.h>
 #include <stdlib.h>
 #include <sys/syscall.h>
@@ -20,8 +25,9 @@ static void *(*real_malloc)(size_t);
 static void *(*real_realloc)(void *, size_t);
 static void *(*real_calloc)(size_t, size_t);
 static int (*real_memalign)(void **, size_t, size_t);
-static long refused, refused_from, input_ends, input_piece, output_ends, output_piece;
-static long growths, given, taken;
+static long refused, refused_from, input_ends, input_piece, output_ends, output_stops, output_piece;
+static long open_fails, read_fails, file_piece;
+static long growths, opened, reads, given, taken;
 static int is_ready, is_starting;
 
 // What is asked for while the real functions are looked up.
@@ -45,20 +51,24 @@ static void start(void) {
     input_ends = number_of("INPUT_ENDS");
     input_piece = number_of("INPUT_PIECE");
     output_ends = number_of("OUTPUT_ENDS");
+    output_stops = number_of("OUTPUT_STOPS");
     output_piece = number_of("OUTPUT_PIECE");
+    open_fails = number_of("OPEN_FAILS");
+    read_fails = number_of("READ_FAILS");
+    file_piece = number_of("FILE_PIECE");
     is_ready = 1;
 }
 
 // What was asked for before the program begins isn't counted.
 __attribute__((constructor)) static void begin(void) {
     start();
-    growths = 0;
+    growths = opened = reads = 0;
 }
 
 __attribute__((destructor)) static void tell_count(void) {
     const char *path = getenv("COUNT");
-    char text[32];
-    int length = snprintf(text, sizeof text, "%ld\n", growths);
+    char text[96];
+    int length = snprintf(text, sizeof text, "%ld %ld %ld\n", growths, opened, reads);
     int file = path ? syscall(SYS_openat, AT_FDCWD, path, O_WRONLY | O_CREAT | O_TRUNC, 0600) : -1;
     if (file >= 0) {
         syscall(SYS_write, file, text, length);
@@ -114,8 +124,48 @@ static ssize_t allowed(size_t length, long moved, long ends, long piece) {
     return length;
 }
 
+static int open_at(int folder, const char *path, int flags, mode_t mode) {
+    if (++opened == open_fails) {
+        errno = EACCES;
+        return -1;
+    }
+    return syscall(SYS_openat, folder, path, flags, mode);
+}
+
+#define MODE_OF(flags) \
+    mode_t mode = 0; \
+    if ((flags) & (O_CREAT | O_TMPFILE)) { \
+        va_list more; \
+        va_start(more, flags); \
+        mode = va_arg(more, int); \
+        va_end(more); \
+    }
+
+int open(const char *path, int flags, ...) {
+    MODE_OF(flags)
+    return open_at(AT_FDCWD, path, flags, mode);
+}
+
+int open64(const char *path, int flags, ...) {
+    MODE_OF(flags)
+    return open_at(AT_FDCWD, path, flags, mode);
+}
+
+int openat(int folder, const char *path, int flags, ...) {
+    MODE_OF(flags)
+    return open_at(folder, path, flags, mode);
+}
+
+static ssize_t read_of_file(int file, void *buffer, size_t length) {
+    if (++reads == read_fails) {
+        errno = EIO;
+        return -1;
+    }
+    return syscall(SYS_read, file, buffer, allowed(length, 0, -1, file_piece));
+}
+
 ssize_t read(int file, void *buffer, size_t length) {
-    if (file != STDIN_FILENO) return syscall(SYS_read, file, buffer, length);
+    if (file != STDIN_FILENO) return read_of_file(file, buffer, length);
     ssize_t most = allowed(length, given, input_ends, input_piece);
     if (most < 0) {
         errno = EIO;
@@ -128,11 +178,13 @@ ssize_t read(int file, void *buffer, size_t length) {
 
 ssize_t write(int file, const void *buffer, size_t length) {
     if (file != STDOUT_FILENO) return syscall(SYS_write, file, buffer, length);
+    if (output_stops >= 0 && taken >= output_stops) return 0;
     ssize_t most = allowed(length, taken, output_ends, output_piece);
     if (most < 0) {
         errno = ENOSPC;
         return -1;
     }
+    if (output_stops >= 0 && most > output_stops - taken) most = output_stops - taken;
     ssize_t moved = syscall(SYS_write, file, buffer, most);
     taken += moved > 0 ? moved : 0;
     return moved;

@@ -1,22 +1,27 @@
 #!/usr/bin/env python3
-"""Refuses the built program each request for memory, each read and each write in turn.
+"""Refuses the built program each request for memory, each file, each read and each write in turn.
 
-  python3 tests/refusals/run.py PROGRAM
+  python3 tests/refusals/run.py PROGRAM [TESTS..]
 
 A library that is loaded before the program does it (refuse.c, compiled with cc). Each run of the
 program has one refusal, on the examples and on a few cases, and what may come of it is:
 
   memory    status 4, `no memory` and no output; or the answer of the run that nothing disturbed, where
             what was refused wasn't needed
-  a read    status 3, `failed: read` and no output; or, where the bytes that were read decide it, the
-            refusal of the text, and no output
+  a file    status 3, `failed: read` and no output
+  a read    the same; or, where the bytes that were read decide it, the refusal of the text, and no output
   a write   status 3, `failed: write`, and exactly what the output had taken
 
-Devices that give or take a few bytes at a time change nothing. The last line counts the runs:
-`N passed, M failed`. The status is 0 if none failed and one was run.
+Devices that give or take a few bytes at a time change nothing.
+
+TESTS are programs that `rt ci` built of tests. Each of their tests that is about memory, as its module's name or its own
+says, is run with each request for memory refused in turn: it makes the refused call again, and has to pass.
+
+The last line counts the runs: `N passed, M failed`. The status is 0 if none failed and one was run.
 """
 import collections
 import os
+import re
 import subprocess
 import sys
 import tempfile
@@ -27,6 +32,7 @@ PIECES = (1, 2, 3, 7, 64, 4096)
 MOST_STOPS = 400  # of a long text not every place is tried, but so many, evenly
 NO_MEMORY = (4, b"", b"no memory\n")
 READ_FAILED = (3, b"", b"failed: read\n")
+ABOUT_MEMORY = re.compile(r"\b(memory|pieces)::|refused_growth")  # what the tests that are run are called
 
 
 class Tried:
@@ -37,12 +43,12 @@ class Tried:
         self.library, self.given = library, given
         with tempfile.NamedTemporaryFile() as count:
             self.answer = self.run("COUNT", count.name)
-            self.growths = int(count.read())
+            self.growths, self.files, self.reads = map(int, count.read().split())
 
     def run(self, name, value):
         """Runs the program with one line of the environment. Returns its status, output and errors."""
         env = {**os.environ, "LD_PRELOAD": self.library, name: str(value)}
-        done = subprocess.run(self.whole, input=self.given, capture_output=True, env=env, timeout=60, check=False)
+        done = subprocess.run(self.whole, input=self.given or b"", capture_output=True, env=env, timeout=60, check=False)
         return done.returncode, done.stdout, done.stderr
 
     def refusals(self):
@@ -50,14 +56,19 @@ class Tried:
         for name in ("REFUSE_GROWTH", "REFUSE_FROM"):
             for growth in range(1, self.growths + 1):
                 yield name, growth, (self.answer, NO_MEMORY)
-        _, output, error = self.answer
-        for end in places(len(self.given)):
-            refused = (2, b"", self.cut_at(end)) if error or end < len(self.given) else self.answer
-            yield "INPUT_ENDS", end, (READ_FAILED, refused)
+        for number in range(1, self.files + 1):
+            yield "OPEN_FAILS", number, (READ_FAILED,)
+        for number in range(1, self.reads + 1):
+            yield "READ_FAILS", number, (READ_FAILED,)
+        for end in places(len(self.given) + 1) if self.given is not None else ():
+            yield "INPUT_ENDS", end, (READ_FAILED, (2, b"", self.cut_at(end)))
+        output = self.answer[1]
         for end in places(len(output)):
             yield "OUTPUT_ENDS", end, ((3, output[:end], b"failed: write\n"),)
+            yield "OUTPUT_STOPS", end, ((3, output[:end], b"failed: write\n"),)
         for piece in PIECES:
             yield "INPUT_PIECE", piece, (self.answer,)
+            yield "FILE_PIECE", piece, (self.answer,)
             yield "OUTPUT_PIECE", piece, (self.answer,)
 
     def cut_at(self, end):
@@ -72,6 +83,26 @@ class Tried:
         if found in allowed:
             return None
         return f"{' '.join(self.whole[1:])}: {name}={value}: {found[0]} {found[1][:80]} {found[2][:80]}"
+
+
+class TriedTest(Tried):
+    """A test, which has to pass whichever request for memory is refused."""
+
+    def __init__(self, program, library, name):
+        super().__init__(program, library, [name], None)
+
+    def refusals(self):
+        for growth in range(1, self.growths + 1):
+            yield "REFUSE_GROWTH", growth, (self.answer,) if self.answer[0] == 0 else ()
+
+
+def tests_about_memory(program, library):
+    """Yields the tests of a program of tests that are about memory."""
+    listed = subprocess.run([program, "--list"], stdout=subprocess.PIPE, text=True, check=True).stdout
+    for line in listed.splitlines():
+        name, is_test, _ = line.partition(": test")
+        if is_test and ABOUT_MEMORY.search(name):
+            yield TriedTest(program, library, name)
 
 
 def places(length):
@@ -100,30 +131,38 @@ def runs_of(program):
         (["replay", "1", "3"], plain),
         (["replay", "1", "255", "--order", "last"], other),
         (["wants", "239.1.2.3", "10.0.0.5"], reports),
-        (["audit", folders[0]], b""),
-        (["audit", folders[1], "--travel"], b""),
-        (["pack", folders[0], "--certificate"], b""),
-        (["replay", "0", "3"], b""),
-        (["--help"], b""),
+        (["wants", "239.1.2.3", "10.0.0.5"], b""),
+        (["audit", folders[0]], None),
+        (["audit", folders[1], "--travel"], None),
+        (["pack", folders[0], "--certificate"], None),
+        (["replay", "0", "3"], None),
+        (["--help"], None),
     ]
 
 
+def tries(program, programs_of_tests, library):
+    """Yields each run that is tried, of the program and of its tests."""
+    for words, given in runs_of(program):
+        yield Tried(program, library, words, given)
+    for tests in programs_of_tests:
+        yield from tests_about_memory(tests, library)
+
+
 def main():
-    program = os.path.abspath(sys.argv[1])
+    program, *tests = map(os.path.abspath, sys.argv[1:])
     counts = collections.Counter()
     with tempfile.TemporaryDirectory() as room, ThreadPoolExecutor(os.cpu_count()) as pool:
         library = f"{room}/refuse.so"
         source = f"{TOP}/tests/refusals/refuse.c"
         subprocess.run(["cc", "-O1", "-shared", "-fPIC", "-o", library, source, "-ldl"], check=True)
-        for words, given in runs_of(program):
-            tried = Tried(program, library, words, given)
+        for tried in tries(program, tests, library):
             for fault in pool.map(tried.fault_of, tried.refusals()):
                 counts[fault is None] += 1
                 if fault:
                     print(fault)
             if not tried.growths:
                 counts[False] += 1
-                print(f"{words[0]}: no request for memory was seen")
+                print(f"{tried.whole[1]}: no request for memory was seen")
     print(f"{counts[True]} passed, {counts[False]} failed")
     return 1 if counts[False] or not counts[True] else 0
 

@@ -4,7 +4,7 @@
 use mc_cert::Reached;
 use mc_check::{Reason, Verdict, check_flow};
 use mc_forward::Domain;
-use mc_samples::{VIFS, WANTED, with_domain};
+use crate::samples::{VIFS, WANTED, with_domain};
 use mc_topology::{LanNo, RouterNo, Topology};
 use std::alloc::Global;
 use std::fmt::Write;

@@ -4,7 +4,7 @@
 use mc_cert::Reached;
 use mc_forward::Domain;
 use mc_maker::make;
-use mc_samples::{VIFS, WANTED, with_domain};
+use crate::samples::{VIFS, WANTED, with_domain};
 use std::alloc::Global;
 use std::fmt::Write;
 use std::process::Abort;

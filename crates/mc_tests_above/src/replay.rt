@@ -2,7 +2,7 @@
 
 use mc_forward::Domain;
 use mc_replay::{First, Numbers, Picker, Travel, replay, shown_event};
-use mc_samples::{BESIDE, FORWARDS, WANTED, two_flows, with_domain};
+use crate::samples::{BESIDE, FORWARDS, WANTED, two_flows, with_domain};
 use mc_topology::Topology;
 use std::alloc::Global;
 use std::fmt::Write;

@@ -3,7 +3,7 @@
 //! (`make_kernel_texts_*`).
 
 use mc_forward::Domain;
-use mc_samples::{WANTED, with_domain};
+use crate::samples::{WANTED, with_domain};
 use mc_topology::{LanNo, RouterNo};
 use std::alloc::Global;
 use std::process::Abort;

@@ -2,7 +2,7 @@
 
 use super::network::*;
 use mc_forward::{Domain, Flight};
-use mc_samples::{VIFS, WANTED, with_domain};
+use crate::samples::{VIFS, WANTED, with_domain};
 use std::alloc::Global;
 use std::process::Abort;
 use std::test::Fail;

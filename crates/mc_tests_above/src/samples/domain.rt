@@ -1,6 +1,6 @@
 //! Domains put together of their texts.
 
-use crate::tables::tables_of;
+use super::tables::tables_of;
 use mc_forward::{Domain, Tables};
 use mc_igmp::ReportList;
 use mc_topology::Topology;
@@ -8,7 +8,7 @@ use std::alloc::Global;
 use std::test::Fail;
 
 /// The tables of a domain's routers and the reports of its LANs.
-pub type Parts = (Vec<Tables>, Vec<ReportList>);
+pub(crate) type Parts = (Vec<Tables>, Vec<ReportList>);
 
 /// The reports of each LAN's text.
 fn reports_of(alloc: Global, lans: &[&str]) -> Result<Vec<ReportList>, Fail> {
@@ -21,14 +21,14 @@ fn reports_of(alloc: Global, lans: &[&str]) -> Result<Vec<ReportList>, Fail> {
 
 /// The tables of each router's texts, its vifs and its cache, and the reports of each LAN's text.
 /// A cache may go without its header.
-pub fn parts_of(alloc: Global, routers: &[(&str, &str)], lans: &[&str]) -> Result<Parts, Fail> {
+pub(crate) fn parts_of(alloc: Global, routers: &[(&str, &str)], lans: &[&str]) -> Result<Parts, Fail> {
     let tables = tables_of(alloc, routers)?;
     let reports = reports_of(alloc, lans)?;
     Ok((tables, reports))
 }
 
 /// The domain of these parts.
-pub fn assembled(alloc: Global, topology: Topology, parts: Parts) -> Result<Domain, Fail> {
+pub(crate) fn assembled(alloc: Global, topology: Topology, parts: Parts) -> Result<Domain, Fail> {
     Ok(Domain::assemble(alloc, topology, parts.0, parts.1)?)
 }
 
@@ -40,7 +40,7 @@ fn domain_over(alloc: Global, topology: &str, parts: Parts) -> Result<Domain, Fa
 
 /// The domain of these texts: the topology, each router's vifs and cache, which may go without its
 /// header, and each LAN's reports.
-pub fn domain_of(
+fn domain_of(
     alloc: Global,
     topology: &str,
     routers: &[(&str, &str)],
@@ -51,7 +51,7 @@ pub fn domain_of(
 }
 
 /// What is told of the domain of these texts, which is lent: the one place that drops a domain.
-pub fn with_domain<F: FnOnce(&Domain) -> Result<(), Fail> + Drop>(
+pub(crate) fn with_domain<F: FnOnce(&Domain) -> Result<(), Fail> + Drop>(
     alloc: Global,
     topology: &str,
     routers: &[(&str, &str)],

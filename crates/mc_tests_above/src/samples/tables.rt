@@ -1,6 +1,6 @@
 //! The tables of routers, of their texts.
 
-use crate::texts::CACHE_HEADER;
+use super::texts::CACHE_HEADER;
 use mc_forward::Tables;
 use mc_tables::{CacheTable, VifTable};
 use mc_text::Order;
@@ -34,7 +34,7 @@ fn tables_of_texts(alloc: Global, texts: (&str, &str)) -> Result<Tables, Fail> {
 
 /// The tables of routers of little byte order, each by the text of its vifs and that of its cache,
 /// which may go without its header.
-pub(crate) fn tables_of(alloc: Global, routers: &[(&str, &str)]) -> Result<Vec<Tables>, Fail> {
+pub(super) fn tables_of(alloc: Global, routers: &[(&str, &str)]) -> Result<Vec<Tables>, Fail> {
     let mut tables = Vec::new(alloc);
     for texts in routers {
         tables.push(tables_of_texts(alloc, *texts)?)?;

@@ -14,13 +14,13 @@ interface = [
 "#;
 
 /// The interfaces of a third router from l0 to l2, beside the chain of the first two.
-pub const BESIDE: &str = r#"{router = "r3", device = "eth0", lan = "l0"},
+pub(crate) const BESIDE: &str = r#"{router = "r3", device = "eth0", lan = "l0"},
 {router = "r3", device = "eth1", lan = "l2"},
 "#;
 
 /// The text of the topology whose third router has these interfaces, with two flows from l0, to 239.1.2.3 and
 /// to 239.1.2.4. The least TTL of the first one's packets is this, that of the second's is 3.
-pub fn two_flows(alloc: Global, third: &str, ttl: u8) -> Result<String, AllocError> {
+pub(crate) fn two_flows(alloc: Global, third: &str, ttl: u8) -> Result<String, AllocError> {
     format!(in alloc;
         "{ROUTERS}{third}]\nsource = [{{address = \"10.0.0.5\", lan = \"l0\"}}]\nflow = [\
          {{source = \"10.0.0.5\", group = \"239.1.2.3\", ttl = {ttl}}},\

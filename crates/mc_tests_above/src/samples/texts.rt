@@ -1,0 +1,35 @@
+//! The texts of a chain of two routers.
+
+/// LANs l0 to l2, r1 from l0 to l1, r2 from l1 to l2, and a flow from l0.
+pub(crate) const CHAIN: &str = r#"version = 1
+lans = ["l0", "l1", "l2"]
+router = [{name = "r1"}, {name = "r2"}]
+interface = [
+{router = "r1", device = "eth0", lan = "l0"},
+{router = "r1", device = "eth1", lan = "l1"},
+{router = "r2", device = "eth0", lan = "l1"},
+{router = "r2", device = "eth1", lan = "l2"},
+]
+source = [{address = "10.0.0.5", lan = "l0"}]
+flow = [{source = "10.0.0.5", group = "239.1.2.3", ttl = 3}]
+"#;
+
+/// A router's vifs: 0 is eth0 and 1 is eth1.
+pub(crate) const VIFS: &str = "Interface BytesIn PktsIn BytesOut PktsOut Flags Local Remote
+0 eth0 0 0 0 0 00000 00000000 00000000
+1 eth1 0 0 0 0 00000 00000000 00000000
+";
+
+/// The first line of a cache.
+pub(super) const CACHE_HEADER: &str = "Group Origin Iif Pkts Bytes Wrong Oifs\n";
+
+/// The cache of a router that sends the flow from vif 0 to vif 1, above a TTL of 1.
+const CACHE: &str = "Group Origin Iif Pkts Bytes Wrong Oifs
+030201EF 0500000A 0 0 0 0 1:1
+";
+
+/// Both tables of a router that forwards from vif 0 to vif 1.
+pub(crate) const FORWARDS: (&str, &str) = (VIFS, CACHE);
+
+/// A report that wants all sources of 239.1.2.3.
+pub(crate) const WANTED: &str = "2200eaf90000000102000000ef010203\n";

@@ -15,11 +15,6 @@ failed_by_write (Ok n) text before =
     if (n == 0) && nat_lt 0 (length text) then before + 1 else before
 failed_by_write (Err e) text before = before + 1
 
--- a call that writes a whole text ends with the first write that fails
-abbrev pub failed_by_write_all : {X : Type 0} → Result X DeviceFault → ℕ → ℕ
-failed_by_write_all (Ok x) before = before
-failed_by_write_all (Err e) before = before + 1
-
 -- A call that ends with the first failure adds one failure of the device where its fault is the
 -- device's own, and none else.
 abbrev pub counted : {X E : Type 0} → (E → Bool) → Result X E → ℕ → ℕ

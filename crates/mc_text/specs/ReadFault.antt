@@ -1,20 +1,13 @@
 -- What a call that reads many times does.
-use Rattle.std.specs.Prelude.{◌≡◌, ℕ, ◌+◌, ◌≤◌, Bool, true, false, List, ◌++◌, length, Option}
-use Rattle.std.specs.Prelude.{Result, Ok, Err}
+use Rattle.std.specs.Prelude.{◌≡◌, ℕ, ◌≤◌, Bool, true, false, List, ◌++◌, length, Option}
 use Rattle.std.specs.Io.KnownBytes.{Consumes}
 use Rattle.mc_text.specs.declared.input_bytes.ReadFault.{ReadFault}
 use Rattle.mc_text.specs.declared.input_bytes.ReadFault.TheVariants.{Read, Memory}
 
--- whether the fault is a read that failed
+-- whether the fault is a read that failed, as want of memory is not
 abbrev pub is_read : ReadFault → Bool
 is_read Read = true
 is_read Memory = false
-
--- it ends with the first read that fails, and want of memory is no failure of the device
-abbrev pub failed_by_reading : {X : Type 0} → Result X ReadFault → ℕ → ℕ
-failed_by_reading (Ok x) before = before
-failed_by_reading (Err Read) before = before + 1
-failed_by_reading (Err Memory) before = before
 
 -- the bytes that stand after the old ones were read
 abbrev pub ReadsMore : Option (List ℕ) → Option (List ℕ) → List ℕ → List ℕ → Type 0

@@ -6,8 +6,8 @@ ghost use Rattle.std.specs.Bool.{OnTrue, OnFalse};
 ghost use Rattle.std.specs.Io.KnownBytes.{Appends};
 ghost use Rattle.std.specs.List.{AllByRecursion};
 ghost use Rattle.mc_text.specs.Bundle.{IsPartName, part_spelling, bundle_spelling, AreWithinLimits};
-ghost use Rattle.mc_text.specs.BundleWriting.{failed_by_writing, AppendsBundle};
-ghost use Rattle.mc_text.specs.Device.{failed_by_write_all, AppendsPart};
+ghost use Rattle.mc_text.specs.BundleWriting.{is_write, AppendsBundle};
+ghost use Rattle.mc_text.specs.Device.{counted, is_failure, AppendsPart};
 ghost use Rattle.mc_text.specs.PartView.{part_text, part_texts};
 
 use crate::bundle::{END_LINE, MAGIC, MAX_BUNDLE, MAX_PART, MAX_PARTS};
@@ -41,7 +41,7 @@ pub fn write_bundle<W: Output>(parts: &[Part<'_>], output: &mut W) -> Result<(),
         → AppendsPart
         (W.took output.old) (W.took output.new) (bundle_spelling (part_texts parts.now)) }
     ensures cut_within { IsErrOf result BundleFault.Write → AreWithinLimits (part_texts parts.now) }
-    ensures failures { W.failed output.new ≡ failed_by_writing result (W.failed output.old) }
+    ensures failures { W.failed output.new ≡ counted is_write result (W.failed output.old) }
 {
     if !are_within_limits(parts) {
         return Err(BundleFault::TooLarge);
@@ -90,7 +90,7 @@ fn write_parts<W: Output>(output: &mut W, parts: &[Part<'_>]) -> Result<(), Devi
         (Appends (W.took output.old) (W.took output.new) (bundle_spelling (part_texts parts.now))) }
     ensures err { OnErr result (AppendsPart
         (W.took output.old) (W.took output.new) (bundle_spelling (part_texts parts.now))) }
-    ensures failures { W.failed output.new ≡ failed_by_write_all result (W.failed output.old) }
+    ensures failures { W.failed output.new ≡ counted is_failure result (W.failed output.old) }
 {
     write_all(output, MAGIC)?;
     for part in parts {
@@ -107,7 +107,7 @@ fn write_part<W: Output>(output: &mut W, part: &Part<'_>) -> Result<(), DeviceFa
         (Appends (W.took output.old) (W.took output.new) (part_spelling (part_text part.now))) }
     ensures err { OnErr result
         (AppendsPart (W.took output.old) (W.took output.new) (part_spelling (part_text part.now))) }
-    ensures failures { W.failed output.new ≡ failed_by_write_all result (W.failed output.old) }
+    ensures failures { W.failed output.new ≡ counted is_failure result (W.failed output.old) }
 {
     let mut buffer = Buffer::new();
     let digits = buffer.format(part.bytes.len()).as_bytes();

@@ -1,9 +1,10 @@
 //! Reading a whole input, up to a limit.
 
-ghost use Rattle.std.specs.Prelude.{◌≡◌, ◌<◌, ◌≤◌, ◌-◌, ◌++◌, length, vec_len, take, IfOk, IfSome};
+ghost use Rattle.std.specs.Prelude.{◌≡◌, ◌<◌, ◌≤◌, ◌-◌, length, vec_len, take, IfOk, IfSome};
 ghost use Rattle.std.specs.Prelude.{OnOk};
 ghost use Rattle.std.specs.Io.KnownBytes.{Consumes, IsAtEnd};
-ghost use Rattle.mc_text.specs.ReadFault.{ConsumesUpTo, failed_by_reading, ReadsMore};
+ghost use Rattle.mc_text.specs.Device.{counted};
+ghost use Rattle.mc_text.specs.ReadFault.{ConsumesUpTo, is_read, ReadsMore};
 
 use crate::device::Input;
 use std::alloc::Global;
@@ -45,7 +46,7 @@ pub fn read_to_limit<R: Input>(
     // Whatever the answer, no more than the limit was read.
     ensures consumed { ConsumesUpTo limit (R.told input.old) (R.told input.new) }
     ensures end { IfOk result (λ bytes. vec_len bytes < limit → IsAtEnd (R.told input.new)) }
-    ensures failures { R.failed input.new ≡ failed_by_reading result (R.failed input.old) }
+    ensures failures { R.failed input.new ≡ counted is_read result (R.failed input.old) }
 {
     let mut buffer = [0u8; PIECE];
     let mut bytes = Vec::new(alloc);
@@ -71,7 +72,7 @@ fn fill_to_limit<R: Input>(
     ensures consumed { ConsumesUpTo
         (limit - length bytes.old.items) (R.told input.old) (R.told input.new) }
     ensures end { OnOk result (vec_len bytes.new < limit → IsAtEnd (R.told input.new)) }
-    ensures failures { R.failed input.new ≡ failed_by_reading result (R.failed input.old) }
+    ensures failures { R.failed input.new ≡ counted is_read result (R.failed input.old) }
 {
     'reading: while bytes.len() < limit {
         let room = buffer.len().min(limit - bytes.len());

@@ -2,7 +2,7 @@
 
 ghost use Rattle.std.specs.Prelude.{◌≡◌, ◌<◌, flat_map, OnOk, OnErr};
 ghost use Rattle.std.specs.Io.KnownBytes.{Appends};
-ghost use Rattle.mc_text.specs.Device.{failed_by_write_all, AppendsPart};
+ghost use Rattle.mc_text.specs.Device.{counted, is_failure, AppendsPart};
 
 use crate::device::{DeviceFault, Output};
 
@@ -18,7 +18,7 @@ pub fn write_all<W: Output>(output: &mut W, text: &[u8]) -> Result<(), DeviceFau
     ensures same { W.names output.new ≡ W.names output.old }
     ensures ok { OnOk result (Appends (W.took output.old) (W.took output.new) text.now) }
     ensures err { OnErr result (AppendsPart (W.took output.old) (W.took output.new) text.now) }
-    ensures failures { W.failed output.new ≡ failed_by_write_all result (W.failed output.old) }
+    ensures failures { W.failed output.new ≡ counted is_failure result (W.failed output.old) }
 {
     let mut taken = 0;
     while taken < text.len() {
@@ -39,7 +39,7 @@ pub(crate) fn write_pieces<W: Output>(output: &mut W, pieces: &[&[u8]]) -> Resul
         (W.took output.old) (W.took output.new) (flat_map (λ piece. piece.now) pieces.now)) }
     ensures err { OnErr result (AppendsPart
         (W.took output.old) (W.took output.new) (flat_map (λ piece. piece.now) pieces.now)) }
-    ensures failures { W.failed output.new ≡ failed_by_write_all result (W.failed output.old) }
+    ensures failures { W.failed output.new ≡ counted is_failure result (W.failed output.old) }
 {
     for piece in pieces {
         write_all(output, piece)?;

@@ -2,8 +2,8 @@
 
 ghost use Rattle.std.specs.Prelude.{◌≡◌, ◌<◌, OnErr, OnOk};
 ghost use Rattle.std.specs.Io.KnownBytes.{Appends};
-ghost use Rattle.mc_text.specs.Device.{AppendsPart, failed_by_write_all};
-ghost use Rattle.mc_text.specs.ReadFault.{ConsumesUpTo, failed_by_reading};
+ghost use Rattle.mc_text.specs.Device.{AppendsPart, counted, is_failure};
+ghost use Rattle.mc_text.specs.ReadFault.{ConsumesUpTo, is_read};
 
 use mc_text::*;
 use std::alloc::Global;
@@ -81,7 +81,7 @@ fn read_lent<R: Input>(alloc: Global, input: &mut R) -> Result<Vec<u8>, ReadFaul
     requires { R.failed input.old < u64.MAX }
     ensures same { R.names input.new ≡ R.names input.old }
     ensures consumed { ConsumesUpTo 4 (R.told input.old) (R.told input.new) }
-    ensures failures { R.failed input.new ≡ failed_by_reading result (R.failed input.old) }
+    ensures failures { R.failed input.new ≡ counted is_read result (R.failed input.old) }
 {
     let mut lent = &mut *input;
     read_to_limit(alloc, &mut lent, 4)
@@ -93,7 +93,7 @@ fn write_lent<W: Output>(output: &mut W, text: &[u8]) -> Result<(), DeviceFault>
     ensures same { W.names output.new ≡ W.names output.old }
     ensures ok { OnOk result (Appends (W.took output.old) (W.took output.new) text.now) }
     ensures err { OnErr result (AppendsPart (W.took output.old) (W.took output.new) text.now) }
-    ensures failures { W.failed output.new ≡ failed_by_write_all result (W.failed output.old) }
+    ensures failures { W.failed output.new ≡ counted is_failure result (W.failed output.old) }
 {
     let mut lent = &mut *output;
     write_all(&mut lent, text)

@@ -2,11 +2,10 @@
 use Rattle.std.proofs.Common.{◌≡◌, ◌≢◌, ℕ, zero, suc, ◌+◌, ◌<◌, Bool, true, false, cond, not}
 use Rattle.std.proofs.Common.{nat_lt, ◌==◌, List, [], ◌∷◌, ◌++◌, length, get_or, set, fold, map}
 use Rattle.std.proofs.Common.{All, inl, inr, ◌⊎◌, Option, Some, None, option_map, refl, sym, ap}
-use Rattle.std.proofs.Common.{ap₂, subst, ◌∙◌, arith, length-append, eqb-true, eq-eqb, replicate}
+use Rattle.std.proofs.Common.{ap₂, subst, ◌∙◌, arith, length-append, eqb-true, eq-eqb}
 use Rattle.std.proofs.Common.{unwrap_or, append_assoc}
 use Rattle.std.specs.Prelude.{position}
 use Rattle.std.specs.List.{position_or_len, range_with_len}
-use Rattle.std.specs.Map.{lookup}
 use Rattle.std.specs.Option.{option_eq, is_some}
 use Rattle.std.specs.Cmp.Lexicographic.{pointwise_decides, slice_cmp, lists_ties}
 use Rattle.std.specs.declared.cmp.Ordering.{Ordering}
@@ -277,23 +276,6 @@ so_far_step kept numbers rest found found_now trees trees_now known known_now pl
           ∙ ap (λ k. places ++ k ∷ map (place_of (distinct_trees flows)) (map (tree_at kept) rest))
           (sym mine) ∙ was.placed;
     }
-
-pub so_far_at_first : (kept : List Tree) (numbers : List ℕ) (found : BTreeMap (Bor Tree) ℕ)
-    (count : ℕ) → found.entries ≡ [] → AreSoFar kept numbers numbers found []
-    (replicate count None) []
-so_far_at_first kept numbers found count empty =
-    record {
-      found_places = λ es. ap (λ entries. lookup (λ key. is_eq (slice_cmp by_order.cmp es key.now))
-          entries) empty;
-      known_places = λ n place e. absurd (none_known count n place e);
-      whole = refl;
-      placed = refl;
-    }
-  where
-    none_known : (count n place : ℕ) → get_or (replicate count None) n None ≡ Some place → ⊥
-    none_known zero n place e = absurd cc
-    none_known (suc count) zero place e = absurd cc
-    none_known (suc count) (suc n) place e = none_known count n place e
 
 -- each tree kept by its number
 kept_in_order : (kept : List Tree) → map (tree_at kept) (range_with_len 0 (length kept)) ≡ kept

@@ -32,7 +32,7 @@ use Rattle.mc_cert.specs.VersionTwo.{shared_flows_in}
 use Rattle.mc_cert.proofs.Fields.{as_object-is, as_u64-is, number_at-takes, number_at-again}
 use Rattle.mc_cert.proofs.Fields.{list_at-takes, list_at-again, at_most-takes, at_most-again}
 use Rattle.mc_cert.proofs.Fields.{object_of-takes, object_of-again}
-use Rattle.mc_cert.proofs.Parts.{place_ok, rows_take, rows_again, each_length, each_all}
+use Rattle.mc_cert.proofs.Parts.{place_ok, rows_take, rows_again, each_all}
 use Rattle.mc_cert.proofs.Parts.{entries_listed, flow_takes, flow_again, tree_takes, tree_again}
 use Rattle.mc_cert.proofs.Parts.{NamesTree, number_takes, number_again}
 
@@ -83,11 +83,6 @@ pub flows_listed : (t : TopologyValue) (rows : List Data) (flows : List Tree)
     → each (flow_of t) [] rows ≡ Ok flows → All IsList flows
 flows_listed t rows flows e =
     each_all (IsFlow t) IsList (λ _ d es is. entries_listed t is.rows es is.entries) 0 rows flows
-    (rows_take (flow_of t) (IsFlow t) (flow_takes t) rows flows e)
-
-pub flows_length : (t : TopologyValue) (rows : List Data) (flows : List Tree)
-    → each (flow_of t) [] rows ≡ Ok flows → length rows ≡ length flows
-flows_length t rows flows e = each_length (IsFlow t) 0 rows flows
     (rows_take (flow_of t) (IsFlow t) (flow_takes t) rows flows e)
 
 -- ---- version 2
@@ -220,20 +215,10 @@ trees_listed t rows trees e =
     each_all (λ _. IsTree t) IsList (λ _ d es is. entries_listed t is.rows es is.entries) 0 rows
     trees (rows_take (tree_of t) (λ _. IsTree t) (tree_takes t) rows trees e)
 
-pub trees_length : (t : TopologyValue) (rows : List Data) (trees : List Tree)
-    → each (tree_of t) [] rows ≡ Ok trees → length rows ≡ length trees
-trees_length t rows trees e = each_length (λ _. IsTree t) 0 rows trees
-    (rows_take (tree_of t) (λ _. IsTree t) (tree_takes t) rows trees e)
-
 pub numbers_named : (t : TopologyValue) (trees : ℕ) (rows : List Data) (ms : List ℕ)
     → each (shared_flow_of t trees) [] rows ≡ Ok ms → All (λ n. n < trees) ms
 numbers_named t trees rows ms e =
     each_all (NamesTree t trees) (λ n. n < trees) (λ _ d m is. is.within) 0 rows ms
-    (rows_take (shared_flow_of t trees) (NamesTree t trees) (number_takes t trees) rows ms e)
-
-pub numbers_length : (t : TopologyValue) (trees : ℕ) (rows : List Data) (ms : List ℕ)
-    → each (shared_flow_of t trees) [] rows ≡ Ok ms → length rows ≡ length ms
-numbers_length t trees rows ms e = each_length (NamesTree t trees) 0 rows ms
     (rows_take (shared_flow_of t trees) (NamesTree t trees) (number_takes t trees) rows ms e)
 
 -- ---- the version

@@ -3,21 +3,17 @@ use Rattle.std.proofs.Common.{◌≡◌, ℕ, ◌<◌, ◌≤◌, All, List, []}
 use Rattle.std.proofs.Common.{◌∷◌, length, get_or, fold, map, Option, Some, None}
 use Rattle.std.proofs.Common.{unwrap_or, inl, refl, sym, ap, ap₂, subst, ◌∙◌, arith}
 use Rattle.std.proofs.Common.{append-nil}
-use Rattle.std.specs.Prelude.{slice_get}
 use Rattle.std.specs.List.{AllByRecursion}
 use Rattle.std.proofs.lemmas.List.{length-map}
-use Rattle.std.proofs.lemmas.List.Quantifiers.{position-Some}
-use Rattle.std.proofs.lemmas.Option.{slice_get-get_or}
 use Rattle.mc_topology.specs.Topology.{TopologyValue, IsTopology}
 use Rattle.mc_cert.specs.Certificate.{Tree, tree_at, IsList, IsOfBytes, IsEntryOf, BelongsTo}
 use Rattle.mc_cert.specs.CertificateText.{certificate_text}
-use Rattle.mc_cert.specs.Distinct.{same_tree, place_in, with_tree, distinct_trees, place_of}
+use Rattle.mc_cert.specs.Distinct.{place_in, with_tree, distinct_trees, place_of}
 use Rattle.mc_cert.specs.Stands.{CertificateStands}
 use Rattle.mc_cert.specs.Writable.{IsWritableTree}
+use Rattle.mc_cert.proofs.DistinctLemmas.{with_known, with_new, place_of_new, place_stays}
+use Rattle.mc_cert.proofs.DistinctLemmas.{few_from, at_place, distinct_belong}
 use Rattle.mc_cert.proofs.Documents.{each_follows, each_map}
-use Rattle.mc_cert.proofs.ListLemmas.{few_from}
-use Rattle.mc_cert.proofs.PlaceLemmas.{tree_decides, with_known, with_new, place_of_new}
-use Rattle.mc_cert.proofs.PlaceLemmas.{place_stays, distinct_belong}
 use Rattle.mc_cert.proofs.TreesStand.{end_of, trees_stand}
 
 -- ---- the different trees
@@ -43,29 +39,25 @@ found_all trees (es ∷ flows) = (
         (ap (λ (ts : List Tree). place_in ts es) (with_new trees es e) ∙ place_of_new trees es e),
   )
 
--- a tree stands at its place
-record IsPlaced (trees : List Tree) (es : Tree) : Type 0 where
-  within : place_of trees es < length trees
-  there : slice_get trees (place_of trees es) ≡ Some es
-
--- a tree that has a place among them stands there
-placed : (trees : List Tree) (es : Tree) → (k : ℕ) × (place_in trees es ≡ Some k)
-    → IsPlaced trees es
-placed trees es (k, e) =
-    let at = position-Some (same_tree es) trees k es e in
-    let place : place_of trees es ≡ k = ap (λ o. unwrap_or o 0) e in
-    let same : es ≡ get_or trees k es = (tree_decides es (get_or trees k es)).0 at.1 in
-    record {
-      within = omega (arith, place, at.0);
-      there = ap (slice_get trees) place ∙ slice_get-get_or trees k es at.0 ∙ ap Some (sym same);
-    }
-
 -- the trees at the flows' places are the flows' own
-trees_placed : (trees flows : List Tree) → AllByRecursion (IsPlaced trees) flows
+trees_placed : (trees flows : List Tree)
+    → AllByRecursion (λ es. (k : ℕ) × (place_in trees es ≡ Some k)) flows
     → map (tree_at trees) (map (place_of trees) flows) ≡ flows
 trees_placed trees [] all = refl
-trees_placed trees (es ∷ flows) (here, all) =
-    ap₂ (λ t ts. t ∷ ts) (ap (λ o. unwrap_or o []) here.there) (trees_placed trees flows all)
+trees_placed trees (es ∷ flows) ((k, e), all) =
+    ap₂ (λ t ts. t ∷ ts)
+    (ap (λ o. tree_at trees (unwrap_or o 0)) e
+    ∙ ap (λ o. unwrap_or o []) (at_place trees es k e).1)
+    (trees_placed trees flows all)
+
+-- a flow's place is one of them
+place_within : (trees : List Tree) (es : Tree) → (k : ℕ) × (place_in trees es ≡ Some k)
+    → place_of trees es < length trees
+place_within trees es (k, e) = omega (
+  arith,
+  ap (λ o. unwrap_or o 0) e,
+  (at_place trees es k e).0,
+)
 
 -- ---- the text
 
@@ -83,13 +75,11 @@ written_stands t flows rules count all few =
       count,
       rules.few_flows,
     ) in
-    let at : AllByRecursion (IsPlaced trees) flows =
-    each_follows (λ es. (k : ℕ) × (place_in trees es ≡ Some k)) (IsPlaced trees)
-    (placed trees) flows (found_all [] flows) in
+    let at = found_all [] flows in
     let named : AllByRecursion (λ n. n < length trees) places =
     each_map (λ n. n < length trees) (place_of trees) flows
-    (each_follows (IsPlaced trees) (λ es. place_of trees es < length trees) (λ es is. is.within)
-    flows at) in
+    (each_follows (λ es. (k : ℕ) × (place_in trees es ≡ Some k))
+    (λ es. place_of trees es < length trees) (place_within trees) flows at) in
     subst (λ (own : List Tree). CertificateStands t (certificate_text t flows) own)
     (trees_placed trees flows at)
     (trees_stand t places trees (certificate_text t flows) [] rules

@@ -5,11 +5,10 @@ ghost use Rattle.std.specs.Prelude.{option_map, string_bytes};
 ghost use Rattle.mc_cert.specs.Certificate.{IsList, flows_of, tree_at};
 
 use crate::compact::compact_certificate;
-use crate::distinct::{Distinct, distinct_trees};
 use crate::fault::CertFault;
 use crate::reached::{FlowCert, Reached};
 use crate::read::reading_of;
-use crate::written::{push_flows, push_trees};
+use crate::trees::Trees;
 use mc_text::Memory;
 use mc_topology::Topology;
 use std::alloc::Global;
@@ -146,6 +145,18 @@ impl Certificate {
         }
     }
 
+    /// The trees of the flows, each different one kept once.
+    fn to_trees(&self, alloc: Global) -> Result<Trees, Memory>
+        ensures { IfOk result (λ trees. trees ≡ self.now) }
+    {
+        let mut trees = Trees::new(alloc);
+        for flow in 0..self.flows() {
+            let tree = Vec::from_slice(alloc, self.listed_tree(flow))?;
+            trees.push(tree)?;
+        }
+        Ok(trees)
+    }
+
     /// The JSON text of the certificate, in version 2, for the topology that it belongs to:
     /// compact, on one line without a line feed. Each different tree is written once, in the order
     /// of first use.
@@ -156,13 +167,6 @@ impl Certificate {
         ensures stands { IfOk result (λ text. length (string_bytes text) ≤ 16777216 →
             CertificateStands topology.now (string_bytes text) self.now) }
     {
-        let _rules = topology.flows();
-        let Distinct { trees, places } = distinct_trees(alloc, &self.trees, &self.tree_of_flow)?;
-        let mut text = String::from_str(alloc, r#"{"flows":["#)?;
-        push_flows(&mut text, topology, &places)?;
-        text.push_str(r#"],"trees":["#)?;
-        push_trees(&mut text, topology, &self.trees, &trees)?;
-        text.push_str(r#"],"version":2}"#)?;
-        Ok(text)
+        self.to_trees(alloc)?.to_json(alloc, topology)
     }
 }

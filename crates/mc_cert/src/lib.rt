@@ -4,15 +4,15 @@
 
 mod certificate;
 mod compact;
-mod distinct;
+mod different;
 mod entry;
 mod fault;
 mod laws;
-mod lists;
 mod object;
 mod pieces;
 mod reached;
 mod read;
+mod trees;
 mod version;
 mod version_one;
 mod version_two;
@@ -24,5 +24,5 @@ pub use laws::{
     certificates_are_read_as_they_stand, texts_of_certificates_stand_for_them,
     texts_stand_for_certificates,
 };
-pub use lists::Lists;
 pub use reached::{FlowCert, Reached};
+pub use trees::Trees;

@@ -1,14 +1,15 @@
 //! The JSON text of a certificate, in version 2, piece by piece.
 
-ghost use Rattle.std.specs.Prelude.{◌≡◌, ◌++◌, ◌<◌, ◌≤◌, All, length, map, IfSome, OnOk};
+ghost use Rattle.std.specs.Prelude.{◌≡◌, ◌++◌, ◌<◌, All, length, map, IfSome, OnOk};
 ghost use Rattle.std.specs.Prelude.{string_bytes};
-ghost use Rattle.mc_cert.specs.Certificate.{IsEntryOf, IsOfBytes, tree_at};
+ghost use Rattle.mc_cert.specs.Certificate.{IsEntryOf, IsOfBytes};
 ghost use Rattle.mc_cert.specs.CertificateText.{listed, forwarder_text, entry_text, tree_text};
 ghost use Rattle.mc_cert.specs.CertificateText.{flow_text, flow_texts};
 
 use crate::reached::Reached;
 use mc_topology::{Flow, RouterNo, Topology};
 use std::alloc::AllocError;
+use std::rc::Rc;
 
 /// Appends the keys of the interface that sends, if there is one.
 fn push_forwarder(
@@ -60,58 +61,52 @@ fn push_tree(text: &mut String, topology: &Topology, entries: &[Reached]) -> Res
     text.push_str("]")
 }
 
-/// Appends the kept trees with these numbers.
+/// Appends trees.
 pub(crate) fn push_trees(
     text: &mut String,
     topology: &Topology,
-    kept: &[Vec<Reached>],
-    trees: &[usize],
+    trees: &[Rc<Vec<Reached>>],
 ) -> Result<(), AllocError>
-    requires named { All (λ n. n < length kept.now) trees.now }
-    requires belong { let all = map (λ t. t.items) kept.now in
-        All (All (IsEntryOf topology.now)) (map (tree_at all) trees.now) }
-    ensures text { let all = map (λ t. t.items) kept.now in
-        OnOk result (string_bytes text.new ≡
-        string_bytes text.old
-        ++ listed (map (tree_text topology.now) (map (tree_at all) trees.now))) }
-    ensures bytes { let all = map (λ t. t.items) kept.now in
-        OnOk result (All (All IsOfBytes) (map (tree_at all) trees.now)) }
+    requires { All (All (IsEntryOf topology.now)) (map (λ t. t.value.items) trees.now) }
+    ensures text { OnOk result (string_bytes text.new ≡ string_bytes text.old
+        ++ listed (map (tree_text topology.now) (map (λ t. t.value.items) trees.now))) }
+    ensures bytes { OnOk result (All (All IsOfBytes) (map (λ t. t.value.items) trees.now)) }
 {
     let mut separator = "";
     for tree in trees {
         text.push_str(separator)?;
-        push_tree(text, topology, &kept[*tree])?;
+        push_tree(text, topology, tree.as_slice())?;
         separator = ",";
     }
     Ok(())
 }
 
-/// Appends a flow of the topology and the place of its tree.
-fn push_flow(text: &mut String, flow: &Flow, place: usize) -> Result<(), AllocError>
+/// Appends a flow of the topology and the number of its tree.
+fn push_flow(text: &mut String, flow: &Flow, tree: u32) -> Result<(), AllocError>
     ensures { OnOk result (string_bytes text.new ≡
-        string_bytes text.old ++ flow_text flow.now place) }
+        string_bytes text.old ++ flow_text flow.now tree) }
 {
     let (group, source) = (flow.group, flow.source);
     write!(
         text,
-        r#"{{"group":"{group}","source":"{source}","tree":{place}}}"#
+        r#"{{"group":"{group}","source":"{source}","tree":{tree}}}"#
     )
 }
 
-/// Appends the flows of the topology, of which each has the tree at its place.
+/// Appends the flows of the topology, each with the number of its tree.
 pub(crate) fn push_flows(
     text: &mut String,
     topology: &Topology,
-    places: &[usize],
+    numbers: &[u32],
 ) -> Result<(), AllocError>
-    requires { length places.now ≡ length topology.now.flows }
+    requires { length numbers.now ≡ length topology.now.flows }
     ensures { OnOk result (string_bytes text.new ≡
-        string_bytes text.old ++ listed (flow_texts topology.now.flows places.now)) }
+        string_bytes text.old ++ listed (flow_texts topology.now.flows numbers.now)) }
 {
     let mut separator = "";
-    for number in 0..topology.flows() {
+    for flow in 0..topology.flows() {
         text.push_str(separator)?;
-        push_flow(text, topology.flow(number), places[number as usize])?;
+        push_flow(text, topology.flow(flow), numbers[flow as usize])?;
         separator = ",";
     }
     Ok(())

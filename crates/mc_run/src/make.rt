@@ -14,7 +14,7 @@ ghost use Rattle.mc_run.specs.MakeRun.{WritesMade, WritesPartOfMade};
 use crate::domain_input::{MAX_INPUT, domain_in};
 use crate::fault::RunFault;
 use crate::found_text::push_found;
-use mc_cert::Lists;
+use mc_cert::Trees;
 use mc_forward::Domain;
 use mc_maker::{Examined, examine};
 use mc_text::{Input, Memory as NoMemory, Output, read_to_limit, write_all};
@@ -24,7 +24,7 @@ use std::alloc::Global;
 /// The lists of the flows that have one, and the lines of those that have none.
 #[derive(Drop)]
 struct Made {
-    lists: Lists,
+    lists: Trees,
     lines: String,
 }
 
@@ -33,7 +33,7 @@ fn make_all(alloc: Global, domain: &Domain) -> Result<Made, NoMemory>
     ensures { IfOk result (λ made. AreMade domain.now made.lists (string_bytes made.lines)) }
 {
     let topology = domain.topology();
-    let mut lists = Lists::new(alloc);
+    let mut lists = Trees::new(alloc);
     let mut lines = String::new(alloc);
     for flow in 0..topology.flows() {
         match examine(alloc, domain, flow)? {
@@ -53,12 +53,12 @@ fn make_all(alloc: Global, domain: &Domain) -> Result<Made, NoMemory>
 }
 
 /// The text of the certificate of these lists, one for each flow of the topology, and a line feed.
-fn certificate_text(alloc: Global, topology: &Topology, lists: Lists) -> Result<String, NoMemory>
+fn certificate_text(alloc: Global, topology: &Topology, lists: Trees) -> Result<String, NoMemory>
     requires { BelongsTo topology.now lists }
     ensures { IfOk result (λ text. string_bytes text ≡
         text_of_certificate topology.now lists ++ codes "\n") }
 {
-    let mut text = lists.into_certificate(alloc)?.to_json(alloc, topology)?;
+    let mut text = lists.to_json(alloc, topology)?;
     text.push_str("\n").map_err(|_| NoMemory)?;
     Ok(text)
 }

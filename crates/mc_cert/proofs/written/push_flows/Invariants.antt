@@ -4,11 +4,11 @@ use denote.Text.{Utf8}
 use Rattle.mc_cert.specs.CertificateText.{listed_after, listed, flow_texts}
 use Rattle.mc_cert.proofs.written.push_flows.Given as goal
 
-abbrev pub invariant-loop-number : goal.invariant-loop-number
-invariant-loop-number l =
+abbrev pub invariant-loop-flow : goal.invariant-loop-flow
+invariant-loop-flow l =
     record {
       is_text : shadow (Utf8 l.separator);
       so_far : string_bytes l.text ++ listed_after l.separator
-          (flow_texts (drop l.number l.topology.flows) (drop l.number l.places))
-          ≡ string_bytes l.initial.text ++ listed (flow_texts l.topology.flows l.places);
+          (flow_texts (drop l.flow l.topology.flows) (drop l.flow l.numbers))
+          ≡ string_bytes l.initial.text ++ listed (flow_texts l.topology.flows l.numbers);
     }

@@ -1,7 +1,7 @@
-use Rattle.std.proofs.Common.{◌≡◌, ℕ, ◌<◌, All, get_or, ◌++◌, drop, map, string_bytes}
+use Rattle.std.proofs.Common.{◌≡◌, ◌++◌, All, take, drop, map, string_bytes}
 use denote.Shadow.{shadow}
 use denote.Text.{Utf8}
-use Rattle.mc_cert.specs.Certificate.{IsOfBytes, tree_at}
+use Rattle.mc_cert.specs.Certificate.{IsOfBytes}
 use Rattle.mc_cert.specs.CertificateText.{listed_after, listed, tree_text}
 use Rattle.mc_cert.proofs.written.push_trees.Given as goal
 
@@ -10,10 +10,8 @@ invariant-loop-tree l =
     record {
       is_text : shadow (Utf8 l.separator);
       so_far : string_bytes l.text ++ listed_after l.separator
-          (map (λ n. tree_text l.topology (tree_at (map (λ t. t.items) l.kept) n))
-          (drop l.tree-index l.trees))
-          ≡ string_bytes l.initial.text ++ listed
-          (map (λ n. tree_text l.topology (tree_at (map (λ t. t.items) l.kept) n)) l.trees);
-      bytes : (k d : ℕ) → k < l.tree-index → All IsOfBytes
-          (tree_at (map (λ t. t.items) l.kept) (get_or l.trees k d));
+          (map (λ t. tree_text l.topology t.value.items) (drop l.tree-index l.trees))
+          ≡ string_bytes l.initial.text
+          ++ listed (map (λ t. tree_text l.topology t.value.items) l.trees);
+      bytes : All (λ t. All IsOfBytes t.value.items) (take l.tree-index l.trees);
     }

@@ -1,0 +1,73 @@
+//! Different trees, each found by its entries.
+
+ghost use Rattle.std.specs.Prelude.{◌≡◌, [], ◌<◌, length, map, IfOk, OnOk, OnErr, Some};
+ghost use Rattle.mc_cert.specs.Distinct.{place_in, with_tree};
+
+use crate::reached::Reached;
+use std::alloc::{AllocError, Global};
+use std::collections::BTreeMap;
+use std::marker::Model;
+use std::rc::Rc;
+
+/// The different trees among those that were looked up, in the order of first use. In contracts it
+/// is the list of these trees. Trees are made of names that a network chooses, so they are found by
+/// their order and not by a hash.
+#[derive(Debug, Drop)]
+pub(crate) struct Different {
+    alloc: Global,
+    trees: Vec<Rc<Vec<Reached>>>,
+    /// The number of each tree among these, counted from 0.
+    numbers: BTreeMap<Rc<Vec<Reached>>, u32>,
+}
+
+impl Model for Different {
+    ghost use Rattle.std.specs.Prelude.{List, map};
+    ghost use Rattle.mc_cert.specs.Certificate.{Tree};
+    ghost use Rattle.mc_cert.specs.Trees.{AreNumbered};
+
+    ghost Value = { List Tree };
+
+    ghost view = { λ d. map (λ t. t.value.items) d.trees.items };
+
+    ghost invariant = { λ d. AreNumbered ⟦<Reached as Ord>⟧.cmp (λ t. t.value.items)
+        d.numbers (map (λ t. t.value.items) d.trees.items) };
+}
+
+impl Different {
+    /// No trees.
+    pub(crate) fn new(alloc: Global) -> Different
+        ensures { result ≡ [] }
+    {
+        Different {
+            alloc,
+            trees: Vec::new(alloc),
+            numbers: BTreeMap::new(alloc),
+        }
+    }
+
+    /// The trees.
+    pub(crate) fn trees(&self) -> &[Rc<Vec<Reached>>]
+        ensures { map (λ t. t.value.items) result.now ≡ self.now }
+    {
+        &self.trees
+    }
+
+    /// The number of a tree, which is put behind the others if it is none of them.
+    pub(crate) fn number_of(&mut self, tree: Vec<Reached>) -> Result<u32, AllocError>
+        requires { length self.old < 4096 }
+        ensures trees { OnOk result (self.new ≡ with_tree self.old tree.items) }
+        ensures number { IfOk result (λ n. place_in self.new tree.items ≡ Some n) }
+        ensures unchanged { OnErr result (self.new ≡ self.old) }
+    {
+        let tree = Rc::new(self.alloc, tree)?;
+        if let Some(number) = self.numbers.get(&tree).copied() {
+            return Ok(number);
+        }
+        let number = self.trees.len() as u32;
+        self.trees.reserve(1)?;
+        let key = tree.clone()?;
+        self.numbers.insert(key, number)?;
+        self.trees.push(tree)?;
+        Ok(number)
+    }
+}

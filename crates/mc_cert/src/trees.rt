@@ -1,0 +1,89 @@
+//! Trees as they come, one a flow.
+
+ghost use Rattle.std.specs.Prelude.{◌≡◌, ◌<◌, ◌≤◌, [], ◌∷◌, ◌++◌, length, IfOk, OnOk, OnErr};
+ghost use Rattle.std.specs.Prelude.{string_bytes};
+ghost use Rattle.mc_cert.specs.Certificate.{BelongsTo, IsList};
+ghost use Rattle.mc_cert.specs.CertificateText.{certificate_text};
+ghost use Rattle.mc_cert.specs.Stands.{CertificateStands};
+
+use crate::different::Different;
+use crate::reached::Reached;
+use crate::written::{push_flows, push_trees};
+use mc_text::Memory;
+use mc_topology::Topology;
+use std::alloc::Global;
+use std::marker::Model;
+
+/// Trees in the order in which they came, one a flow. In contracts it is the list of these trees.
+/// A tree that many flows share is kept once.
+#[derive(Debug, Drop)]
+pub struct Trees {
+    different: Different,
+    /// For each flow the number of its tree among these.
+    numbers: Vec<u32>,
+}
+
+impl Model for Trees {
+    ghost use Rattle.std.specs.Prelude.{List};
+    ghost use Rattle.mc_cert.specs.Certificate.{Tree};
+    ghost use Rattle.mc_cert.specs.Trees.{trees_of, AreShared};
+
+    ghost Value = { List Tree };
+
+    ghost view = { λ t. trees_of t.different t.numbers.items };
+
+    ghost invariant = { λ t. AreShared t.different t.numbers.items };
+}
+
+impl Trees {
+    /// No trees.
+    pub fn new(alloc: Global) -> Trees
+        ensures { result ≡ [] }
+    {
+        Trees {
+            different: Different::new(alloc),
+            numbers: Vec::new(alloc),
+        }
+    }
+
+    /// Puts a tree behind the others: at most 1,024 entries, each with a `need` of at least 1 and a
+    /// vif of at most 31.
+    ///
+    /// # Errors
+    ///
+    /// `Memory` where a growth was refused. The trees are then as they were.
+    pub fn push(&mut self, tree: Vec<Reached>) -> Result<(), Memory>
+        requires few { length self.old < 4096 }
+        requires list { IsList tree.items }
+        ensures pushed { OnOk result (self.new ≡ self.old ++ tree.items ∷ []) }
+        ensures unchanged { OnErr result (self.new ≡ self.old) }
+    {
+        self.numbers.reserve(1)?;
+        let number = self.different.number_of(tree)?;
+        self.numbers.push(number)?;
+        Ok(())
+    }
+
+    /// The JSON text of the certificate of these trees, in version 2, for the topology that it
+    /// belongs to: compact, on one line without a line feed. Each different tree is written once, in
+    /// the order of first use.
+    ///
+    /// # Errors
+    ///
+    /// `Memory` where a growth was refused.
+    pub fn to_json(&self, alloc: Global, topology: &Topology) -> Result<String, Memory>
+        requires { BelongsTo topology.now self.now }
+        ensures text { IfOk result (λ text. string_bytes text
+            ≡ certificate_text topology.now self.now) }
+        ensures stands { IfOk result (λ text. length (string_bytes text) ≤ 16777216 →
+            CertificateStands topology.now (string_bytes text) self.now) }
+    {
+        let _rules = topology.flows();
+        let mut text = String::from_str(alloc, r#"{"flows":["#)?;
+        push_flows(&mut text, topology, &self.numbers)?;
+        text.push_str(r#"],"trees":["#)?;
+        push_trees(&mut text, topology, self.different.trees())?;
+        text.push_str(r#"],"version":2}"#)?;
+        Ok(text)
+    }
+}

@@ -5,7 +5,7 @@ use mc_topology::{LanNo, RouterNo};
 use std::marker::Model;
 
 /// A LAN that the packets of a flow reach. In contracts it is an `Entry` of the theory.
-#[derive(Clone, Copy, Debug, PartialEq, Eq, PartialOrd, Ord, Hash)]
+#[derive(Clone, Copy, Debug, PartialEq, Eq, PartialOrd, Ord)]
 pub struct Reached {
     /// The LAN.
     pub lan: LanNo,

@@ -1,7 +1,6 @@
 pub mod AuditFlows
 pub mod AuditLemmas
 pub mod AuditLines
-pub mod BundleFront
 pub mod CertifiedLemmas
 pub mod CheckLemmas
 pub mod MakeLemmas

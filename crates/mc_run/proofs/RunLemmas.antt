@@ -11,7 +11,7 @@ use Rattle.mc_run.specs.declared.fault.RunFault.TheVariants.{PartReports, Report
 use Rattle.mc_run.specs.declared.fault.RunFault.TheVariants.{NoSuchFlow, Read, Write, Memory}
 use Rattle.mc_run.specs.BundleMeaning.{IsRefusedFor}
 use Rattle.mc_run.specs.Failures.{IsNoDeviceFault, failed_reads, failed_writes}
-use Rattle.mc_run.proofs.BundleFront.{bundle_of-front}
+use Rattle.mc_text.proofs.BundleFront.{bundle_of-front}
 
 -- a bundle has fewer bytes than are read of an input, so that all were read
 pub read_whole : (text : List ℕ) (v : InputValue) (c : Option (List ℕ))

@@ -15,11 +15,6 @@ use Rattle.mc_run.specs.declared.fault.RunFault.TheVariants.{Bundle, Parts, Topo
 use Rattle.mc_run.specs.declared.fault.RunFault.TheVariants.{PartReports, Reports, Certificate}
 use Rattle.mc_run.specs.declared.fault.RunFault.TheVariants.{NoSuchFlow, Read, Write, Memory}
 
--- How many bytes of a text decide what a bundle means: those of the greatest bundle, and of the
--- longest line after it.
-abbrev pub max_input : ℕ
-max_input = 268435552
-
 -- ---- what it means
 
 -- The bundle's parts tell the domain, and this is the text of its certificate, where one is to be

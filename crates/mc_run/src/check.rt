@@ -3,10 +3,11 @@
 
 ghost use Rattle.std.specs.Prelude.{◌≡◌, ◌≢◌, ◌<◌, IfErr, IfOk, IfSome, IsTrue, Err, true};
 ghost use Rattle.std.specs.String.{string_bytes};
+ghost use Rattle.mc_text.specs.Bundle.{max_input};
 ghost use Rattle.mc_text.specs.ReadFault.{ConsumesUpTo};
 ghost use Rattle.mc_cert.specs.Certificate.{BelongsTo};
 ghost use Rattle.mc_forward.specs.Domains.{IsDomain};
-ghost use Rattle.mc_run.specs.BundleMeaning.{IsRefusedFor, MeansCertified, max_input};
+ghost use Rattle.mc_run.specs.BundleMeaning.{IsRefusedFor, MeansCertified};
 ghost use Rattle.mc_run.specs.CheckRun.{Answers, HeadlineOf, IsTextOfVerdicts, IsVerdictText};
 ghost use Rattle.mc_run.specs.CheckRun.{KeepsHeadline, SaysYes, WritesPartOfVerdicts};
 ghost use Rattle.mc_run.specs.CheckRun.{WritesVerdicts};

@@ -3,10 +3,11 @@
 
 ghost use Rattle.std.specs.Prelude.{◌≡◌, ◌≢◌, ◌++◌, ◌<◌, IfErr, IfOk, IfSome, Err, codes, false};
 ghost use Rattle.std.specs.String.{string_bytes};
+ghost use Rattle.mc_text.specs.Bundle.{max_input};
 ghost use Rattle.mc_text.specs.ReadFault.{ConsumesUpTo};
 ghost use Rattle.mc_cert.specs.Certificate.{BelongsTo};
 ghost use Rattle.mc_cert.specs.CertificateText.{certificate_text as text_of_certificate};
-ghost use Rattle.mc_run.specs.BundleMeaning.{IsRefusedFor, max_input};
+ghost use Rattle.mc_run.specs.BundleMeaning.{IsRefusedFor};
 ghost use Rattle.mc_run.specs.Failures.{IsNoDeviceFault, failed_reads, failed_writes};
 ghost use Rattle.mc_run.specs.MakeRun.{Answers, AreMade, IsMadeText, IsTextOfMade, SaysIfRight};
 ghost use Rattle.mc_run.specs.MakeRun.{WritesMade, WritesPartOfMade};

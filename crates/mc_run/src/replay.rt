@@ -2,8 +2,8 @@
 
 ghost use Rattle.std.specs.Prelude.{◌≡◌, ◌≢◌, ◌+◌, ◌<◌, ◌⊎◌, IfErr, IfOk, IfSome, Err, length};
 ghost use Rattle.std.specs.String.{string_bytes};
+ghost use Rattle.mc_text.specs.Bundle.{max_input};
 ghost use Rattle.mc_text.specs.ReadFault.{ConsumesUpTo};
-ghost use Rattle.mc_run.specs.BundleMeaning.{max_input};
 ghost use Rattle.mc_run.specs.Failures.{IsNoDeviceFault, failed_reads, failed_writes};
 ghost use Rattle.mc_run.specs.ReplayRun.{Answers, HasNoTravel, IsReplayRefused, IsTextOfTravel};
 ghost use Rattle.mc_run.specs.ReplayRun.{IsTravelText, WritesPartOfTravel, WritesTravel};

@@ -9,5 +9,6 @@ pub mod NumberReading
 pub mod BundleWords
 pub mod BundlePlaces
 pub mod BundleLaws
+pub mod BundleFront
 pub mod Pieces
 mod FirstPlace

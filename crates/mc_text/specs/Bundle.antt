@@ -26,6 +26,11 @@ max_part = 16777216
 abbrev pub max_bundle : ℕ
 max_bundle = 268435456
 
+-- How many bytes of a text decide what bundle it is read as: those of the greatest bundle, and of
+-- the longest line after it.
+abbrev pub max_input : ℕ
+max_input = 268435552
+
 -- the greatest number of parts
 abbrev pub max_parts : ℕ
 max_parts = 1538

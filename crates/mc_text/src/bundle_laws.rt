@@ -1,9 +1,9 @@
 //! What holds of all bundles, whoever wrote them.
 
-ghost use Rattle.std.specs.Prelude.{◌≡◌, ℕ, List, Ok};
+ghost use Rattle.std.specs.Prelude.{◌≡◌, ℕ, List, take, Ok};
 ghost use Rattle.std.specs.List.{AllByRecursion};
 ghost use Rattle.mc_text.specs.Bundle.{PartText, IsPartName, bundle_spelling, AreWithinLimits};
-ghost use Rattle.mc_text.specs.Bundle.{IsBundle};
+ghost use Rattle.mc_text.specs.Bundle.{IsBundle, max_input};
 ghost use Rattle.mc_text.specs.BundleReading.{bundle_of};
 
 /// A text is the bundle of one list of parts at most: no two lists of parts have the same bytes.
@@ -17,4 +17,10 @@ pub fn written_is_read()
     ensures { (parts : List PartText)
         → AllByRecursion (λ part. IsPartName part.name) parts → AreWithinLimits parts
         → bundle_of (bundle_spelling parts) ≡ Ok parts }
+{}
+
+/// The first bytes of a text decide what bundle it is read as, or why it is none: those of the
+/// greatest bundle, and of the longest line after it.
+pub fn front_decides()
+    ensures { (text : List ℕ) → bundle_of (take max_input text) ≡ bundle_of text }
 {}

@@ -30,7 +30,7 @@ mod words;
 pub use addr::{Addr, Order};
 pub use bundle::Bundle;
 pub use bundle_fault::BundleFault;
-pub use bundle_laws::{one_list_of_parts, written_is_read};
+pub use bundle_laws::{front_decides, one_list_of_parts, written_is_read};
 pub use bundle_output::write_bundle;
 pub use device::{DeviceFault, Input, Output};
 pub use device_name::is_device_name;

@@ -1,6 +1,6 @@
 //! The entries of a list.
 
-ghost use Rattle.std.specs.Prelude.{◌≡◌, ◌+◌, ◌<◌, ◌≤◌, map, length, vec_len, option_map, IfOk};
+ghost use Rattle.std.specs.Prelude.{◌≡◌, ◌+◌, ◌<◌, ◌≤◌, map, length, option_map};
 ghost use Rattle.serde_json.specs.View.{view, members_view};
 ghost use Rattle.mc_topology.specs.Answer.{Answers};
 ghost use Rattle.mc_cert.specs.Answer.{Gives, place, entry_place};
@@ -10,6 +10,7 @@ ghost use Rattle.mc_cert.specs.Entries.{entries_of};
 use crate::fault::{CertFault, CertFaultKind, CertPlace};
 use crate::object::{number_of, object_of, text_at, text_of, value_at, whole_at, within};
 use crate::reached::Reached;
+use crate::rows::{Rows, each};
 use mc_topology::{LanNo, RouterNo, Topology};
 use serde_json::{Map, Value};
 use std::alloc::Global;
@@ -90,22 +91,35 @@ fn entry_of(topology: &Topology, value: &Value) -> Result<Reached, CertFaultKind
     })
 }
 
-/// Reads one entry behind so many others, and adds to a fault its place.
-fn entry_at(
-    topology: &Topology,
-    list: CertPlace,
-    earlier: usize,
-    value: &Value,
-) -> Result<Reached, CertFault>
-    requires { earlier < MAX_ENTRIES }
-    ensures { Answers (λ entry. entry) result
-        (place (entry_place list (earlier + 1)) (entry_of topology.now (view value.now))) }
-{
-    let number = earlier as u32 + 1;
-    entry_of(topology, value).map_err(|kind| kind.at(list.entry(number)))
+impl Rows for CertPlace {
+    ghost use Rattle.mc_cert.specs.declared.entry.TheConstants.{MAX_ENTRIES};
+    ghost use Rattle.mc_theory.specs.Certificates.{Entry};
+
+    type Item = Reached;
+
+    ghost Row = { Entry };
+
+    ghost seen = { λ entry. entry };
+
+    ghost may = { λ _ _ n. n < MAX_ENTRIES };
+
+    ghost one = { λ list t n d. place (entry_place list (n + 1)) (entry_of t d) };
+
+    /// Reads an entry of the list at this place, and adds to a fault its own.
+    fn read_row(
+        &self,
+        _alloc: Global,
+        topology: &Topology,
+        number: usize,
+        value: &Value,
+    ) -> Result<Reached, CertFault> {
+        let number = number as u32 + 1;
+        entry_of(topology, value).map_err(|kind| kind.at(self.entry(number)))
+    }
 }
 
-/// The entries of a flow or a tree, one after the other.
+/// The entries of the flow or the tree at this place, one after the other.
+#[tactic(auto, unfolding(crate::specs::Entries::entries_of))]
 pub(crate) fn entries_of(
     alloc: Global,
     topology: &Topology,
@@ -116,10 +130,5 @@ pub(crate) fn entries_of(
     ensures { Gives (λ entries. entries.items) result
         (entries_of topology.now list (map view rows.now)) }
 {
-    let mut entries = Vec::with_capacity(alloc, rows.len())?;
-    for row in rows {
-        let entry = entry_at(topology, list, entries.len(), row)?;
-        entries.push(entry)?;
-    }
-    Ok(entries)
+    each(alloc, topology, &list, rows)
 }

@@ -12,6 +12,7 @@ mod object;
 mod pieces;
 mod reached;
 mod read;
+mod rows;
 mod trees;
 mod version;
 mod version_one;

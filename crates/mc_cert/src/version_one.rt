@@ -1,12 +1,12 @@
 //! The flows of version 1, each with its own entries.
 
-ghost use Rattle.std.specs.Prelude.{◌≡◌, ◌<◌, ◌≤◌, map, length, vec_len, [], IfOk};
+ghost use Rattle.std.specs.Prelude.{◌≡◌, ◌<◌, ◌≤◌, map, length, IfOk};
 ghost use Rattle.std.specs.Str.{bytes_eq};
 ghost use Rattle.serde_json.specs.View.{view, members_view};
 ghost use Rattle.mc_text.specs.Addr.{IsAddr, dotted};
 ghost use Rattle.mc_topology.specs.Answer.{Answers};
 ghost use Rattle.mc_topology.specs.Topology.{IsFlowAmong};
-ghost use Rattle.mc_cert.specs.Answer.{Gives, each};
+ghost use Rattle.mc_cert.specs.Answer.{Gives};
 ghost use Rattle.mc_cert.specs.VersionOne.{is_flow, flow_rows, reached_of, flow_of, flows_in};
 
 use crate::certificate::Certificate;
@@ -14,6 +14,7 @@ use crate::entry::{MAX_ENTRIES, entries_of};
 use crate::fault::{CertFault, CertFaultKind, CertPlace};
 use crate::object::{at_most, list_at, object_of, text_at};
 use crate::reached::Reached;
+use crate::rows::{Rows, each};
 use mc_text::Addr;
 use mc_topology::{Flow, Topology};
 use serde_json::{Map, Value};
@@ -76,43 +77,37 @@ fn reached_of<'a>(flow: &Flow, value: &'a Value) -> Result<&'a [Value], CertFaul
     at_most(MAX_ENTRIES, rows)
 }
 
-/// Reads the flow with this number.
-#[tactic(auto, unfolding(crate::specs::VersionOne::flow_of))]
-fn flow_of(
-    alloc: Global,
-    topology: &Topology,
-    number: usize,
-    value: &Value,
-) -> Result<Vec<Reached>, CertFault>
-    requires few { number < MAX_FLOWS }
-    requires listed { number < length topology.now.flows }
-    ensures { Gives (λ entries. entries.items) result
-        (flow_of topology.now number (view value.now)) }
-{
-    let place = CertPlace::Flow(number as u32 + 1);
-    let flow = topology.flow(number as u32);
-    let rows = reached_of(flow, value).map_err(|kind| kind.at(place))?;
-    entries_of(alloc, topology, place, rows)
-}
+/// The flows, each with its list of entries.
+#[derive(Drop)]
+struct FlowLists;
 
-/// The flows, one after the other.
-fn each_flow(
-    alloc: Global,
-    topology: &Topology,
-    rows: &[Value],
-) -> Result<Vec<Vec<Reached>>, CertFault>
-    requires few { length rows.now ≤ MAX_FLOWS }
-    requires count { length rows.now ≡ length topology.now.flows }
-    ensures flows { Gives (λ flows. map (λ f. f.items) flows.items) result
-        (each (flow_of topology.now) [] (map view rows.now)) }
-    ensures few { IfOk result (λ flows. vec_len flows ≤ MAX_FLOWS) }
-{
-    let mut flows = Vec::with_capacity(alloc, rows.len())?;
-    for row in rows {
-        let flow = flow_of(alloc, topology, flows.len(), row)?;
-        flows.push(flow)?;
+impl Rows for FlowLists {
+    ghost use Rattle.mc_cert.specs.declared.version_one.TheConstants.{MAX_FLOWS};
+    ghost use Rattle.mc_cert.specs.Certificate.{Tree};
+
+    type Item = Vec<Reached>;
+
+    ghost Row = { Tree };
+
+    ghost seen = { λ entries. entries.items };
+
+    ghost may = { λ _ t n. (n < MAX_FLOWS) × (n < length t.flows) };
+
+    ghost one = { λ _. flow_of };
+
+    #[tactic(auto, unfolding(crate::specs::VersionOne::flow_of))]
+    fn read_row(
+        &self,
+        alloc: Global,
+        topology: &Topology,
+        number: usize,
+        value: &Value,
+    ) -> Result<Vec<Reached>, CertFault> {
+        let place = CertPlace::Flow(number as u32 + 1);
+        let flow = topology.flow(number as u32);
+        let rows = reached_of(flow, value).map_err(|kind| kind.at(place))?;
+        entries_of(alloc, topology, place, rows)
     }
-    Ok(flows)
 }
 
 /// The certificate of an object of version 1.
@@ -125,6 +120,6 @@ pub(crate) fn flows_in(
     ensures { Gives (λ c. c) result (flows_in topology.now (members_view object.now.entries)) }
 {
     let rows = flow_rows(topology, object).map_err(|kind| kind.at(CertPlace::Top))?;
-    let flows = each_flow(alloc, topology, rows)?;
+    let flows = each(alloc, topology, &FlowLists, rows)?;
     Ok(Certificate::from_flows(flows))
 }

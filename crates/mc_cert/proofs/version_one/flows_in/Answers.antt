@@ -6,4 +6,4 @@ use Rattle.mc_cert.proofs.version_one.flows_in.Goals as goal
 pub from_flows-requires-clause-lists : goal.from_flows-requires-clause-lists
 from_flows-requires-clause-lists c =
     flows_listed c.args.topology.now (map view c.in_ok-rows.rows.now)
-    (map (λ f. f.items) c.in_ok-flows.flows.items) c.in_ok-flows.ensures.flows
+    (map (λ f. f.items) c.in_ok-flows.flows.items) c.in_ok-flows.ensures.rows

@@ -1,0 +1,32 @@
+use Rattle.std.proofs.Common.{◌≡◌, length, sym, ◌∙◌, arith}
+use Rattle.std.proofs.lemmas.Result.{err_from_is_err_and}
+use Rattle.serde_json.specs.View.{view}
+use Rattle.mc_cert.proofs.Each.{each_next, each_refused, each_done}
+use Rattle.mc_cert.proofs.rows.each.Goals as goal
+
+pub returns-in_err-item-clause-rows : goal.returns-in_err-item-clause-rows
+returns-in_err-item-clause-rows g c =
+    let p = err_from_is_err_and c.from_residual-in_err-item.result
+    c.from_residual-in_err-item.ensures.1 in
+    let long : c.len.result ≡ length c.loop-value.items.items = omega arith in
+    rw (p.1, p.2) (λ some. sym c.loop-value.invariant.rows
+    ∙ each_refused (g.R.Rows.one c.args.rows.now c.args.topology.now) view g.R.Rows.seen
+    c.loop-value.items.items c.args.values.now c.loop-value.value-index
+    c.value-item.result c.in_err-item.field-0.0 c.loop-value-test.true c.value-item.is
+    (rw (← long) (c.in_err-item.ensures some)))
+
+pub loop-value-preserved : goal.loop-value-preserved
+loop-value-preserved g c =
+    let long : c.len.result ≡ length c.loop-value.items.items = omega arith in
+    let next = each_next (g.R.Rows.one c.args.rows.now c.args.topology.now) view g.R.Rows.seen
+    c.loop-value.items.items c.args.values.now c.loop-value.value-index c.value-item.result
+    c.in_ok-item.item c.loop-value-test.true c.value-item.is (rw (← long) c.in_ok-item.ensures) in
+    record {
+      rows = rw c.in_ok-push.ensures.items (sym next ∙ c.loop-value.invariant.rows);
+      count = omega (arith, c.in_ok-push.ensures.len);
+    }
+
+pub returns-clause-rows : goal.returns-clause-rows
+returns-clause-rows g c = sym c.loop-value.invariant.rows
+    ∙ each_done (g.R.Rows.one c.args.rows.now c.args.topology.now) view g.R.Rows.seen
+    c.loop-value.items.items c.args.values.now c.loop-value.value-index c.loop-value-test.false

@@ -1,0 +1,12 @@
+use Rattle.std.proofs.Common.{◌≡◌, [], map, drop, vec_len}
+use Rattle.serde_json.specs.View.{view}
+use Rattle.mc_cert.specs.Answer.{each}
+use Rattle.mc_cert.proofs.rows.each.Given as goal
+
+abbrev pub invariant-loop-value : goal.invariant-loop-value
+invariant-loop-value g l = record {
+  rows : each (g.R.Rows.one l.rows l.topology) (map g.R.Rows.seen l.items.items)
+      (map view (drop l.value-index l.values))
+      ≡ each (g.R.Rows.one l.rows l.topology) [] (map view l.values);
+  count : vec_len l.items ≡ l.value-index;
+}

@@ -29,7 +29,7 @@ use Rattle.mc_cert.specs.CertificateText.{flow_texts, text_of}
 use Rattle.mc_cert.specs.Entries.{entry_keys}
 use Rattle.mc_cert.specs.Object.{has_only, rows_in}
 use Rattle.mc_cert.specs.Stands.{EachStands, IsForwarder, IsEntry, IsTree}
-use Rattle.mc_cert.specs.Writable.{IsWritable, IsWritableTree}
+use Rattle.mc_cert.specs.Writable.{IsWritableFor, IsWritableTreeFor}
 use Rattle.mc_cert.proofs.JsonValues.{IsPlain, escape_plain, name_plain, dotted_plain, IsGood}
 use Rattle.mc_cert.proofs.JsonValues.{good_string, good_number, good_array, items_from, good_items}
 use Rattle.mc_cert.proofs.JsonValues.{HasGood, good_none, good_member, good_object}
@@ -332,10 +332,10 @@ forwarder_stands t rules name need rank (Some i) is =
     )
 
 -- the value of an entry is one that is read again
-good_entry : (t : TopologyValue) (e : Entry) → IsTopology t → IsWritable t e
+good_entry : (t : TopologyValue) (e : Entry) → IsTopology t → IsWritableFor t e
     → IsGood 1 (entry_data t e)
 good_entry t e rules is =
-    let forwarder = known t e.forwarder is.among.router is.listed.vif in
+    let forwarder = known t e.forwarder is.among.router is.writable.vif in
     let need_small : e.need < 2 ^ 64 = omega (arith, is.bytes.need) in
     let rank_small : e.rank < 2 ^ 64 = omega (arith, is.bytes.rank) in
     good_object 0 (entry_members t e) (fields_read t (lan_name t e.lan) e.need e.rank e.forwarder
@@ -347,14 +347,14 @@ good_entry t e rules is =
     (good_forwarder t rules e.forwarder forwarder))))
 
 -- its text is an entry's
-written_entry : (t : TopologyValue) (e : Entry) → IsTopology t → IsWritable t e
+written_entry : (t : TopologyValue) (e : Entry) → IsTopology t → IsWritableFor t e
     → entry_text t e ≡ compact_text (entry_data t e)
 written_entry t e rules is =
     entry_spelled t e (escape_plain (lan_name t e.lan) (lan_plain t e.lan rules is.among.lan))
-    (plain_forwarder t rules e.forwarder (known t e.forwarder is.among.router is.listed.vif))
+    (plain_forwarder t rules e.forwarder (known t e.forwarder is.among.router is.writable.vif))
 
 -- it stands for the entry
-entry_stands : (t : TopologyValue) (e : Entry) → IsTopology t → IsWritable t e
+entry_stands : (t : TopologyValue) (e : Entry) → IsTopology t → IsWritableFor t e
     → IsEntry t (entry_data t e) e
 entry_stands t e rules is =
     record {
@@ -369,12 +369,12 @@ entry_stands t e rules is =
       lan = number_of_lan t.lans e.lan (lan_name t e.lan) rules.lan_names
           (known_at t.lans e.lan is.among.lan);
       need = refl;
-      need_from = is.listed.need;
+      need_from = is.writable.need;
       need_to = is.bytes.need;
       rank = refl;
       rank_to = is.bytes.rank;
       forwarder = forwarder_stands t rules (lan_name t e.lan) e.need e.rank e.forwarder
-          (known t e.forwarder is.among.router is.listed.vif);
+          (known t e.forwarder is.among.router is.writable.vif);
     }
 
 -- ---- trees
@@ -387,24 +387,24 @@ module _ {X : Type 0} (Stands : ℕ → Data → X → Type 0) (f : X → Data) 
   each_stands n (x ∷ xs) (here, all) = (here n, each_stands (n + 1) xs all)
 
 -- the value of a tree is one that is read again
-good_tree : (t : TopologyValue) (es : Tree) → IsTopology t → IsWritableTree t es
+good_tree : (t : TopologyValue) (es : Tree) → IsTopology t → IsWritableTreeFor t es
     → IsGood 2 (tree_data t es)
 good_tree t es rules is =
     good_array 1 _ (good_items (entry_data t) 1 es
-    (each_follows (IsWritable t) (λ e. IsGood 1 (entry_data t e))
-    (λ e written. good_entry t e rules written) es (each_of (IsWritable t) es is.each)))
+    (each_follows (IsWritableFor t) (λ e. IsGood 1 (entry_data t e))
+    (λ e written. good_entry t e rules written) es (each_of (IsWritableFor t) es is.each)))
 
 -- its text is a tree's
-written_tree : (t : TopologyValue) (es : Tree) → IsTopology t → IsWritableTree t es
+written_tree : (t : TopologyValue) (es : Tree) → IsTopology t → IsWritableTreeFor t es
     → tree_text t es ≡ compact_text (tree_data t es)
 written_tree t es rules is =
     ap (λ s. 91 ∷ s)
     (list_spelled (entry_text t) (entry_data t) false es
-    (each_follows (IsWritable t) (λ e. entry_text t e ≡ compact_text (entry_data t e))
-    (λ e written. written_entry t e rules written) es (each_of (IsWritable t) es is.each)))
+    (each_follows (IsWritableFor t) (λ e. entry_text t e ≡ compact_text (entry_data t e))
+    (λ e written. written_entry t e rules written) es (each_of (IsWritableFor t) es is.each)))
 
 -- it stands for the tree
-pub tree_stands : (t : TopologyValue) (es : Tree) → IsTopology t → IsWritableTree t es
+pub tree_stands : (t : TopologyValue) (es : Tree) → IsTopology t → IsWritableTreeFor t es
     → IsTree t (tree_data t es) es
 tree_stands t es rules is =
     record {
@@ -413,9 +413,9 @@ tree_stands t es rules is =
       entries = record {
         few = let same = rows_length (entry_data t) es in omega (arith, same, is.few);
         each = each_stands (λ _. IsEntry t) (entry_data t) 0 es
-            (each_follows (IsWritable t) (λ e. (m : ℕ) → IsEntry t (entry_data t e) e)
+            (each_follows (IsWritableFor t) (λ e. (m : ℕ) → IsEntry t (entry_data t e) e)
             (λ e written m. entry_stands t e rules written) es
-            (each_of (IsWritable t) es is.each));
+            (each_of (IsWritableFor t) es is.each));
       };
     }
 
@@ -454,7 +454,7 @@ document_read flows trees n e f small = rw (e, f, number_of-decimal n small) ref
 
 -- the whole value is one that is read again
 pub good_document : (t : TopologyValue) (places : List ℕ) (trees : List Tree) → IsTopology t
-    → AllByRecursion (λ n. n < 2 ^ 64) places → AllByRecursion (IsWritableTree t) trees
+    → AllByRecursion (λ n. n < 2 ^ 64) places → AllByRecursion (IsWritableTreeFor t) trees
     → IsGood 127 (object (document t places trees))
 good_document t places trees rules small written =
     let flows_good =
@@ -462,7 +462,7 @@ good_document t places trees rules small written =
     (each_follows (λ (p : Flow × ℕ). p.1 < 2 ^ 64) (λ (p : Flow × ℕ). IsGood 2 (flow_data p))
     good_flow (zip t.flows places) (each_second (λ n. n < 2 ^ 64) t.flows places small)) in
     let trees_good = good_items (tree_data t) 2 trees
-    (each_follows (IsWritableTree t) (λ es. IsGood 2 (tree_data t es))
+    (each_follows (IsWritableTreeFor t) (λ es. IsGood 2 (tree_data t es))
     (λ es is. good_tree t es rules is) trees written) in
     no_deeper 4 127 _ (omega arith)
     (good_object 3 (document t places trees) (document_read _ _ 2 flows_good.reads trees_good.reads
@@ -474,7 +474,7 @@ good_document t places trees rules small written =
 
 -- its text is that of the numbers and the trees
 pub written_document : (t : TopologyValue) (places : List ℕ) (trees : List Tree) → IsTopology t
-    → AllByRecursion (IsWritableTree t) trees → text_of t places trees
+    → AllByRecursion (IsWritableTreeFor t) trees → text_of t places trees
     ≡ compact_text (object (document t places trees))
 unfolding escape_byte
 written_document t places trees rules written =
@@ -483,5 +483,5 @@ written_document t places trees rules written =
     (each_always (λ p. flow_text p.0 p.1 ≡ compact_text (flow_data p)) flow_spelled
     (zip t.flows places)))
     (list_spelled (tree_text t) (tree_data t) false trees
-    (each_follows (IsWritableTree t) (λ es. tree_text t es ≡ compact_text (tree_data t es))
+    (each_follows (IsWritableTreeFor t) (λ es. tree_text t es ≡ compact_text (tree_data t es))
     (λ es is. written_tree t es rules is) trees written))

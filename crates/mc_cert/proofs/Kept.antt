@@ -2,7 +2,7 @@
 use Rattle.std.proofs.Common.{◌≡◌, ℕ, zero, suc, All, List, [], ◌∷◌, map, Option, Some, None, refl}
 use Rattle.std.proofs.Common.{subst, arith}
 use Rattle.std.specs.Prelude.{slice_get, unwrap_or}
-use Rattle.mc_cert.specs.Certificate.{Tree, tree_at, flows_of, IsList, IsKept}
+use Rattle.mc_cert.specs.Certificate.{Tree, tree_at, flows_of, IsList, IsStored}
 
 -- an element of a list, by its place
 pub all_at : {X : Type 0} (P : X → Type 0) (xs : List X) (n : ℕ) (x : X) → All P xs
@@ -30,7 +30,7 @@ named_list trees (m ∷ ns) zero es all e =
 named_list trees (m ∷ ns) (suc n) es all e = named_list trees ns n es all e
 
 pub kept_list : (trees : List Tree) (numbers : Option (List ℕ)) (n : ℕ) (es : Tree)
-    → IsKept trees numbers → slice_get (flows_of trees numbers) n ≡ Some es → IsList es
+    → IsStored trees numbers → slice_get (flows_of trees numbers) n ≡ Some es → IsList es
 kept_list trees None n es kept e = all_at IsList trees n es kept.lists e
 kept_list trees (Some ns) n es kept e = named_list trees ns n es kept.lists e
 

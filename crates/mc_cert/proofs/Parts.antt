@@ -19,14 +19,14 @@ use Rattle.mc_topology.specs.Rows.{RouterRow}
 use Rattle.mc_topology.specs.Routers.{router_no_of}
 use Rattle.mc_topology.specs.Topology.{TopologyValue}
 use Rattle.mc_topology.proofs.Steps.{bind_ok, test_ok, ok_or_ok, ok_is}
-use Rattle.mc_cert.specs.declared.fault.CertPlace.{CertPlace}
-use Rattle.mc_cert.specs.declared.fault.CertPlace.TheVariants as at
+use Rattle.mc_cert.specs.declared.fault.At.{At}
+use Rattle.mc_cert.specs.declared.fault.At.TheVariants as at
 use Rattle.mc_cert.specs.declared.fault.CertFaultKind.{CertFaultKind}
 use Rattle.mc_cert.specs.declared.fault.CertFaultKind.TheVariants.{MissingKey, BadNumber}
 use Rattle.mc_cert.specs.declared.fault.CertFaultKind.TheVariants.{UnknownName, WrongFlows}
 use Rattle.mc_cert.specs.declared.fault.CertFault.{CertFault}
 use Rattle.mc_cert.specs.Answer.{place, entry_place, each}
-use Rattle.mc_cert.specs.Certificate.{Tree, IsListed, IsList}
+use Rattle.mc_cert.specs.Certificate.{Tree, IsWritable, IsList}
 use Rattle.mc_cert.specs.Object.{text_of, number_of, object_of, text_at, number_at, list_of}
 use Rattle.mc_cert.specs.Object.{list_at, within, whole_at, at_most}
 use Rattle.mc_cert.specs.Entries.{entry_keys, lan_in, router_of, vif_of, forwarder_of, entry_of}
@@ -44,7 +44,7 @@ use Rattle.mc_cert.proofs.Fields.{list_at-again, at_most-takes, at_most-again}
 
 -- ---- rows
 
-pub place_ok : {A : Type 0} (at : CertPlace) (r : Result A CertFaultKind) (x : A)
+pub place_ok : {A : Type 0} (at : At) (r : Result A CertFaultKind) (x : A)
     → place at r ≡ Ok x → r ≡ Ok x
 place_ok at (Ok y) x e = cc
 place_ok at (Err k) x e = absurd cc
@@ -215,7 +215,7 @@ entry_again t d e is =
     )
     refl
 
-entries_take : (t : TopologyValue) (list : CertPlace) (rows : List Data) (es : Tree)
+entries_take : (t : TopologyValue) (list : At) (rows : List Data) (es : Tree)
     → length rows ≤ 1024 → entries_of t list rows ≡ Ok es → AreEntries t rows es
 unfolding entries_of
 entries_take t list rows es few e =
@@ -226,7 +226,7 @@ entries_take t list rows es few e =
           (entry_of t d) x read)) rows es e;
     }
 
-entries_again : (t : TopologyValue) (list : CertPlace) (rows : List Data) (es : Tree)
+entries_again : (t : TopologyValue) (list : At) (rows : List Data) (es : Tree)
     → AreEntries t rows es → entries_of t list rows ≡ Ok es
 unfolding entries_of
 entries_again t list rows es are =
@@ -241,7 +241,7 @@ forwarder_listed routers None (Some v) forwarder is = absurd is
 forwarder_listed routers (Some d) None forwarder is = absurd is
 forwarder_listed routers (Some d) (Some v) forwarder (i, same, is) = rw same is.vif_to
 
-entry_listed : (t : TopologyValue) (d : Data) (e : Entry) → IsEntry t d e → IsListed e
+entry_listed : (t : TopologyValue) (d : Data) (e : Entry) → IsEntry t d e → IsWritable e
 entry_listed t d e is =
     record { need = is.need_from; vif = forwarder_listed t.routers _ _ e.forwarder is.forwarder }
 
@@ -251,7 +251,7 @@ pub entries_listed : (t : TopologyValue) (rows : List Data) (es : Tree) → AreE
 entries_listed t rows es are =
     record {
       few = omega (arith, are.few, each_length (λ _. IsEntry t) 0 rows es are.each);
-      each = each_all (λ _. IsEntry t) IsListed (λ _ d e is. entry_listed t d e is) 0 rows es
+      each = each_all (λ _. IsEntry t) IsWritable (λ _ d e is. entry_listed t d e is) 0 rows es
           are.each;
     }
 
@@ -269,7 +269,7 @@ is_flow-itself f = rw (
   (bytes_eq-Decides (dotted f.source) (dotted f.source)).1 refl,
 ) refl
 
-flow_at-takes : (t : TopologyValue) (n : ℕ) (at : CertPlace) (f : Flow)
+flow_at-takes : (t : TopologyValue) (n : ℕ) (at : At) (f : Flow)
     → place at (flow_at t n) ≡ Ok f → slice_get t.flows n ≡ Some f
 flow_at-takes t n at f e = ok_or_ok (slice_get t.flows n) WrongFlows f
     (place_ok at (flow_at t n) f e)

@@ -17,7 +17,7 @@ use Rattle.mc_cert.specs.Certificate.{Tree, tree_at}
 use Rattle.mc_cert.specs.CertificateText.{text_of}
 use Rattle.mc_cert.specs.Object.{rows_in}
 use Rattle.mc_cert.specs.Stands.{EachStands, IsTree, IsSharedFlow, CertificateStands}
-use Rattle.mc_cert.specs.Writable.{IsWritableTree}
+use Rattle.mc_cert.specs.Writable.{IsWritableTreeFor}
 use Rattle.mc_cert.proofs.Documents.{flow_members, flow_data, tree_data, document, good_document}
 use Rattle.mc_cert.proofs.Documents.{written_document, tree_stands, each_stands, each_of}
 use Rattle.mc_cert.proofs.Documents.{each_follows, rows_length, zip_length}
@@ -76,7 +76,7 @@ flows_stand t trees n (f ∷ fs) (m ∷ places) listed count (here, all) =
 document_stands : (t : TopologyValue) (places : List ℕ) (trees : List Tree) (text : List ℕ)
     → IsTopology t → length places ≡ length t.flows
     → AllByRecursion (λ n. n < length trees) places → length trees ≤ 4096
-    → AllByRecursion (IsWritableTree t) trees → length text ≤ 16777216 → IsUtf8 text
+    → AllByRecursion (IsWritableTreeFor t) trees → length text ≤ 16777216 → IsUtf8 text
     → read text ≡ Some (object (document t places trees))
     → CertificateStands t text (map (tree_at trees) places)
 document_stands t places trees text rules count named few_trees written few utf8 reads =
@@ -108,7 +108,7 @@ document_stands t places trees text rules count named few_trees written few utf8
         );
         few_trees = omega (arith, tree_count, few_trees);
         each_tree = each_stands (λ _. IsTree t) (tree_data t) 0 trees
-            (each_follows (IsWritableTree t) (λ es. (m : ℕ) → IsTree t (tree_data t es) es)
+            (each_follows (IsWritableTreeFor t) (λ es. (m : ℕ) → IsTree t (tree_data t es) es)
             (λ es is m. tree_stands t es rules is) trees written);
         each = flows_stand t trees 0 t.flows places
             (λ k f here. let same : k ≡ 0 + k = omega arith in subst
@@ -132,13 +132,13 @@ end_of rest (inr feed) = subst IsEnd (sym feed)
 -- behind a text, stands for the trees with these numbers.
 pub trees_stand : (t : TopologyValue) (places : List ℕ) (trees : List Tree) (text rest : List ℕ)
     → IsTopology t → length places ≡ length t.flows → AllByRecursion (λ n. n < length trees) places
-    → length trees ≤ 4096 → All (IsWritableTree t) trees → length text ≤ 16777216
+    → length trees ≤ 4096 → All (IsWritableTreeFor t) trees → length text ≤ 16777216
     → text ≡ text_of t places trees ++ rest → IsEnd rest
     → CertificateStands t text (map (tree_at trees) places)
 trees_stand t places trees text rest rules count named few_trees writable few is end =
     let small = each_follows (λ n. n < length trees) (λ n. n < 2 ^ 64)
     (λ n lt. omega (arith, lt, few_trees)) places named in
-    let written = each_of (IsWritableTree t) trees writable in
+    let written = each_of (IsWritableTreeFor t) trees writable in
     let d = object (document t places trees) in
     let good = good_document t places trees rules small written in
     let same : text ≡ compact_text d ++ rest =

@@ -13,7 +13,7 @@ use Rattle.serde_json.specs.Find.{as_object, as_u64}
 use Rattle.serde_json.specs.Read.{read}
 use Rattle.mc_topology.specs.Topology.{TopologyValue}
 use Rattle.mc_topology.proofs.Steps.{bind_ok, test_ok, ok_or_ok, ok_is}
-use Rattle.mc_cert.specs.declared.fault.CertPlace.TheVariants.{Top}
+use Rattle.mc_cert.specs.declared.fault.At.TheVariants.{Top}
 use Rattle.mc_cert.specs.declared.fault.CertFaultKind.TheVariants.{NotJson, BadVersion, UnknownKey}
 use Rattle.mc_cert.specs.declared.fault.CertFaultKind.TheVariants.{BadKind, WrongFlows, TooMany}
 use Rattle.mc_cert.specs.declared.version.Version.{Version}

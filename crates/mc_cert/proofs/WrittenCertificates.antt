@@ -10,7 +10,7 @@ use Rattle.mc_cert.specs.Certificate.{Tree, tree_at, IsList, IsOfBytes, IsEntryO
 use Rattle.mc_cert.specs.CertificateText.{certificate_text}
 use Rattle.mc_cert.specs.Distinct.{place_in, with_tree, distinct_trees, place_of}
 use Rattle.mc_cert.specs.Stands.{CertificateStands}
-use Rattle.mc_cert.specs.Writable.{IsWritableTree}
+use Rattle.mc_cert.specs.Writable.{IsWritableTreeFor}
 use Rattle.mc_cert.proofs.DistinctLemmas.{with_known, with_new, place_of_new, place_stays}
 use Rattle.mc_cert.proofs.DistinctLemmas.{few_from, at_place, distinct_belong}
 use Rattle.mc_cert.proofs.Documents.{each_follows, each_map}
@@ -63,7 +63,7 @@ place_within trees es (k, e) = omega (
 
 -- what is written stands for the certificate
 written_stands : (t : TopologyValue) (flows : List Tree) → IsTopology t
-    → length flows ≡ length t.flows → All (IsWritableTree t) (distinct_trees flows)
+    → length flows ≡ length t.flows → All (IsWritableTreeFor t) (distinct_trees flows)
     → length (certificate_text t flows) ≤ 16777216
     → CertificateStands t (certificate_text t flows) flows
 written_stands t flows rules count all few =
@@ -88,12 +88,12 @@ written_stands t flows rules count all few =
 
 -- a list that a certificate can have, of bytes and of the topology, can be written
 writable_is : (t : TopologyValue) (es : Tree) → IsList es → All IsOfBytes es
-    → All (IsEntryOf t) es → IsWritableTree t es
+    → All (IsEntryOf t) es → IsWritableTreeFor t es
 writable_is t es list bytes among =
     record {
       few = list.few;
       each = λ k d lt. record {
-        listed = list.each k d lt;
+        writable = list.each k d lt;
         bytes = bytes k d lt;
         among = among k d lt;
       };
@@ -107,13 +107,13 @@ pub text_stands : (t : TopologyValue) (flows trees : List Tree) (text : List ℕ
 text_stands t flows trees text rules belongs made lists bytes is few =
     let among : All (All (IsEntryOf t)) trees = distinct_belong
     (All (IsEntryOf t)) flows flows trees refl belongs.entries made in
-    let writable : All (IsWritableTree t) trees = λ k d lt. writable_is t (get_or trees k d)
+    let writable : All (IsWritableTreeFor t) trees = λ k d lt. writable_is t (get_or trees k d)
     (lists k d lt) (bytes k d lt) (among k d lt) in
     let short : length (certificate_text t flows) ≤ 16777216 =
     subst (λ (s : List ℕ). length s ≤ 16777216) is few in
     subst (λ (s : List ℕ). CertificateStands t s flows) (sym is)
     (written_stands t flows rules belongs.count
-    (subst (λ (ts : List Tree). All (IsWritableTree t) ts) made writable) short)
+    (subst (λ (ts : List Tree). All (IsWritableTreeFor t) ts) made writable) short)
 
 -- the text of a certificate that belongs to the topology
 pub texts_stand : (t : TopologyValue) (flows : List Tree) → IsTopology t → BelongsTo t flows

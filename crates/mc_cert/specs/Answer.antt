@@ -1,20 +1,20 @@
 -- Steps that may be refused, and how a call answers them.
 use Rattle.std.specs.Prelude.{◌≡◌, ◌≢◌, ℕ, List, [], ◌∷◌, ◌++◌, length, Result, Ok, Err}
-use Rattle.mc_cert.specs.declared.fault.CertPlace.{CertPlace}
-use Rattle.mc_cert.specs.declared.fault.CertPlace.TheVariants.{Top, Flow, FlowEntry, Tree}
-use Rattle.mc_cert.specs.declared.fault.CertPlace.TheVariants.{TreeEntry}
+use Rattle.mc_cert.specs.declared.fault.At.{At}
+use Rattle.mc_cert.specs.declared.fault.At.TheVariants.{Top, Flow, FlowEntry, Tree}
+use Rattle.mc_cert.specs.declared.fault.At.TheVariants.{TreeEntry}
 use Rattle.mc_cert.specs.declared.fault.CertFaultKind.{CertFaultKind}
 use Rattle.mc_cert.specs.declared.fault.CertFaultKind.TheVariants.{Memory}
 use Rattle.mc_cert.specs.declared.fault.CertFault.{CertFault}
 use Rattle.mc_topology.specs.Answer.{◌>>=◌}
 
 -- the fault of a step at this place
-abbrev pub place : {A : Type 0} → CertPlace → Result A CertFaultKind → Result A CertFault
+abbrev pub place : {A : Type 0} → At → Result A CertFaultKind → Result A CertFault
 place at (Ok x) = Ok x
 place at (Err kind) = Err (record { place = at; kind = kind })
 
 -- the place of the entry with this number of a flow or a tree
-abbrev pub entry_place : CertPlace → ℕ → CertPlace
+abbrev pub entry_place : At → ℕ → At
 entry_place Top e = Top
 entry_place (Flow f) e = FlowEntry f e
 entry_place (FlowEntry f old) e = FlowEntry f e

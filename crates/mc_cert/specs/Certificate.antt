@@ -19,14 +19,14 @@ flows_of trees None = trees
 flows_of trees (Some numbers) = map (tree_at trees) numbers
 
 -- an entry that a certificate can name
-pub record IsListed (e : Entry) : Type 0 where
+pub record IsWritable (e : Entry) : Type 0 where
   pub need : 1 ≤ e.need
   pub vif : IfSome e.forwarder (λ i. i.1 ≤ 31)
 
 -- at most 1,024 of them
 pub record IsList (es : Tree) : Type 0 where
   pub few : length es ≤ 1024
-  pub each : All IsListed es
+  pub each : All IsWritable es
 
 -- an entry whose numbers are bytes, as those of every certificate in memory are
 pub record IsOfBytes (e : Entry) : Type 0 where
@@ -34,7 +34,7 @@ pub record IsOfBytes (e : Entry) : Type 0 where
   pub need : e.need ≤ 255
 
 -- what every certificate keeps, by its trees and the numbers of the flows' trees
-pub record IsKept (trees : List Tree) (numbers : Option (List ℕ)) : Type 0 where
+pub record IsStored (trees : List Tree) (numbers : Option (List ℕ)) : Type 0 where
   pub lists : All IsList trees
   pub named : (ns : List ℕ) → numbers ≡ Some ns → All (λ n. n < length trees) ns
   pub few_flows : length (flows_of trees numbers) ≤ 4096

@@ -10,7 +10,7 @@ use Rattle.mc_topology.specs.Names.{index_of}
 use Rattle.mc_topology.specs.Rows.{RouterRow}
 use Rattle.mc_topology.specs.Routers.{router_no_of}
 use Rattle.mc_topology.specs.Topology.{TopologyValue}
-use Rattle.mc_cert.specs.declared.fault.CertPlace.{CertPlace}
+use Rattle.mc_cert.specs.declared.fault.At.{At}
 use Rattle.mc_cert.specs.declared.fault.CertFaultKind.{CertFaultKind}
 use Rattle.mc_cert.specs.declared.fault.CertFaultKind.TheVariants.{MissingKey, UnknownName}
 use Rattle.mc_cert.specs.declared.fault.CertFault.{CertFault}
@@ -60,5 +60,5 @@ entry_of t d = do
   Ok (record { lan = lan; rank = rank; need = need; forwarder = forwarder })
 
 -- the entries of a flow or a tree from the front, each with its number, counted from 1
-unfoldable pub entries_of : TopologyValue → CertPlace → List Data → Result (List Entry) CertFault
+unfoldable pub entries_of : TopologyValue → At → List Data → Result (List Entry) CertFault
 entries_of t at rows = each (λ n d. place (entry_place at (n + 1)) (entry_of t d)) [] rows

@@ -1,10 +1,10 @@
 -- How a refusal writes the place that it is about.
 use Rattle.std.specs.Prelude.{ℕ, List, ◌++◌, codes, decimal}
-use Rattle.mc_cert.specs.declared.fault.CertPlace.{CertPlace}
-use Rattle.mc_cert.specs.declared.fault.CertPlace.TheVariants.{Top, Flow, FlowEntry, Tree}
-use Rattle.mc_cert.specs.declared.fault.CertPlace.TheVariants.{TreeEntry}
+use Rattle.mc_cert.specs.declared.fault.At.{At}
+use Rattle.mc_cert.specs.declared.fault.At.TheVariants.{Top, Flow, FlowEntry, Tree}
+use Rattle.mc_cert.specs.declared.fault.At.TheVariants.{TreeEntry}
 
-abbrev pub place_text : CertPlace → List ℕ
+abbrev pub place_text : At → List ℕ
 place_text Top = codes "top"
 place_text (Flow f) = codes "flow " ++ decimal f
 place_text (FlowEntry f e) = codes "flow " ++ decimal f ++ codes " entry " ++ decimal e

@@ -8,7 +8,7 @@ use Rattle.serde_json.specs.Find.{as_object, as_u64}
 use Rattle.serde_json.specs.Read.{read}
 use Rattle.mc_topology.specs.Answer.{◌>>=◌}
 use Rattle.mc_topology.specs.Topology.{TopologyValue}
-use Rattle.mc_cert.specs.declared.fault.CertPlace.TheVariants.{Top}
+use Rattle.mc_cert.specs.declared.fault.At.TheVariants.{Top}
 use Rattle.mc_cert.specs.declared.fault.CertFaultKind.{CertFaultKind}
 use Rattle.mc_cert.specs.declared.fault.CertFaultKind.TheVariants.{NotJson, BadVersion, UnknownKey}
 use Rattle.mc_cert.specs.declared.fault.CertFaultKind.TheVariants.{BadKind, TooMany}

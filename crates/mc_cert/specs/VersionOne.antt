@@ -7,7 +7,7 @@ use Rattle.mc_text.specs.Addr.{dotted}
 use Rattle.mc_topology.specs.Answer.{◌>>=◌}
 use Rattle.mc_topology.specs.declared.flow.Flow.{Flow}
 use Rattle.mc_topology.specs.Topology.{TopologyValue}
-use Rattle.mc_cert.specs.declared.fault.CertPlace.TheVariants as at
+use Rattle.mc_cert.specs.declared.fault.At.TheVariants as at
 use Rattle.mc_cert.specs.declared.fault.CertFaultKind.{CertFaultKind}
 use Rattle.mc_cert.specs.declared.fault.CertFaultKind.TheVariants.{WrongFlows}
 use Rattle.mc_cert.specs.declared.fault.CertFault.{CertFault}

@@ -24,14 +24,14 @@ pub struct Certificate {
 
 impl Model for Certificate {
     ghost use Rattle.std.specs.Prelude.{List, option_map, map};
-    ghost use Rattle.mc_cert.specs.Certificate.{Tree, flows_of, IsKept};
+    ghost use Rattle.mc_cert.specs.Certificate.{Tree, flows_of, IsStored};
 
     ghost Value = { List Tree };
 
     ghost view = { λ c. flows_of (map (λ t. t.items) c.trees.items)
         (option_map (λ n. n.items) c.tree_of_flow) };
 
-    ghost invariant = { λ c. IsKept (map (λ t. t.items) c.trees.items)
+    ghost invariant = { λ c. IsStored (map (λ t. t.items) c.trees.items)
         (option_map (λ n. n.items) c.tree_of_flow) };
 }
 

@@ -7,7 +7,7 @@ ghost use Rattle.mc_text.specs.Addr.{dotted};
 ghost use Rattle.mc_cert.specs.CertificateText.{lan_name, router_name, listed, forwarder_text};
 ghost use Rattle.mc_cert.specs.CertificateText.{entry_text, tree_text, flow_text, flow_texts};
 ghost use Rattle.mc_cert.specs.Stands.{CertificateStands};
-ghost use Rattle.mc_cert.specs.Writable.{IsWritable, IsWritableTree};
+ghost use Rattle.mc_cert.specs.Writable.{IsWritableFor, IsWritableTreeFor};
 
 use crate::certificate::Certificate;
 use crate::entry::MAX_ENTRIES;
@@ -110,7 +110,7 @@ fn read_forwarder<'a>(
 /// The entry at the front of the text, and what stands behind it.
 fn read_entry<'a>(topology: &Topology, text: &'a [u8]) -> Option<(Reached, &'a [u8])>
     ensures text { IfSome result (λ r. text.now ≡ entry_text topology.now r.0 ++ r.1.now) }
-    ensures writable { IfSome result (λ r. IsWritable topology.now r.0) }
+    ensures writable { IfSome result (λ r. IsWritableFor topology.now r.0) }
 {
     let rest = behind(text, b"{\"lan\":\"")?;
     let Some((lan, rest)) = read_lan(topology, rest) else {
@@ -138,7 +138,7 @@ fn read_tree<'a>(
 ) -> Result<(Vec<Reached>, &'a [u8]), Unread>
     ensures text { IfOk result (λ r.
         text.now ≡ tree_text topology.now r.0.items ++ r.1.now) }
-    ensures writable { IfOk result (λ r. IsWritableTree topology.now r.0.items) }
+    ensures writable { IfOk result (λ r. IsWritableTreeFor topology.now r.0.items) }
 {
     let Some(mut rest) = behind(text, b"[") else {
         return Err(Unread);
@@ -174,7 +174,7 @@ fn read_trees<'a>(
     ensures text { IfOk result (λ r. text.now ≡
         listed (map (tree_text topology.now) (map (λ t. t.items) r.0.items)) ++ r.1.now) }
     ensures writable { IfOk result (λ r.
-        All (IsWritableTree topology.now) (map (λ t. t.items) r.0.items)) }
+        All (IsWritableTreeFor topology.now) (map (λ t. t.items) r.0.items)) }
     ensures few { IfOk result (λ r. vec_len r.0 ≤ 4096) }
 {
     let mut rest = text;

@@ -7,7 +7,7 @@ ghost use Rattle.mc_cert.specs.Answer.{Gives, place, entry_place};
 ghost use Rattle.mc_cert.specs.Entries.{lan_in, router_of, vif_of, forwarder_of, entry_of};
 ghost use Rattle.mc_cert.specs.Entries.{entries_of};
 
-use crate::fault::{CertFault, CertFaultKind, CertPlace};
+use crate::fault::{At, CertFault, CertFaultKind};
 use crate::object::{number_of, object_of, text_at, text_of, value_at, whole_at, within};
 use crate::reached::Reached;
 use crate::rows::{Rows, each};
@@ -91,7 +91,7 @@ fn entry_of(topology: &Topology, value: &Value) -> Result<Reached, CertFaultKind
     })
 }
 
-impl Rows for CertPlace {
+impl Rows for At {
     ghost use Rattle.mc_cert.specs.declared.entry.TheConstants.{MAX_ENTRIES};
     ghost use Rattle.mc_theory.specs.Certificates.{Entry};
 
@@ -123,7 +123,7 @@ impl Rows for CertPlace {
 pub(crate) fn entries_of(
     alloc: Global,
     topology: &Topology,
-    list: CertPlace,
+    list: At,
     rows: &[Value],
 ) -> Result<Vec<Reached>, CertFault>
     requires { length rows.now ≤ MAX_ENTRIES }

@@ -10,7 +10,7 @@ use thiserror::Error;
 
 /// The place that a fault lies in. Flows, trees and entries are counted from 1.
 #[derive(Clone, Copy, Debug, PartialEq, Eq)]
-pub enum CertPlace {
+pub enum At {
     /// The text as a whole, its keys, its version and its lists.
     Top,
     /// A flow.
@@ -23,33 +23,29 @@ pub enum CertPlace {
     TreeEntry(u32, u32),
 }
 
-impl CertPlace {
+impl At {
     /// The place of an entry of this flow or tree.
-    pub(crate) fn entry(self, entry: u32) -> CertPlace
+    pub(crate) fn entry(self, entry: u32) -> At
         ensures { result ≡ entry_place self entry }
     {
         match self {
-            CertPlace::Top => CertPlace::Top,
-            CertPlace::Flow(flow) | CertPlace::FlowEntry(flow, _) => {
-                CertPlace::FlowEntry(flow, entry)
-            }
-            CertPlace::Tree(tree) | CertPlace::TreeEntry(tree, _) => {
-                CertPlace::TreeEntry(tree, entry)
-            }
+            At::Top => At::Top,
+            At::Flow(flow) | At::FlowEntry(flow, _) => At::FlowEntry(flow, entry),
+            At::Tree(tree) | At::TreeEntry(tree, _) => At::TreeEntry(tree, entry),
         }
     }
 }
 
-impl fmt::Display for CertPlace {
+impl fmt::Display for At {
     ghost output = { λ place. Some (place_text place) };
 
     fn fmt<W: fmt::Write>(&self, f: &mut fmt::Formatter<W>) -> fmt::Result {
         match self {
-            CertPlace::Top => f.write_str("top"),
-            CertPlace::Flow(flow) => write!(f, "flow {flow}"),
-            CertPlace::FlowEntry(flow, entry) => write!(f, "flow {flow} entry {entry}"),
-            CertPlace::Tree(tree) => write!(f, "tree {tree}"),
-            CertPlace::TreeEntry(tree, entry) => write!(f, "tree {tree} entry {entry}"),
+            At::Top => f.write_str("top"),
+            At::Flow(flow) => write!(f, "flow {flow}"),
+            At::FlowEntry(flow, entry) => write!(f, "flow {flow} entry {entry}"),
+            At::Tree(tree) => write!(f, "tree {tree}"),
+            At::TreeEntry(tree, entry) => write!(f, "tree {tree} entry {entry}"),
         }
     }
 }
@@ -88,7 +84,7 @@ impl fmt::Display for CertFaultKind {
 
 impl CertFaultKind {
     /// The fault of this kind at a place.
-    pub(crate) fn at(self, place: CertPlace) -> CertFault
+    pub(crate) fn at(self, place: At) -> CertFault
         ensures { result ≡ record { place = place; kind = self } }
     {
         CertFault { place, kind: self }
@@ -100,7 +96,7 @@ impl CertFaultKind {
 #[error("{place}: {kind}")]
 pub struct CertFault {
     /// The place.
-    pub place: CertPlace,
+    pub place: At,
     /// What is wrong there.
     pub kind: CertFaultKind,
 }
@@ -109,7 +105,7 @@ impl From<AllocError> for CertFault {
     ghost from_gives = { λ _ fault. fault ≡ out_of_memory };
 
     fn from(_refused: AllocError) -> CertFault {
-        CertFaultKind::Memory.at(CertPlace::Top)
+        CertFaultKind::Memory.at(At::Top)
     }
 }
 
@@ -117,6 +113,6 @@ impl<T: Drop> From<AllocFailed<T>> for CertFault {
     ghost from_gives = { λ _ fault. fault ≡ out_of_memory };
 
     fn from(_refused: AllocFailed<T>) -> CertFault {
-        CertFaultKind::Memory.at(CertPlace::Top)
+        CertFaultKind::Memory.at(At::Top)
     }
 }

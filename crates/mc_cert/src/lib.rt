@@ -20,7 +20,7 @@ mod version_two;
 mod written;
 
 pub use certificate::Certificate;
-pub use fault::{CertFault, CertFaultKind, CertPlace};
+pub use fault::{At, CertFault, CertFaultKind};
 pub use laws::{
     certificates_are_read_as_they_stand, texts_of_certificates_stand_for_them,
     texts_stand_for_certificates,

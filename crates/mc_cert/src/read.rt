@@ -4,14 +4,14 @@ ghost use Rattle.std.specs.Prelude.{◌≡◌};
 ghost use Rattle.serde_json.specs.View.{view, number_view, members_view};
 ghost use Rattle.serde_json.specs.Find.{as_u64};
 ghost use Rattle.mc_topology.specs.Answer.{Answers};
-ghost use Rattle.mc_cert.specs.declared.fault.CertPlace.TheVariants.{Top};
+ghost use Rattle.mc_cert.specs.declared.fault.At.TheVariants.{Top};
 ghost use Rattle.mc_cert.specs.Answer.{Gives, place};
 ghost use Rattle.mc_cert.specs.Object.{has_only};
 ghost use Rattle.mc_cert.specs.Reading.{json_of, value_of, members_of, version_of, top_keys};
 ghost use Rattle.mc_cert.specs.Reading.{version_in, flows_by, reading_of};
 
 use crate::certificate::Certificate;
-use crate::fault::{CertFault, CertFaultKind, CertPlace};
+use crate::fault::{At, CertFault, CertFaultKind};
 use crate::object::{has_only, number_at};
 use crate::version::Version;
 use crate::version_one::flows_in;
@@ -28,8 +28,8 @@ fn json_of(alloc: Global, text: &[u8]) -> Result<Value, CertFault>
 {
     match Value::from_slice(alloc, text) {
         Ok(value) => Ok(value),
-        Err(error) if error.is_memory() => Err(CertFaultKind::Memory.at(CertPlace::Top)),
-        Err(_) => Err(CertFaultKind::NotJson.at(CertPlace::Top)),
+        Err(error) if error.is_memory() => Err(CertFaultKind::Memory.at(At::Top)),
+        Err(_) => Err(CertFaultKind::NotJson.at(At::Top)),
     }
 }
 
@@ -90,7 +90,7 @@ fn value_of(alloc: Global, text: &[u8]) -> Result<Value, CertFault>
     ensures { Gives view result (place Top (value_of text.now)) }
 {
     if text.len() > MAX_TEXT {
-        return Err(CertFaultKind::TooMany.at(CertPlace::Top));
+        return Err(CertFaultKind::TooMany.at(At::Top));
     }
     json_of(alloc, text)
 }
@@ -116,7 +116,7 @@ pub(crate) fn reading_of(
     ensures { Gives (λ c. c) result (reading_of topology.now text.now) }
 {
     let value = value_of(alloc, text)?;
-    let object = members_of(&value).map_err(|kind| kind.at(CertPlace::Top))?;
-    let version = version_in(object).map_err(|kind| kind.at(CertPlace::Top))?;
+    let object = members_of(&value).map_err(|kind| kind.at(At::Top))?;
+    let version = version_in(object).map_err(|kind| kind.at(At::Top))?;
     flows_by(alloc, version, topology, object)
 }

@@ -11,7 +11,7 @@ ghost use Rattle.mc_cert.specs.VersionOne.{is_flow, flow_rows, reached_of, flow_
 
 use crate::certificate::Certificate;
 use crate::entry::{MAX_ENTRIES, entries_of};
-use crate::fault::{CertFault, CertFaultKind, CertPlace};
+use crate::fault::{At, CertFault, CertFaultKind};
 use crate::object::{at_most, list_at, object_of, text_at};
 use crate::reached::Reached;
 use crate::rows::{Rows, each};
@@ -103,7 +103,7 @@ impl Rows for FlowLists {
         number: usize,
         value: &Value,
     ) -> Result<Vec<Reached>, CertFault> {
-        let place = CertPlace::Flow(number as u32 + 1);
+        let place = At::Flow(number as u32 + 1);
         let flow = topology.flow(number as u32);
         let rows = reached_of(flow, value).map_err(|kind| kind.at(place))?;
         entries_of(alloc, topology, place, rows)
@@ -119,7 +119,7 @@ pub(crate) fn flows_in(
 ) -> Result<Certificate, CertFault>
     ensures { Gives (λ c. c) result (flows_in topology.now (members_view object.now.entries)) }
 {
-    let rows = flow_rows(topology, object).map_err(|kind| kind.at(CertPlace::Top))?;
+    let rows = flow_rows(topology, object).map_err(|kind| kind.at(At::Top))?;
     let flows = each(alloc, topology, &FlowLists, rows)?;
     Ok(Certificate::from_flows(flows))
 }

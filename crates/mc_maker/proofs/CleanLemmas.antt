@@ -19,7 +19,7 @@ use Rattle.mc_theory.proofs.Travels.{travel-range, tree_made}
 use Rattle.mc_forward.specs.Domains.{DomainValue, IsDomain, net_of}
 use Rattle.mc_forward.proofs.BelowLemmas.{length-below}
 use Rattle.mc_forward.proofs.DomainLemmas.{net-of_domain}
-use Rattle.mc_cert.specs.Certificate.{IsListed, IsList, IsEntryOf}
+use Rattle.mc_cert.specs.Certificate.{IsWritable, IsList, IsEntryOf}
 use Rattle.mc_replay.specs.declared.travel.Travel.{Travel}
 use Rattle.mc_replay.specs.Travels.{replay_of, IsRunTo}
 use Rattle.mc_maker.specs.Examined.{FindsNothing, first_choices}
@@ -161,7 +161,7 @@ made-list d flow cs es ok clean made =
     let most : length d.topology.lans ≤ 1024 = ok.topology.few_lans in
     record {
       few = omega (arith, few, most);
-      each = in-all IsListed es (λ e h. record {
+      each = in-all IsWritable es (λ e h. record {
         need = needs-one n cs e (made.from e h);
         vif = small-vif n (entries_of n cs) e e.forwarder (net-of_domain d flow ok) clean.tree
             (made.from e h) refl;

@@ -18,7 +18,7 @@ fn too_long(alloc: Global, certificate: &str) -> Result<Vec<u8>, AllocError> {
 /// Whether a text has too many bytes, over a topology.
 fn is_refused_over(alloc: Global, topology: &Topology, text: &[u8]) -> bool {
     match Certificate::read(alloc, text, topology).err() {
-        Some(fault) => fault.place == CertPlace::Top && fault.kind == CertFaultKind::TooMany,
+        Some(fault) => fault.place == At::Top && fault.kind == CertFaultKind::TooMany,
         None => false,
     }
 }

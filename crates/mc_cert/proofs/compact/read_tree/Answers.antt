@@ -1,6 +1,6 @@
 use Rattle.std.proofs.Common.{◌≡◌, ◌++◌, ◌∷◌, [], arith, rules, map}
 use Rattle.mc_cert.specs.CertificateText.{listed, entry_text}
-use Rattle.mc_cert.specs.Writable.{IsWritable}
+use Rattle.mc_cert.specs.Writable.{IsWritableFor}
 use Rattle.mc_cert.proofs.SeparatorLemmas.{items_read, comma_next, all_next}
 use Rattle.mc_cert.proofs.compact.read_tree.Goals as goal
 
@@ -18,7 +18,7 @@ loop-number-preserved c =
     record {
       read = search (rules, so_far);
       separator = comma_next old new entry made;
-      writable = all_next (IsWritable c.args.topology.now) old new entry made
+      writable = all_next (IsWritableFor c.args.topology.now) old new entry made
           c.loop-number.invariant.writable c.in-Some-read_entry.ensures.writable;
       few = omega (arith, c.in_ok-push.ensures.len);
     }

@@ -1,6 +1,6 @@
 use Rattle.std.proofs.Common.{arith, map}
 use Rattle.mc_cert.specs.CertificateText.{tree_text}
-use Rattle.mc_cert.specs.Writable.{IsWritableTree}
+use Rattle.mc_cert.specs.Writable.{IsWritableTreeFor}
 use Rattle.mc_cert.proofs.SeparatorLemmas.{items_read, comma_next, all_next, map_next}
 use Rattle.mc_cert.proofs.compact.read_trees.Goals as goal
 
@@ -16,7 +16,7 @@ loop-number-preserved c =
           c.loop-number.invariant.read c.in-Some.ensures c.in-Ok.ensures.text
           c.loop-number.invariant.separator;
       separator = comma_next old new _ made;
-      writable = all_next (IsWritableTree c.args.topology.now) old new _ made
+      writable = all_next (IsWritableTreeFor c.args.topology.now) old new _ made
           c.loop-number.invariant.writable c.in-Ok.ensures.writable;
       few = omega (arith, c.in_ok-push.ensures.len);
     }

@@ -1,7 +1,7 @@
 use Rattle.std.proofs.Common.{refl, ap, rules}
 use Rattle.std.proofs.lemmas.Str.{is_utf8-from_IsUtf8}
 use Rattle.serde_json.specs.Errors.{IsMemory}
-use Rattle.mc_cert.specs.declared.fault.CertPlace.TheVariants.{Top}
+use Rattle.mc_cert.specs.declared.fault.At.TheVariants.{Top}
 use Rattle.mc_cert.specs.Answer.{place}
 use Rattle.mc_cert.specs.Reading.{json_of}
 use Rattle.mc_cert.proofs.ReadLemmas.{json_refused}

@@ -1,6 +1,6 @@
 //! What follows from the definitions alone, for whoever builds on them.
 
-ghost use Rattle.std.specs.Prelude.{◌≡◌, ◌↔◌, ℕ, ◌≤◌, All, List, length, Ok};
+ghost use Rattle.std.specs.Prelude.{◌≡◌, ◌↔◌, ℕ, ◌<◌, ◌≤◌, All, List, [], ◌∷◌, ◌++◌, length, Ok};
 ghost use Rattle.mc_topology.specs.Topology.{TopologyValue, IsTopology};
 ghost use Rattle.mc_cert.specs.Certificate.{Tree, IsList, IsOfBytes, BelongsTo};
 ghost use Rattle.mc_cert.specs.CertificateText.{certificate_text};
@@ -29,4 +29,10 @@ pub fn texts_of_certificates_stand_for_them()
         All IsList flows → All (All IsOfBytes) flows →
         length (certificate_text t flows) ≤ 16777216 →
         CertificateStands t (certificate_text t flows) flows }
+{}
+
+/// A line feed behind a text changes nothing, where the text is no longer than it may be with it.
+pub fn a_line_feed_changes_nothing()
+    ensures { (t : TopologyValue) (text : List ℕ) → length text < 16777216 →
+        reading_of t (text ++ 10 ∷ []) ≡ reading_of t text }
 {}

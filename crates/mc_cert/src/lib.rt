@@ -22,8 +22,8 @@ mod written;
 pub use certificate::Certificate;
 pub use fault::{At, CertFault, CertFaultKind};
 pub use laws::{
-    certificates_are_read_as_they_stand, texts_of_certificates_stand_for_them,
-    texts_stand_for_certificates,
+    a_line_feed_changes_nothing, certificates_are_read_as_they_stand,
+    texts_of_certificates_stand_for_them, texts_stand_for_certificates,
 };
 pub use reached::{FlowCert, Reached};
 pub use trees::Trees;

@@ -46,9 +46,6 @@ pushed (z ∷ xs) x (suc i) y e = elim (pushed xs x i y e) [
   | inr h ↦ inr (ap suc h.0, h.1)
 ]
 
-pub judged-start : (d : DomainValue) (lists : List (List Entry)) → Judged d lists 0 []
-judged-start d lists = record { number = refl; each = λ flow es v at got. absurd cc }
-
 pub judged-next : (d : DomainValue) (lists : List (List Entry)) (k : ℕ) (vs : List Verdict)
     (es : List Entry) (v : Verdict)
     → Judged d lists k vs → slice_get lists k ≡ Some es

@@ -141,11 +141,6 @@ net-of_domain d flow ok = record {
       (row-ascends d flow r v pairs ok e);
 }
 
-set-within : (flags : List Bool) (i : ℕ) → slice_index_or flags i false ≡ true → i < length flags
-set-within [] i e = absurd cc
-set-within (b ∷ flags) zero e = omega arith
-set-within (b ∷ flags) (suc i) e = let h = set-within flags i e in omega (arith, h)
-
 row-within : (rows : List (List Bool)) (i j : ℕ)
     → slice_index_or (slice_index_or rows i []) j false ≡ true → i < length rows
 row-within [] i j e = absurd cc

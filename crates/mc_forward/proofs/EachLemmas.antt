@@ -30,9 +30,6 @@ each-push R xs ys x y each at r k w z ew ez = elim (push-cases ys y z k ez) [
       subst (λ v. R w v) p.1 (subst (λ v. R v y) (same-item (slice_get xs k) x w here ew) r))
 ]
 
-pub each-none : {A B : Type 0} (R : A → B → Type 0) (xs : List A) → EachAt R xs []
-each-none R xs k x y ex ey = absurd cc
-
 -- an item within the list
 pub some-at : {A : Type 0} (xs : List A) (i : ℕ) → i < length xs
     → (x : A) × (slice_get xs i ≡ Some x)

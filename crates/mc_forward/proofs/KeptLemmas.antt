@@ -11,23 +11,6 @@ use Rattle.mc_forward.specs.declared.row.RowFor.{RowFor}
 use Rattle.mc_forward.specs.Journeys.{FlowIn, IsFlowIn, AtRouters}
 use Rattle.mc_forward.specs.Rows.{IsRowOf, IsKept}
 
-none-in : (n r : ℕ) → get_or {A = Option RowFor} (replicate n None) r None ≡ None
-none-in n r = elim (cases_lt r n) [
-  | inl lt ↦ get_or-replicate {A = Option RowFor} n r None None lt
-  | inr past ↦ get_or_past {X = Option RowFor} (replicate n None) r None
-      (let size = length-replicate {A = Option RowFor} n None in omega (arith, size, past))
-]
-
--- no row is kept yet
-pub kept-none : (f : FlowIn) (rows : List (Option RowFor)) → IsFlowIn f
-    → rows ≡ replicate (length f.domain.topology.routers) None → IsKept f rows
-kept-none f rows ok e = subst (IsKept f) (sym e) (record {
-  flow = ok;
-  count = length-replicate (length f.domain.topology.routers) None;
-  kept = λ router row at. (let none = none-in (length f.domain.topology.routers) router in absurd
-      cc);
-})
-
 -- one row more is kept
 pub kept-one : (f : FlowIn) (rows : List (Option RowFor)) (router : ℕ) (own : RowFor)
     → router < length f.domain.topology.routers

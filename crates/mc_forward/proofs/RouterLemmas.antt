@@ -64,10 +64,6 @@ pub at-step : (n : Net) → IsNet n → (i : ℕ) (f : Flight) → AtRouters n.r
 at-step n net i f at = at-handle n net (slice_get f.waiting i) (without i f)
     (at-without n.routers i f at)
 
-pub at-start : (n : Net) → IsNet n → (t : ℕ) → AtRouters n.routers (start n t)
-at-start n net t = at-put n net (first_copy n t)
-    (record { carried = []; waiting = []; strays = [] }) (λ w k. absurd k)
-
 -- no copy waits before the first
 pub at-none : (routers : ℕ) (f : Flight) → f ≡ record { carried = []; waiting = []; strays = [] }
     → AtRouters routers f

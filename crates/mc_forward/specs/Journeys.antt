@@ -26,9 +26,6 @@ pub record Journey : Type 0 where
   pub flow : ℕ
   pub flight : Flight
 
-abbrev pub flow_in : Journey → FlowIn
-flow_in j = record { domain = j.domain; flow = j.flow }
-
 -- what the packet meets
 abbrev pub journey_net : Journey → Net
 journey_net j = net_of j.domain j.flow

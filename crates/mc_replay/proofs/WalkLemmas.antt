@@ -28,13 +28,6 @@ meets-turn n cs l k x p from other =
     ap (or_then l (λ q. meets n cs l k (sender_on cs q))) from
     ∙ ap (λ (b : Bool). b || meets n cs l k (sender_on cs p)) other
 
--- and ends at the one that is
-pub meets-there : (n : Net) (cs : List Copy) (l k : ℕ) (x : Option Interface) (p : ℕ)
-    → from_lan n x ≡ Some p → (p == l) ≡ true → meets n cs l (suc k) x ≡ true
-meets-there n cs l k x p from here =
-    ap (or_then l (λ q. meets n cs l k (sender_on cs q))) from
-    ∙ ap (λ (b : Bool). b || meets n cs l k (sender_on cs p)) here
-
 -- one LAN fewer is left to walk over
 pub one-fewer : (cs : List Copy) (i : ℕ) (c : Copy) → i < length cs
     → length (drop i cs) ≡ suc (length (drop (i + 1) cs))

@@ -1,4 +1,3 @@
-pub mod Firsts
 pub mod FlowNet
 pub mod FlowTables
 pub mod Reasons

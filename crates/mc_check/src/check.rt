@@ -16,7 +16,7 @@ use crate::routers::routers_reason;
 use crate::served::{has_source, lans_reason};
 use crate::verdict::{Reason, Verdict};
 use mc_cert::{Certificate, Reached};
-use mc_forward::Domain;
+use mc_forward::{Domain, PerLan};
 use mc_text::Memory;
 use std::alloc::Global;
 
@@ -50,8 +50,7 @@ fn first_reason_of(
     ensures { IfOk result (λ reason. reason_seen reason ≡
         first_reason (net_of domain.now flow) (length domain.now.topology.lans) entries.now) }
 {
-    let lans = domain.topology().lans();
-    let mut firsts = vec![in alloc; None; lans as usize]?;
+    let mut firsts = PerLan::new(alloc, domain.topology().lans())?;
     let tables = FlowTables::of(alloc, domain, flow)?;
     if let Some(reason) = put_firsts(&mut firsts, entries) {
         return Ok(Some(reason));

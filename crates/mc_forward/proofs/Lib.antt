@@ -9,3 +9,4 @@ pub mod EachLemmas
 pub mod PlaceLemmas
 pub mod WantsLemmas
 pub mod RunLemmas
+pub mod FirstLemmas

@@ -4,6 +4,7 @@ pub mod Assembling
 pub mod Rows
 pub mod Journeys
 pub mod Outcomes
+pub mod PerLan
 pub use Rattle.mc_igmp.specs.Wants
 pub use Rattle.mc_filter.specs.Addresses
 pub use Rattle.mc_theory.specs.Lists

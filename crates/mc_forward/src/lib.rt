@@ -12,6 +12,7 @@ mod flow_laws;
 mod flow_net;
 mod interfaces;
 mod laws;
+mod per_lan;
 mod places;
 mod refused;
 mod row;
@@ -30,6 +31,7 @@ pub use flow_laws::{
 };
 pub use interfaces::Interfaces;
 pub use laws::{domains_are_nets, outgoing_vifs_ascend};
+pub use per_lan::PerLan;
 pub use refused::{DomainFault, Refused};
 pub use row::RowFor;
 pub use tables::Tables;

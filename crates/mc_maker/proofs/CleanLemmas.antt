@@ -24,7 +24,7 @@ use Rattle.mc_replay.specs.declared.travel.Travel.{Travel}
 use Rattle.mc_replay.specs.Travels.{replay_of, IsRunTo}
 use Rattle.mc_maker.specs.Examined.{FindsNothing, first_choices}
 use Rattle.mc_maker.specs.Making.{AreClean}
-use Rattle.mc_maker.proofs.FilledLemmas.{all-in, in-all, lans-after}
+use Rattle.mc_maker.proofs.FilledLemmas.{all-in, in-all}
 
 -- ---- of each entry
 
@@ -104,11 +104,6 @@ clean-copies d a flow t g cs ok same is none carried on by =
       senders = subst (λ (x : DomainValue). All (λ (c : Copy). IfSome c.sender
           (λ i. i.0 < length x.topology.routers)) cs) same by;
     }
-
--- no two copies are of one LAN
-pub clean-once : (d : DomainValue) (flow : ℕ) (cs : List Copy) → AreClean d flow cs
-    → Distinct (lans cs)
-clean-once d flow cs clean = subst Distinct (lans-after (net_of d flow) [] cs) clean.tree.one_entry
 
 -- ---- what a certificate can hold
 

@@ -171,59 +171,53 @@ pub net-same : (a d : DomainValue) (v w : ℕ) → a ≡ d → v ≡ w → net_o
 net-same a d v w e q = ap (λ (x : DomainValue). net_of x v) e ∙ ap (net_of d) q
 
 -- the entries that are held at the places of their LANs are those of the copies
-by-lan : (d a : DomainValue) (flow v : ℕ) (cs : List Copy) (by_lan lent : List (Option Entry))
-    → a ≡ d → v ≡ flow
-    → IsByLan by_lan (entries_of (net_of a v) cs) → lent ≡ by_lan
-    → IsByLan lent (entries_of (net_of d flow) cs)
-by-lan d a flow v cs by_lan lent same number is value =
-    subst (λ (n : Net). IsByLan lent (entries_of n cs)) (net-same a d v flow same number)
-    (subst (λ xs. IsByLan xs (entries_of (net_of a v) cs)) (sym value) is)
+by-lan : (d a : DomainValue) (flow v : ℕ) (cs : List Copy) (by_lan : List (Option Entry))
+    → a ≡ d → v ≡ flow → IsByLan by_lan (entries_of (net_of a v) cs)
+    → IsByLan by_lan (entries_of (net_of d flow) cs)
+by-lan d a flow v cs by_lan same number is =
+    subst (λ (n : Net). IsByLan by_lan (entries_of n cs)) (net-same a d v flow same number) is
 
 pub reordered-by_lan : (d a : DomainValue) (flow v : ℕ) (cs : List Copy)
-    (by_lan lent : List (Option Entry)) (es : List Entry) → a ≡ d → v ≡ flow → AreClean d flow cs
-    → IsByLan by_lan (entries_of (net_of a v) cs) → lent ≡ by_lan → es ≡ held_entries lent
+    (by_lan : List (Option Entry)) (es : List Entry) → a ≡ d → v ≡ flow → AreClean d flow cs
+    → IsByLan by_lan (entries_of (net_of a v) cs) → es ≡ held_entries by_lan
     → IsReordering (entries_of (net_of d flow) cs) es
-reordered-by_lan d a flow v cs by_lan lent es same number clean is value held =
+reordered-by_lan d a flow v cs by_lan es same number clean is held =
     subst (IsReordering (entries_of (net_of d flow) cs)) (sym held)
-    (same-entries lent (entries_of (net_of d flow) cs)
-    (by-lan d a flow v cs by_lan lent same number is value) clean.tree.one_entry)
+    (same-entries by_lan (entries_of (net_of d flow) cs)
+    (by-lan d a flow v cs by_lan same number is) clean.tree.one_entry)
 
 pub ascends-by_lan : (d a : DomainValue) (flow v : ℕ) (cs : List Copy)
-    (by_lan lent : List (Option Entry)) (es : List Entry) → a ≡ d → v ≡ flow
-    → IsByLan by_lan (entries_of (net_of a v) cs) → lent ≡ by_lan → es ≡ held_entries lent
+    (by_lan : List (Option Entry)) (es : List Entry) → a ≡ d → v ≡ flow
+    → IsByLan by_lan (entries_of (net_of a v) cs) → es ≡ held_entries by_lan
     → IsStrictlyIncreasing (map (λ (e : Entry). e.lan) es)
-ascends-by_lan d a flow v cs by_lan lent es same number is value held =
+ascends-by_lan d a flow v cs by_lan es same number is held =
     subst (λ xs. IsStrictlyIncreasing (map (λ (e : Entry). e.lan) xs)) (sym held)
-    (ascending lent (entries_of (net_of d flow) cs)
-    (by-lan d a flow v cs by_lan lent same number is value))
+    (ascending by_lan (entries_of (net_of d flow) cs) (by-lan d a flow v cs by_lan same number is))
 
 -- where each wanting LAN is served, they are accepted
 pub accepted-by_lan : (d a : DomainValue) (flow v : ℕ) (cs : List Copy)
-    (by_lan lent lent' : List (Option Entry)) (es : List Entry) → a ≡ d → v ≡ flow → IsDomain a
-    → AreClean d flow cs → IsByLan by_lan (entries_of (net_of a v) cs) → lent ≡ by_lan
-    → lent' ≡ by_lan → es ≡ held_entries lent'
-    → ((l : ℕ) → l < length a.topology.lans → serves (net_of a v) lent l ≡ true)
+    (by_lan : List (Option Entry)) (es : List Entry) → a ≡ d → v ≡ flow → IsDomain a
+    → AreClean d flow cs → IsByLan by_lan (entries_of (net_of a v) cs) → es ≡ held_entries by_lan
+    → ((l : ℕ) → l < length a.topology.lans → serves (net_of a v) by_lan l ≡ true)
     → IsAccepted (net_of d flow) es
-accepted-by_lan d a flow v cs by_lan lent lent' es same number ok clean is value value' held each =
+accepted-by_lan d a flow v cs by_lan es same number ok clean is held each =
     let served : IsServed (net_of a v) (entries_of (net_of a v) cs) =
-    served-each (net_of a v) (length a.topology.lans) lent (entries_of (net_of a v) cs)
-    (subst (λ xs. IsByLan xs (entries_of (net_of a v) cs)) (sym value) is)
+    served-each (net_of a v) (length a.topology.lans) by_lan (entries_of (net_of a v) cs) is
     (λ l w. wanting-within a v l ok w) each in
-    made-accepted d flow cs es clean (reordered-by_lan d a flow v cs by_lan lent' es same number
-    clean is value' held)
+    made-accepted d flow cs es clean (reordered-by_lan d a flow v cs by_lan es same number clean is
+    held)
     (subst (λ (n : Net). IsServed n (entries_of n cs)) (net-same a d v flow same number) served)
 
 -- and where one isn't, the travel at the flow's TTL finds a fault
 pub fault-by_lan : (d a : DomainValue) (flow v : ℕ) (cs : List Copy)
-    (by_lan lent : List (Option Entry)) → a ≡ d → v ≡ flow → flow < length d.topology.flows
-    → IsDomain a
-    → AreClean d flow cs → IsByLan by_lan (entries_of (net_of a v) cs) → lent ≡ by_lan
-    → (l : ℕ) × (serves (net_of a v) lent l ≡ false)
+    (by_lan : List (Option Entry)) → a ≡ d → v ≡ flow → flow < length d.topology.flows
+    → IsDomain a → AreClean d flow cs → IsByLan by_lan (entries_of (net_of a v) cs)
+    → (l : ℕ) × (serves (net_of a v) by_lan l ≡ false)
     → (t : Travel) → IsTravelOfFirst d flow (ttl_of d flow) t → FindsFault t
-fault-by_lan d a flow v cs by_lan lent same number lt ok clean is value low t travel =
+fault-by_lan d a flow v cs by_lan same number lt ok clean is low t travel =
     let n = net_of d flow in
-    let now : serves n lent low.0 ≡ false = subst (λ (n : Net). serves n lent low.0 ≡ false)
+    let now : serves n by_lan low.0 ≡ false = subst (λ (n : Net). serves n by_lan low.0 ≡ false)
     (net-same a d v flow same number) low.1 in
     fault-at_least d flow cs t (subst IsDomain same ok) lt clean
-    (served-not n lent (entries_of n cs) low.0 (by-lan d a flow v cs by_lan lent same number is
-    value) clean.tree.one_entry now) travel
+    (served-not n by_lan (entries_of n cs) low.0 (by-lan d a flow v cs by_lan same number is)
+    clean.tree.one_entry now) travel

@@ -1,6 +1,6 @@
 -- The entries that are held, in the order of their places.
 use Rattle.std.proofs.Common.{◌≡◌, ℕ, zero, suc, ◌+◌, ◌<◌, ◌≤◌, inl, inr, Bool, true, false, cond}
-use Rattle.std.proofs.Common.{◌==◌, List, [], ◌∷◌, map, slice_get, slice_index, Option, Some, None}
+use Rattle.std.proofs.Common.{◌==◌, List, [], ◌∷◌, map, slice_index, Option, Some, None}
 use Rattle.std.proofs.Common.{refl, ap, sym, subst, ◌∙◌, arith}
 use Rattle.std.specs.List.Sorted.{IsStrictlyIncreasing}
 use Rattle.std.proofs.lemmas.Bool.{eqb-true}
@@ -10,7 +10,8 @@ use Rattle.mc_theory.specs.Reasons.{entry_on}
 use Rattle.mc_theory.proofs.InLists.{in-map_cases}
 use Rattle.mc_theory.proofs.Judged.{entry-in}
 use Rattle.mc_forward.proofs.DomainLemmas.{distinct-ascending}
-use Rattle.mc_replay.specs.Firsts.{held}
+use Rattle.mc_forward.specs.PerLan.{held}
+use Rattle.mc_forward.proofs.FirstLemmas.{first-entry}
 use Rattle.mc_maker.specs.ByLan.{IsByLan, held_entries}
 
 -- what is found on a LAN is an entry of it
@@ -28,7 +29,7 @@ on-found (x ∷ es) l e h = by (x.lan == l) refl h (on-found es l e)
     )
     by false q h rest = (inr (rest h).0, (rest h).1)
 
-held-in : (places : List (Option Entry)) (l : ℕ) (e : Entry) → held (slice_get places l) ≡ Some e
+held-in : (places : List (Option Entry)) (l : ℕ) (e : Entry) → held places l ≡ Some e
     → In e (held_entries places)
 held-in [] l e h = absurd cc
 held-in (None ∷ places) zero e h = absurd cc
@@ -37,7 +38,7 @@ held-in (None ∷ places) (suc l) e h = held-in places l e h
 held-in (Some x ∷ places) (suc l) e h = inr (held-in places l e h)
 
 held-from : (places : List (Option Entry)) (e : Entry) → In e (held_entries places)
-    → (l : ℕ) × (held (slice_get places l) ≡ Some e)
+    → (l : ℕ) × (held places l ≡ Some e)
 held-from [] e h = absurd h
 held-from (None ∷ places) e h = let r = held-from places e h in (suc r.0, r.1)
 held-from (Some x ∷ places) e (inl q) = (0, ap Some q)
@@ -56,7 +57,7 @@ ascends-cons x (y ∷ xs) above rest (suc i) lt =
 
 -- places that hold entries of the LANs from k on
 abbrev pub HoldFrom : ℕ → List (Option Entry) → Type 0
-HoldFrom k places = (l : ℕ) (e : Entry) → held (slice_get places l) ≡ Some e → e.lan ≡ k + l
+HoldFrom k places = (l : ℕ) (e : Entry) → held places l ≡ Some e → e.lan ≡ k + l
 
 from-next : (k : ℕ) (o : Option Entry) (places : List (Option Entry)) → HoldFrom k (o ∷ places)
     → HoldFrom (suc k) places
@@ -86,7 +87,7 @@ held-ascends k (Some x ∷ places) at =
 
 hold-all : (by_lan : List (Option Entry)) (es : List Entry) → IsByLan by_lan es → HoldFrom 0 by_lan
 hold-all by_lan es is l e h = let q : e.lan ≡ l =
-    (on-found es l e (sym (is l) ∙ h)).1 in omega (arith, q)
+    (on-found es l e (sym (is l ∙ first-entry es l) ∙ h)).1 in omega (arith, q)
 
 pub ascending : (by_lan : List (Option Entry)) (es : List Entry) → IsByLan by_lan es
     → IsStrictlyIncreasing (map (λ (e : Entry). e.lan) (held_entries by_lan))
@@ -97,7 +98,7 @@ pub same-entries : (by_lan : List (Option Entry)) (es : List Entry) → IsByLan 
 same-entries by_lan es is once = record {
   one_entry = distinct-ascending (map (λ (e : Entry). e.lan) (held_entries by_lan))
       (ascending by_lan es is);
-  to = λ e h. held-in by_lan e.lan e (is e.lan ∙ entry-in es e once h);
+  to = λ e h. held-in by_lan e.lan e (is e.lan ∙ first-entry es e.lan ∙ entry-in es e once h);
   from = λ e h. (let place =
-      held-from by_lan e h in (on-found es place.0 e (sym (is place.0) ∙ place.1)).0);
+      held-from by_lan e h in (on-found es place.0 e (sym (is place.0 ∙ first-entry es place.0) ∙ place.1)).0);
 }

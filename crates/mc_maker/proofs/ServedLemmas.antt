@@ -1,13 +1,14 @@
 -- Whether each wanting LAN is served, by the entries of the LANs.
 use Rattle.std.proofs.Common.{◌≡◌, ℕ, ◌<◌, ◌≤◌, Bool, true, false, not, ◌||◌, nat_le, List, map}
-use Rattle.std.proofs.Common.{slice_get, Option, Some, None, refl, ap, sym, subst, ◌∙◌, arith}
+use Rattle.std.proofs.Common.{Option, Some, None, refl, ap, sym, subst, ◌∙◌, arith}
 use Rattle.std.proofs.lemmas.Bool.{leb-true, leb-false}
 use Rattle.mc_theory.specs.Lists.{In, Distinct}
 use Rattle.mc_theory.specs.Nets.{Net, WantsBelow}
 use Rattle.mc_theory.specs.Certificates.{Entry, IsServed}
 use Rattle.mc_theory.specs.Reasons.{entry_on}
 use Rattle.mc_theory.proofs.Judged.{entry-in}
-use Rattle.mc_replay.specs.Firsts.{held}
+use Rattle.mc_forward.specs.PerLan.{held}
+use Rattle.mc_forward.proofs.FirstLemmas.{first-entry}
 use Rattle.mc_maker.specs.ByLan.{IsByLan, meets_need, serves}
 use Rattle.mc_maker.proofs.ListedLemmas.{on-found}
 
@@ -30,18 +31,18 @@ pub served-each : (n : Net) (count : ℕ) (by_lan : List (Option Entry)) (es : L
     → IsByLan by_lan es → WantsBelow n count
     → ((l : ℕ) → l < count → serves n by_lan l ≡ true) → IsServed n es
 served-each n count by_lan es is small each l w =
-    let met : meets_need n (held (slice_get by_lan l)) ≡ true =
-    sym (wanted (n.wants l) (meets_need n (held (slice_get by_lan l))) w)
+    let met : meets_need n (held by_lan l) ≡ true =
+    sym (wanted (n.wants l) (meets_need n (held by_lan l)) w)
     ∙ each l (small l w) in
-    served-by n es l (held (slice_get by_lan l)) (is l) met
+    served-by n es l (held by_lan l) (is l ∙ first-entry es l) met
 
 pub served-not : (n : Net) (by_lan : List (Option Entry)) (es : List Entry) (l : ℕ)
     → IsByLan by_lan es → Distinct (map (λ (e : Entry). e.lan) es)
     → serves n by_lan l ≡ false → ¬ IsServed n es
 served-not n by_lan es l is once low served =
-    let un = unserved (n.wants l) (meets_need n (held (slice_get by_lan l))) low in
+    let un = unserved (n.wants l) (meets_need n (held by_lan l)) low in
     let s = served l un.0 in
-    let at : held (slice_get by_lan l) ≡ Some s.0 = is l
+    let at : held by_lan l ≡ Some s.0 = (is l ∙ first-entry es l)
     ∙ subst (λ (k : ℕ). entry_on es k ≡ Some s.0) s.2 (entry-in es s.0 once s.1) in
     let short : nat_le s.0.need n.ttl ≡ false = sym (ap (meets_need n) at) ∙ un.1 in
     let lt = leb-false s.0.need n.ttl short in

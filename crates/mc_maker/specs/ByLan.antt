@@ -1,22 +1,21 @@
 -- The entry of each LAN, by the LAN's number.
-use Rattle.std.specs.Prelude.{◌≡◌, ℕ, ◌-◌, Bool, false, not, ◌||◌, nat_le, List, [], ◌∷◌, Option}
-use Rattle.std.specs.Prelude.{Some, None, slice_get}
+use Rattle.std.specs.Prelude.{ℕ, ◌-◌, Bool, false, not, ◌||◌, nat_le, List, [], ◌∷◌, Option}
+use Rattle.std.specs.Prelude.{Some, None}
 use Rattle.mc_theory.specs.Nets.{Net, Interface}
 use Rattle.mc_theory.specs.Flights.{Copy}
 use Rattle.mc_theory.specs.Certificates.{Entry}
-use Rattle.mc_theory.specs.Reasons.{entry_on}
 use Rattle.mc_theory.specs.Findings.{from_lan}
 use Rattle.mc_theory.specs.Made.{need_over, pairs_of, threshold_of}
-use Rattle.mc_replay.specs.Firsts.{held}
+use Rattle.mc_forward.specs.PerLan.{held, IsFirstBy}
 
--- each place holds the entry of the LAN with its number
+-- each place holds the first entry of the LAN with its number
 abbrev pub IsByLan : List (Option Entry) → List Entry → Type 0
-IsByLan by_lan es = (lan : ℕ) → held (slice_get by_lan lan) ≡ entry_on es lan
+IsByLan by_lan es = IsFirstBy (λ (e : Entry). e.lan) by_lan es
 
 -- the entry of a LAN, if there is a LAN and it has one
 abbrev pub entry_held : List (Option Entry) → Option ℕ → Option Entry
 entry_held by_lan None = None
-entry_held by_lan (Some lan) = held (slice_get by_lan lan)
+entry_held by_lan (Some lan) = held by_lan lan
 
 -- the entries that are held, in the order of their places
 abbrev pub held_entries : List (Option Entry) → List Entry
@@ -46,4 +45,4 @@ meets_need n (Some e) = nat_le e.need n.ttl
 
 -- a LAN that wants the flow has such an entry
 abbrev pub serves : Net → List (Option Entry) → ℕ → Bool
-serves n by_lan lan = not (n.wants lan) || meets_need n (held (slice_get by_lan lan))
+serves n by_lan lan = not (n.wants lan) || meets_need n (held by_lan lan)

@@ -1,9 +1,7 @@
-//! The entries that a clean travel at TTL 255 makes, one for each copy that it carried, in a vector
-//! by the numbers of their LANs.
+//! The entries that a clean travel at TTL 255 makes, one for each copy that it carried, each on its
+//! LAN.
 
-ghost use Rattle.std.specs.Prelude.{◌≡◌, ◌<◌, ◌≤◌, All, IfOk, IfSome, Some, [], length, slice_set};
-ghost use Rattle.mc_theory.specs.Lists.{Distinct};
-ghost use Rattle.mc_theory.specs.Certificates.{lans};
+ghost use Rattle.std.specs.Prelude.{◌≡◌, ◌<◌, ◌≤◌, All, IfOk, IfSome, Some, [], length};
 ghost use Rattle.mc_theory.specs.Made.{entries_of, need_over, threshold_of};
 ghost use Rattle.mc_forward.specs.Domains.{pairs_of};
 ghost use Rattle.mc_maker.specs.ByLan.{IsByLan, entry_by, entry_held, held_entries, need_held};
@@ -11,21 +9,18 @@ ghost use Rattle.mc_maker.specs.FlowNet.{flow_net};
 
 use crate::followed::Followed;
 use mc_cert::Reached;
-use mc_forward::{Carried, RowFor};
+use mc_forward::{Carried, PerLan, RowFor};
 use mc_tables::Oif;
 use mc_text::Memory;
 use mc_topology::{LanNo, RouterNo};
 use std::alloc::Global;
 
 /// The entry of a LAN, if there is a LAN and it has one.
-pub(crate) fn entry_at(by_lan: &[Option<Reached>], place: Option<LanNo>) -> Option<Reached>
+pub(crate) fn entry_at(by_lan: &PerLan<Reached>, place: Option<LanNo>) -> Option<Reached>
     ensures { result ≡ entry_held by_lan.now place }
 {
     match place {
-        Some(lan) => match by_lan.get(lan.0 as usize) {
-            Some(entry) => *entry,
-            None => None,
-        },
+        Some(lan) => by_lan.on(lan),
         None => None,
     }
 }
@@ -55,7 +50,7 @@ fn need_over(threshold: u8, base: Option<Reached>) -> u8
 }
 
 /// The least TTL with which packets are sent by a router's vif.
-fn need_by(followed: &Followed<'_>, by_lan: &[Option<Reached>], router: RouterNo, vif: u8) -> u8
+fn need_by(followed: &Followed<'_>, by_lan: &PerLan<Reached>, router: RouterNo, vif: u8) -> u8
     requires router { router < length followed.now.domain.now.topology.routers }
     requires small { need_held (flow_net followed.now) by_lan.now (Some (router, vif)) ≤ 255 }
     ensures { result ≡ need_held (flow_net followed.now) by_lan.now (Some (router, vif)) }
@@ -73,11 +68,7 @@ fn need_by(followed: &Followed<'_>, by_lan: &[Option<Reached>], router: RouterNo
 }
 
 /// The least TTL with which packets reach the LAN of a copy with this sender, 1 for the source's.
-fn need_of(
-    followed: &Followed<'_>,
-    by_lan: &[Option<Reached>],
-    sender: Option<(RouterNo, u8)>,
-) -> u8
+fn need_of(followed: &Followed<'_>, by_lan: &PerLan<Reached>, sender: Option<(RouterNo, u8)>) -> u8
     requires router { IfSome sender (λ i.
         i.0 < length followed.now.domain.now.topology.routers) }
     requires small { need_held (flow_net followed.now) by_lan.now sender ≤ 255 }
@@ -90,7 +81,7 @@ fn need_of(
 }
 
 /// The entry of a copy, after those of the earlier ones.
-fn entry_of(followed: &Followed<'_>, by_lan: &[Option<Reached>], copy: &Carried) -> Reached
+fn entry_of(followed: &Followed<'_>, by_lan: &PerLan<Reached>, copy: &Carried) -> Reached
     requires router { IfSome copy.now.sender (λ i.
         i.0 < length followed.now.domain.now.topology.routers) }
     requires small { need_held (flow_net followed.now) by_lan.now copy.now.sender ≤ 255 }
@@ -104,55 +95,45 @@ fn entry_of(followed: &Followed<'_>, by_lan: &[Option<Reached>], copy: &Carried)
     }
 }
 
-/// Puts an entry at its LAN's place.
-fn put(by_lan: &mut [Option<Reached>], entry: Reached)
-    requires { entry.lan < length by_lan.old }
-    ensures { by_lan.new ≡ slice_set by_lan.old entry.lan (Some entry) }
-{
-    by_lan[entry.lan.0 as usize] = Some(entry);
-}
-
-/// Puts the entry of each copy at its LAN's place, where no two are of one LAN.
-fn put_entries(followed: &Followed<'_>, by_lan: &mut [Option<Reached>], copies: &[Carried])
+/// Puts the entry of each copy on its LAN, unless an earlier one is there.
+fn put_entries(followed: &Followed<'_>, by_lan: &mut PerLan<Reached>, copies: &[Carried])
     requires empty { IsByLan by_lan.old [] }
     requires lans { All (λ c. c.lan < length by_lan.old) copies.now }
     requires senders { All (λ c. IfSome c.sender (λ i.
         i.0 < length followed.now.domain.now.topology.routers)) copies.now }
-    requires once { Distinct (lans copies.now) }
     requires needs { All (λ e. e.need ≤ 255) (entries_of (flow_net followed.now) copies.now) }
     ensures { IsByLan by_lan.new (entries_of (flow_net followed.now) copies.now) }
 {
     for copy in copies {
         let entry = entry_of(followed, by_lan, copy);
-        put(by_lan, entry);
+        let _free = by_lan.put_first(entry.lan, entry);
     }
 }
 
-/// The entries of the copies that a travel at TTL 255 carried, each at its LAN's place.
+/// The entries of the copies that a travel at TTL 255 carried, each on its LAN.
 pub(crate) fn entries_by_lan(
     alloc: Global,
     followed: &Followed<'_>,
     copies: &[Carried],
-) -> Result<Vec<Option<Reached>>, Memory>
+) -> Result<PerLan<Reached>, Memory>
     requires lans { All (λ c. c.lan < length followed.now.domain.now.topology.lans) copies.now }
     requires senders { All (λ c. IfSome c.sender (λ i.
         i.0 < length followed.now.domain.now.topology.routers)) copies.now }
-    requires once { Distinct (lans copies.now) }
     requires needs { All (λ e. e.need ≤ 255) (entries_of (flow_net followed.now) copies.now) }
     ensures { IfOk result (λ by_lan.
-        IsByLan by_lan.items (entries_of (flow_net followed.now) copies.now)) }
+        IsByLan by_lan (entries_of (flow_net followed.now) copies.now)) }
 {
-    let mut by_lan = vec![in alloc; None; followed.lans() as usize]?;
+    let mut by_lan = PerLan::new(alloc, followed.lans())?;
     put_entries(followed, &mut by_lan, copies);
     Ok(by_lan)
 }
 
 /// The entries, by ascending numbers of their LANs.
-pub(crate) fn listed(alloc: Global, by_lan: &[Option<Reached>]) -> Result<Vec<Reached>, Memory>
+pub(crate) fn listed(alloc: Global, by_lan: &PerLan<Reached>) -> Result<Vec<Reached>, Memory>
     ensures { IfOk result (λ entries. entries.items ≡ held_entries by_lan.now) }
 {
     let mut entries = Vec::new(alloc);
-    for place in by_lan {
+    for place in by_lan.places() {
         if let Some(entry) = place {
             entries.push(*entry)?;
         }

@@ -8,10 +8,11 @@ ghost use Rattle.mc_maker.specs.FlowNet.{flow_net};
 use crate::entries::entry_at;
 use crate::followed::Followed;
 use mc_cert::Reached;
+use mc_forward::PerLan;
 use mc_topology::LanNo;
 
 /// Whether a LAN that wants the flow is named, with a need that all its packets meet.
-fn serves(followed: &Followed<'_>, by_lan: &[Option<Reached>], lan: LanNo) -> bool
+fn serves(followed: &Followed<'_>, by_lan: &PerLan<Reached>, lan: LanNo) -> bool
     requires { lan < length followed.now.domain.now.topology.lans }
     ensures { result ≡ serves (flow_net followed.now) by_lan.now lan }
 {
@@ -25,7 +26,7 @@ fn serves(followed: &Followed<'_>, by_lan: &[Option<Reached>], lan: LanNo) -> bo
 }
 
 /// Whether each LAN that wants the flow is.
-pub(crate) fn serves_all(followed: &Followed<'_>, by_lan: &[Option<Reached>]) -> bool
+pub(crate) fn serves_all(followed: &Followed<'_>, by_lan: &PerLan<Reached>) -> bool
     ensures rules { IsDomain followed.now.domain.now }
     ensures each { IsTrue result → (lan : ℕ) → lan < length followed.now.domain.now.topology.lans →
         serves (flow_net followed.now) by_lan.now lan ≡ true }

@@ -15,7 +15,7 @@ use Rattle.mc_theory.specs.Findings.{double_finding, finding}
 use Rattle.mc_theory.proofs.Travels.{goes-on}
 use Rattle.mc_forward.specs.Domains.{DomainValue, net_of}
 use Rattle.mc_forward.specs.Journeys.{Journey, journey_net, flown}
-use Rattle.mc_replay.specs.Firsts.{AreFirsts}
+use Rattle.mc_forward.specs.PerLan.{IsFirstBy}
 use Rattle.mc_replay.specs.Travels.{Goes}
 
 -- ---- what was carried stays the front of what is carried
@@ -67,11 +67,11 @@ grows-step n i f = by (slice_get f.waiting i)
 pub record Looked (firsts : List (Option Copy)) (lans k : ℕ) (cs : List Copy) : Type 0 where
   pub count : length firsts ≡ lans
   pub seen : k ≤ length cs
-  pub filled : AreFirsts firsts (take k cs)
+  pub filled : IsFirstBy (λ (c : Copy). c.lan) firsts (take k cs)
   pub once : double [] (take k cs) ≡ None
 
 pub looked-start : (firsts : List (Option Copy)) (lans : ℕ) (cs : List Copy) → length firsts ≡ lans
-    → AreFirsts firsts [] → Looked firsts lans 0 cs
+    → IsFirstBy (λ (c : Copy). c.lan) firsts [] → Looked firsts lans 0 cs
 looked-start firsts lans cs count none = record {
   count = count;
   seen = omega arith;
@@ -89,7 +89,7 @@ no-double n count f h = by (double [] f.carried) h
 
 -- after all copies of a flight that shows nothing, and one handling
 pub looked-next : (n : Net) (lans k i : ℕ) (firsts : List (Option Copy)) (f g : Flight)
-    → length firsts ≡ lans → AreFirsts firsts f.carried → finding n lans f ≡ None
+    → length firsts ≡ lans → IsFirstBy (λ (c : Copy). c.lan) firsts f.carried → finding n lans f ≡ None
     → k ≡ length f.carried → g ≡ step n i f → Looked firsts lans k g.carried
 looked-next n lans k i firsts f g count filled none seen next =
     let more = grows-step n i f in
@@ -99,7 +99,7 @@ looked-next n lans k i firsts f g count filled none seen next =
     record {
       count = count;
       seen = omega (arith, seen, ap length now, length-append f.carried more.0);
-      filled = subst (AreFirsts firsts) (sym front) filled;
+      filled = subst (IsFirstBy (λ (c : Copy). c.lan) firsts) (sym front) filled;
       once = ap (double []) front ∙ no-double n lans f none;
     }
 

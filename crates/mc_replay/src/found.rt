@@ -4,14 +4,14 @@ ghost use Rattle.std.specs.Prelude.{◌≡◌, ◌<◌, All, IfSome, List, [], l
 ghost use Rattle.mc_theory.specs.Lists.{below};
 ghost use Rattle.mc_theory.specs.Flights.{Copy};
 ghost use Rattle.mc_theory.specs.Findings.{double, finding, meets, missed};
+ghost use Rattle.mc_forward.specs.PerLan.{IsFirstBy};
 ghost use Rattle.mc_replay.specs.FindingValues.{finding_seen};
-ghost use Rattle.mc_replay.specs.Firsts.{AreFirsts};
 ghost use Rattle.mc_replay.specs.FlowNet.{flow_net};
 
 use crate::finding::Finding;
-use crate::firsts::{first_on, sender_on};
+use crate::firsts::sender_on;
 use crate::followed::Followed;
-use mc_forward::{Carried, Flight};
+use mc_forward::{Carried, Flight, PerLan};
 use mc_topology::LanNo;
 
 /// Whether the walk back from a copy, over the first copies of the LANs that each was taken from,
@@ -20,10 +20,10 @@ use mc_topology::LanNo;
 fn comes_by_its_lan(
     followed: &Followed<'_>,
     copies: &[Carried],
-    firsts: &[Option<Carried>],
+    firsts: &PerLan<Carried>,
     copy: &Carried,
 ) -> bool
-    requires firsts { AreFirsts firsts.now copies.now }
+    requires firsts { IsFirstBy (λ c. c.lan) firsts.now copies.now }
     requires senders { All (λ c. IfSome c.sender (λ i.
         i.0 < length followed.now.domain.now.topology.routers)) copies.now }
     requires sender { IfSome copy.now.sender (λ i.
@@ -45,14 +45,14 @@ fn comes_by_its_lan(
 }
 
 /// The lowest LAN that wants the flow and carried no copy.
-fn missed(followed: &Followed<'_>, firsts: &[Option<Carried>]) -> Option<LanNo>
-    ensures { (copies : List Copy) → AreFirsts firsts.now copies → result ≡
+fn missed(followed: &Followed<'_>, firsts: &PerLan<Carried>) -> Option<LanNo>
+    ensures { (copies : List Copy) → IsFirstBy (λ c. c.lan) firsts.now copies → result ≡
         missed (flow_net followed.now) copies
         (below (length followed.now.domain.now.topology.lans)) }
 {
     for number in 0..followed.lans() {
         let lan = LanNo(number);
-        if followed.wants(lan) && first_on(firsts, lan).is_none() {
+        if followed.wants(lan) && firsts.on(lan).is_none() {
             return Some(lan);
         }
     }
@@ -64,11 +64,11 @@ fn missed(followed: &Followed<'_>, firsts: &[Option<Carried>]) -> Option<LanNo>
 pub(crate) fn finding_of(
     followed: &Followed<'_>,
     flight: &Flight<'_>,
-    firsts: &[Option<Carried>],
+    firsts: &PerLan<Carried>,
     second: Option<Carried>,
 ) -> Option<Finding>
     requires domain { flight.now.domain ≡ followed.now.domain.now }
-    requires firsts { AreFirsts firsts.now flight.now.flight.carried }
+    requires firsts { IsFirstBy (λ c. c.lan) firsts.now flight.now.flight.carried }
     requires second { second ≡ double [] flight.now.flight.carried }
     ensures { finding_seen result ≡ finding (flow_net followed.now)
         (length followed.now.domain.now.topology.lans) flight.now.flight }

@@ -4,18 +4,18 @@ ghost use Rattle.std.specs.Prelude.{◌≡◌, ℕ, ◌<◌, ◌≤◌, IfOk, []
 ghost use Rattle.mc_theory.specs.Flights.{start};
 ghost use Rattle.mc_theory.specs.Nets.{placed_vifs};
 ghost use Rattle.mc_forward.specs.Domains.{net_of};
+ghost use Rattle.mc_forward.specs.PerLan.{IsFirstBy};
 ghost use Rattle.mc_replay.specs.FindingValues.{finding_value};
-ghost use Rattle.mc_replay.specs.Firsts.{AreFirsts};
 ghost use Rattle.mc_replay.specs.Travels.{Goes, HasShortTravel, IsRunOfChoices, IsRunTo};
 ghost use Rattle.mc_replay.specs.Travels.{ShowsItsFinding, ShowsWrongFlow, WalksEndAtSource};
 ghost use Rattle.mc_replay.specs.Travels.{replay_of};
 
 use crate::finding::Finding;
-use crate::firsts::{no_firsts, take_in};
+use crate::firsts::take_in;
 use crate::followed::Followed;
 use crate::found::finding_of;
 use crate::picker::Picker;
-use mc_forward::{Carried, Domain, Event, Flight};
+use mc_forward::{Carried, Domain, Event, Flight, PerLan};
 use mc_text::Memory;
 use std::alloc::Global;
 
@@ -44,7 +44,7 @@ pub struct Ended<'d> {
 fn travel_on<'d, P: Picker>(
     followed: &Followed<'d>,
     flight: &mut Flight<'d>,
-    firsts: &mut [Option<Carried>],
+    firsts: &mut PerLan<Carried>,
     events: &mut Vec<Event>,
     picker: &mut P,
 ) -> Result<Finding, Memory>
@@ -53,7 +53,7 @@ fn travel_on<'d, P: Picker>(
     requires start { (ttl : ℕ) × (flight.old.flight
         ≡ start (net_of followed.now.domain.now followed.now.flow) ttl) }
     requires count { length firsts.old ≡ length followed.now.domain.now.topology.lans }
-    requires firsts { AreFirsts firsts.old [] }
+    requires firsts { IsFirstBy (λ c. c.lan) firsts.old [] }
     requires events { events.old.items ≡ [] }
     ensures domain { IfOk result (λ _. flight.new.domain ≡ followed.now.domain.now) }
     ensures flow { IfOk result (λ _. flight.new.flow ≡ followed.now.flow) }
@@ -104,7 +104,7 @@ pub fn replay_to_end<'d, P: Picker>(
         (replay_of domain.now flow ttl (P.choices picker.old)) ended.travel) }
 {
     let followed = Followed::new(domain, flow);
-    let mut firsts = no_firsts(alloc, followed.lans())?;
+    let mut firsts = PerLan::new(alloc, followed.lans())?;
     let mut flight = Flight::start(alloc, domain, flow, ttl)?;
     let mut events = Vec::new(alloc);
     let finding = travel_on(&followed, &mut flight, &mut firsts, &mut events, picker)?;

@@ -1,6 +1,7 @@
 -- Copy by copy.
-use Rattle.std.proofs.Common.{◌<◌, length, sym, subst, arith}
+use Rattle.std.proofs.Common.{◌≡◌, ◌<◌, length, ap, sym, subst, arith}
 use Rattle.mc_theory.specs.Flights.{Copy}
+use Rattle.mc_theory.specs.Certificates.{Entry}
 use Rattle.mc_maker.specs.FlowNet.{flow_net}
 use Rattle.mc_maker.proofs.FilledLemmas.{filled-start, filled-next, filled-end, need-small}
 use Rattle.mc_maker.proofs.entries.put_entries.Goals as goal
@@ -26,9 +27,13 @@ loop-copy-preserved c =
     let cs = c.args.copies.now in
     let k = c.loop-copy.copy-index in
     let x = c.copy-item.result in
+    let e = c.entry_of-entry.result in
+    let lan : c.entry.inside.lan ≡ e.lan = ap (λ (y : Entry). y.lan) c.entry.view_is in
+    let told = rw lan at c.put_first-free.ensures in
     let within : x.lan < length c.args.by_lan.now =
     subst (λ (y : Copy). y.lan < length c.args.by_lan.now) (sym c.copy-item.is)
     (c.requires.lans k x c.loop-copy-test.true) in
-    filled-next (flow_net c.args.followed.now) c.loop-copy.by_lan c.put.new.by_lan c.args.by_lan.now
-    cs k x c.entry_of-entry.result c.loop-copy.invariant c.requires.once
-    c.loop-copy-test.true c.copy-item.is within c.entry_of-entry.ensures c.put.ensures
+    filled-next (flow_net c.args.followed.now) c.loop-copy.by_lan c.put_first-free.new.self c.args.by_lan.now
+    cs k x e c.put_first-free.result c.loop-copy.invariant c.loop-copy-test.true
+    c.copy-item.is within c.entry_of-entry.ensures told.free
+    told.put told.earlier told.kept

@@ -6,6 +6,7 @@ use Rattle.mc_theory.specs.Nets.{Interface}
 use Rattle.mc_theory.specs.Flights.{Copy}
 use Rattle.mc_theory.specs.Findings.{from_lan, meets, sender_on}
 use Rattle.mc_replay.specs.FlowNet.{flow_net}
+use Rattle.mc_forward.proofs.FirstLemmas.{first-copy}
 use Rattle.mc_replay.proofs.WalkLemmas.{meets-turn, one-fewer, sender-first, sender-among}
 use Rattle.mc_replay.proofs.found.comes_by_its_lan.Goals as goal
 
@@ -24,7 +25,7 @@ loop-step-preserved c =
     ∙ (sym c.eq.ensures ∙ c.if-eq.false) in
     let next : c.sender_on-sender.result ≡ sender_on cs p =
     c.sender_on-sender.ensures
-    ∙ (ap (option_and_then (λ (x : Copy). x.sender)) (c.requires.firsts p)
+    ∙ (ap (option_and_then (λ (x : Copy). x.sender)) (c.requires.firsts p ∙ first-copy cs p)
     ∙ sender-first cs p) in
     record {
       rest = ap (λ (x : Option Interface). meets n cs l k x) next

@@ -1,6 +1,7 @@
 use Rattle.std.proofs.Common.{◌≡◌, true, false, is_some, sym, ap, ◌∙◌, arith}
 use Rattle.mc_theory.specs.Findings.{copy_on}
 use Rattle.mc_replay.specs.FlowNet.{flow_net}
+use Rattle.mc_forward.proofs.FirstLemmas.{first-copy}
 use Rattle.mc_replay.proofs.MissedLemmas.{missed-start, missed-unwanted, missed-there, missed-found}
 use Rattle.mc_replay.proofs.found.missed.Goals as goal
 use Rattle.mc_replay.proofs.found.missed.Goals.{else-wants-via-then-wants+else-is_none}
@@ -14,9 +15,9 @@ returns-then-is_none c = λ copies are.
     (let n = flow_net c.args.followed.now in
     let k = c.loop-number.number in
     let w : n.wants k ≡ true = cc in
-    let none : is_some c.first_on.result ≡ false = grind arith in
-    let b : is_some (copy_on copies k) ≡ false = ap is_some (sym (are k))
-    ∙ (ap is_some (sym c.first_on.ensures) ∙ none) in
+    let none : is_some c.on.result ≡ false = grind arith in
+    let b : is_some (copy_on copies k) ≡ false = ap is_some (sym (are k ∙ first-copy copies k))
+    ∙ (ap is_some (sym c.on.ensures) ∙ none) in
     sym (missed-found n copies k _ (c.loop-number.invariant copies are) w b
     (omega (arith, c.lans-number-end.ensures.count))))
 
@@ -26,9 +27,9 @@ loop-number-preserved c = λ copies are.
     let k = c.loop-number.number in
     elim c.else-wants.branch [
       | else-wants-via-then-wants+else-is_none w ↦ (
-          let some : is_some w.first_on.result ≡ true = w.if-is_none.ensures in
-          let b : is_some (copy_on copies k) ≡ true = ap is_some (sym (are k))
-          ∙ (ap is_some (sym w.first_on.ensures) ∙ some) in
+          let some : is_some w.on.result ≡ true = w.if-is_none.ensures in
+          let b : is_some (copy_on copies k) ≡ true = ap is_some (sym (are k ∙ first-copy copies k))
+          ∙ (ap is_some (sym w.on.ensures) ∙ some) in
           missed-there n copies k (c.loop-number.invariant copies are) b)
       | else-wants-via-else-wants w ↦ (let b : n.wants k ≡ false =
           cc in missed-unwanted n copies k (c.loop-number.invariant copies are) b)

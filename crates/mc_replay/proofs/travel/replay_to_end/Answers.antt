@@ -1,8 +1,8 @@
-use Rattle.std.proofs.Common.{length, ap, sym, ◌∙◌}
+use Rattle.std.proofs.Common.{ap, sym, ◌∙◌}
 use Rattle.mc_theory.specs.Nets.{Net}
-use Rattle.mc_theory.specs.Flights.{start}
-use Rattle.mc_forward.specs.Domains.{DomainValue}
+use Rattle.mc_theory.specs.Flights.{Copy, start}
 use Rattle.mc_forward.specs.Journeys.{Journey}
+use Rattle.mc_forward.proofs.FirstLemmas.{filled-start}
 use Rattle.mc_replay.proofs.TravelLemmas.{net-same, run-from}
 use Rattle.mc_replay.proofs.travel.replay_to_end.Goals as goal
 
@@ -21,3 +21,7 @@ returns-clause-run g c =
     run-from c.new-followed.result.domain.now c.args.domain.now c.new-followed.result.flow
     c.args.flow c.args.ttl _ _ _ _ _ c.new-followed.ensures.domain c.new-followed.ensures.flow
     (ap (λ (x : Journey). x.flight) c.in_ok-flight.ensures) c.in_ok-finding.ensures.run
+
+pub travel_on-requires-clause-firsts : goal.travel_on-requires-clause-firsts
+travel_on-requires-clause-firsts g c =
+    filled-start (λ (x : Copy). x.lan) c.in_ok-firsts.firsts _ c.in_ok-firsts.ensures

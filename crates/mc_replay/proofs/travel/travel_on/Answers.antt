@@ -1,10 +1,10 @@
 -- Event by event.
-use Rattle.std.proofs.Common.{◌≡◌, ℕ, [], ◌∷◌, length, slice_get, None, Some, ap, subst, refl, sym}
+use Rattle.std.proofs.Common.{◌≡◌, ℕ, [], ◌∷◌, length, slice_get, None, ap, subst, sym}
 use Rattle.std.proofs.Common.{◌∙◌, arith, length-append}
+use Rattle.mc_theory.specs.Flights.{Copy}
 use Rattle.mc_theory.specs.Findings.{choice, finding}
 use Rattle.mc_forward.specs.Domains.{net_of}
-use Rattle.mc_replay.specs.Firsts.{AreFirsts}
-use Rattle.mc_replay.specs.FindingValues.{finding_value}
+use Rattle.mc_forward.specs.PerLan.{IsFirstBy}
 use Rattle.mc_replay.proofs.TravelLemmas.{looked-start, looked-next, way-from, way-room, way-short}
 use Rattle.mc_replay.proofs.TravelLemmas.{way-end, way-next, flown-at, seen-at}
 use Rattle.mc_replay.proofs.travel.travel_on.Goals as goal
@@ -62,13 +62,13 @@ travel-preserved g c =
     (slice_get f.waiting c.pick-pick.result) c.in_ok-handle.field-0 inv.domain inv.flow
     c.in_ok-handle.ensures.event in
     let new = c.take_in-second.new.firsts in
-    let filled = subst (AreFirsts new) c.copies-copies.ensures.copies
+    let filled = subst (IsFirstBy (λ (x : Copy). x.lan) new) c.copies-copies.ensures.copies
     c.take_in-second.ensures.firsts in
     record {
       domain = next.0;
       flow = next.1;
       looked = looked-next n (length d.topology.lans) _ c.pick-pick.result _ f
-          c.handle.new.self.flight (c.take_in-second.auto.firsts ∙ inv.looked.count) filled none
+          c.handle.new.self.flight (c.take_in-second.ensures.count ∙ inv.looked.count) filled none
           (ap length c.copies-copies.ensures.copies) next.2;
       way = way-next n (length d.topology.lans) _ _ _ _ f c.handle.new.self.flight
           c.travel.events.items c.push.new.self.items c.pick-pick.result c.in_ok-handle.field-0

@@ -1,8 +1,9 @@
 //! The source's LAN, and the LANs that want the flow.
 
 ghost use Rattle.std.specs.Prelude.{◌≡◌, ◌==◌, ◌||◌, ◌<◌, is_some, length};
+ghost use Rattle.std.specs.List.{list_all};
 ghost use Rattle.mc_theory.specs.Lists.{below};
-ghost use Rattle.mc_theory.specs.Reasons.{all_pass, entry_on, first_of, has_source};
+ghost use Rattle.mc_theory.specs.Reasons.{entry_on, first_of, has_source};
 ghost use Rattle.mc_theory.specs.Reasons.{is_source_entry, lan_reason};
 ghost use Rattle.mc_check.specs.FlowNet.{flow_net};
 ghost use Rattle.mc_check.specs.Reasons.{reason_seen};
@@ -26,7 +27,7 @@ fn is_source_entry(named: &Named<'_>, lan: LanNo) -> bool
 /// Whether each entry of another LAN has a forwarder.
 fn others_are_forwarded(entries: &[Reached], lan: LanNo) -> bool
     ensures { result
-        ≡ all_pass (λ entry. (entry.lan == lan) || is_some entry.forwarder) entries.now }
+        ≡ list_all (λ entry. (entry.lan == lan) || is_some entry.forwarder) entries.now }
 {
     for entry in entries {
         if entry.lan.0 != lan.0 && entry.forwarder.is_none() {

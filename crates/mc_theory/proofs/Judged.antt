@@ -3,6 +3,7 @@ use Rattle.std.proofs.Common.{◌≡◌, ◌≢◌, ℕ, ◌+◌, ◌<◌, ◌�
 use Rattle.std.proofs.Common.{not, ◌&&◌, ◌||◌, ◌==◌, nat_lt, List, [], ◌∷◌, map, Option, Some, None}
 use Rattle.std.proofs.Common.{IsSome, is_some, refl, ap, sym, ◌∙◌, subst, arith, eqb-true, eq-eqb}
 use Rattle.std.proofs.Common.{ltb-true, ltb-false, lt-ltb, le-ltb, ◌++◌, ◌↔◌}
+use Rattle.std.specs.List.{list_all, list_any}
 use Rattle.std.proofs.lemmas.Bool.{and_parts, and_from, or_cases, or_left, or_right, not-true}
 use Rattle.std.proofs.lemmas.Bool.{not_from_false, eqb-false, cases_eq}
 use Rattle.mc_theory.specs.Lists.{In, Distinct, below}
@@ -10,9 +11,9 @@ use Rattle.mc_theory.specs.Nets.{Net, IsNet, Row, Interface, is_lan, WantsBelow}
 use Rattle.mc_theory.specs.Nets.Row.{Exact, Open, NoRow}
 use Rattle.mc_theory.specs.Flights.{is_sender}
 use Rattle.mc_theory.specs.Certificates.{Entry, Live, Feeds, IsChild, IsTree, IsAccepted}
-use Rattle.mc_theory.specs.Certificates.{source_entry_of}
+use Rattle.mc_theory.specs.Certificates.{source_entry_of, is_live}
 use Rattle.mc_theory.specs.Reasons.{Reason, ◌then◌, unless, first_of, entry_on, entry_at, twice}
-use Rattle.mc_theory.specs.Reasons.{is_source_entry, all_pass, any_pass, has_source, child_reason}
+use Rattle.mc_theory.specs.Reasons.{is_source_entry, has_source, child_reason}
 use Rattle.mc_theory.specs.Reasons.{onto_reason, pair_reason, pairs_reason, row_reason, feeds_from}
 use Rattle.mc_theory.specs.Reasons.{row_feeds, is_fed, need_reason, lan_reason, first_reason}
 use Rattle.mc_theory.specs.Reasons.Reason.{TwoEntries, BadSource, Wildcard, Extra, WrongRank}
@@ -55,29 +56,29 @@ first-from f [] h = refl
 first-from f (x ∷ xs) h = then-from (f x) (first_of f xs) (h x (inl refl))
     (first-from f xs (λ y k. h y (inr k)))
 
-all-each : {A : Type 0} (p : A → Bool) (xs : List A) → all_pass p xs ≡ true → (x : A) → In x xs →
+all-each : {A : Type 0} (p : A → Bool) (xs : List A) → list_all p xs ≡ true → (x : A) → In x xs →
     p x ≡ true
 all-each p [] e x h = absurd h
-all-each p (y ∷ xs) e x (inl q) = ap p (sym q) ∙ (and_parts (p y) (all_pass p xs) e).0
-all-each p (y ∷ xs) e x (inr h) = all-each p xs (and_parts (p y) (all_pass p xs) e).1 x h
+all-each p (y ∷ xs) e x (inl q) = ap p (sym q) ∙ (and_parts (p y) (list_all p xs) e).0
+all-each p (y ∷ xs) e x (inr h) = all-each p xs (and_parts (p y) (list_all p xs) e).1 x h
 
 all-from : {A : Type 0} (p : A → Bool) (xs : List A) → ((x : A) → In x xs → p x ≡ true) →
-    all_pass p xs ≡ true
+    list_all p xs ≡ true
 all-from p [] h = refl
-all-from p (x ∷ xs) h = and_from (p x) (all_pass p xs) (h x (inl refl))
+all-from p (x ∷ xs) h = and_from (p x) (list_all p xs) (h x (inl refl))
     (all-from p xs (λ y k. h y (inr k)))
 
-any-some : {A : Type 0} (p : A → Bool) (xs : List A) → any_pass p xs ≡ true →
+any-some : {A : Type 0} (p : A → Bool) (xs : List A) → list_any p xs ≡ true →
     (x : A) × In x xs × (p x ≡ true)
 any-some p [] e = absurd cc
-any-some p (x ∷ xs) e = elim (or_cases (p x) (any_pass p xs) e)
+any-some p (x ∷ xs) e = elim (or_cases (p x) (list_any p xs) e)
     [ inl h ↦ (x, inl refl, h) | inr h ↦ (let r = any-some p xs h in (r.0, inr r.1, r.2)) ]
 
 any-from : {A : Type 0} (p : A → Bool) (xs : List A) (x : A) → In x xs → p x ≡ true →
-    any_pass p xs ≡ true
+    list_any p xs ≡ true
 any-from p [] x h e = absurd h
-any-from p (y ∷ xs) x (inl q) e = or_left (p y) (any_pass p xs) (ap p q ∙ e)
-any-from p (y ∷ xs) x (inr h) e = or_right (p y) (any_pass p xs) (any-from p xs x h e)
+any-from p (y ∷ xs) x (inl q) e = or_left (p y) (list_any p xs) (ap p q ∙ e)
+any-from p (y ∷ xs) x (inr h) e = or_right (p y) (list_any p xs) (any-from p xs x h e)
 
 -- ---- the entry of a LAN
 
@@ -201,10 +202,10 @@ others-test n e h = elim (cases_eq e.lan n.source) [
 
 -- ---- what routers send
 
-live-true : (rank h : ℕ) → nat_lt (rank + h) 255 ≡ true → Live rank h
+live-true : (rank h : ℕ) → is_live rank h ≡ true → Live rank h
 live-true rank h e = let z = ltb-true (rank + h) 255 e in omega arith
 
-live-from : (rank h : ℕ) → Live rank h → nat_lt (rank + h) 255 ≡ true
+live-from : (rank h : ℕ) → Live rank h → is_live rank h ≡ true
 live-from rank h e = lt-ltb (rank + h) 255 (omega arith)
 
 cond-true : (b : Bool) (x : Option Reason) → cond b x None ≡ None → b ≡ true → x ≡ None
@@ -229,7 +230,7 @@ pair-passes n es p r v h net apart none p_in feeds =
     entry-in es p apart p_in in
     let pairs : first_of (pair_reason n es p r) feeds.pairs ≡ None =
     subst (λ o. pairs_reason n es r feeds.pairs o ≡ None) entry exact in
-    cond-true (nat_lt (p.rank + h) 255) (onto_reason es p r (v, h) (n.placed r v))
+    cond-true (is_live p.rank h) (onto_reason es p r (v, h) (n.placed r v))
     (first-each (pair_reason n es p r) feeds.pairs pairs (v, h) feeds.pair)
     (live-from p.rank h feeds.live)
 
@@ -288,8 +289,8 @@ fed-from : (n : Net) (es : List Entry) (r v incoming : ℕ) (pairs : List (ℕ �
 fed-from n es r v incoming pairs None row q e = absurd cc
 fed-from n es r v incoming pairs (Some p) row q e =
     let found = entry-at_found es (n.placed r incoming) p q in
-    let pair = any-some (λ (x : ℕ × ℕ). (x.0 == v) && nat_lt (p.rank + x.1) 255) pairs e in
-    let both = and_parts (pair.0.0 == v) (nat_lt (p.rank + pair.0.1) 255) pair.2 in (
+    let pair = any-some (λ (x : ℕ × ℕ). (x.0 == v) && is_live p.rank x.1) pairs e in
+    let both = and_parts (pair.0.0 == v) (is_live p.rank pair.0.1) pair.2 in (
       p,
       pair.0.1,
       found.0,
@@ -327,9 +328,9 @@ fed-test n es l (Some i) apart h =
     let f = h i.0 i.1 refl in
     let entry : entry_at es (n.placed i.0 f.3.incoming) ≡ Some f.0 = ap (entry_at es) f.3.from ∙
     entry-in es f.0 apart f.2 in
-    let any : any_pass (λ (x : ℕ × ℕ). (x.0 == i.1) && nat_lt (f.0.rank + x.1) 255) f.3.pairs ≡
-    true = any-from (λ (x : ℕ × ℕ). (x.0 == i.1) && nat_lt (f.0.rank + x.1) 255) f.3.pairs
-    (i.1, f.1) f.3.pair (and_from (i.1 == i.1) (nat_lt (f.0.rank + f.1) 255)
+    let any : list_any (λ (x : ℕ × ℕ). (x.0 == i.1) && is_live f.0.rank x.1) f.3.pairs ≡
+    true = any-from (λ (x : ℕ × ℕ). (x.0 == i.1) && is_live f.0.rank x.1) f.3.pairs
+    (i.1, f.1) f.3.pair (and_from (i.1 == i.1) (is_live f.0.rank f.1)
     (eq-eqb i.1 i.1 refl) (live-from f.0.rank f.1 f.3.live)) in
     let feeds : row_feeds n es i.0 i.1 (n.row i.0) ≡ true = ap (row_feeds n es i.0 i.1) f.3.row ∙
     (ap (feeds_from i.1 f.3.pairs) entry ∙ any) in
@@ -378,7 +379,7 @@ accepted-from_none n count es net small h =
     let d = then-none (fed_reason n es) (first_of (lan_reason n es) (below count)) c.1 in
     let apart = (twice-none [] es a.0).0 in
     let source = and_parts (is_source_entry (entry_on es n.source))
-    (all_pass (λ e. (e.lan == n.source) || is_some e.forwarder) es)
+    (list_all (λ e. (e.lan == n.source) || is_some e.forwarder) es)
     (unless-true (has_source n es) BadSource b.0) in
     record {
       is_tree = record {
@@ -429,7 +430,7 @@ pairs-from : (n : Net) (es : List Entry) (r incoming : ℕ) (pairs : List (ℕ �
     pairs_reason n es r pairs o ≡ None
 pairs-from n es r incoming pairs None row q tree = refl
 pairs-from n es r incoming pairs (Some p) row q tree = first-from (pair_reason n es p r) pairs
-    (λ pair pair_in. cond-from (nat_lt (p.rank + pair.1) 255)
+    (λ pair pair_in. cond-from (is_live p.rank pair.1)
     (onto_reason es p r pair (n.placed r pair.0)) (λ live.
     let f = entry-at_found es (n.placed r incoming) p q in
     onto-from n es p r pair (n.placed r pair.0) refl tree f.0
@@ -470,7 +471,7 @@ none-from_accepted n count es acc =
     (then-from (unless (has_source n es) BadSource) (sends_reason n es then fed_reason n es
     then first_of (lan_reason n es) (below count))
     (unless-from (has_source n es) BadSource (and_from (is_source_entry (entry_on es n.source))
-    (all_pass (λ (e : Entry). (e.lan == n.source) || is_some e.forwarder) es)
+    (list_all (λ (e : Entry). (e.lan == n.source) || is_some e.forwarder) es)
     (ap is_source_entry (entry-in es (source_entry_of n) t.one_entry t.source_entry))
     (all-from (λ (e : Entry). (e.lan == n.source) || is_some e.forwarder) es
     (λ e e_in. others-test n e (t.others_fed e e_in)))))

@@ -1,5 +1,5 @@
 -- When a list of entries certifies a flow, and what then holds of every run.
-use Rattle.std.specs.Prelude.{◌≡◌, ◌≢◌, ℕ, ◌+◌, ◌≤◌, max, true, List, [], map, length, flat_map}
+use Rattle.std.specs.Prelude.{◌≡◌, ◌≢◌, ℕ, ◌+◌, ◌≤◌, nat_lt, max, Bool, true, List, [], map, length, flat_map}
 use Rattle.std.specs.Prelude.{Option, Some, None, IsSome, ◌↔◌}
 use Rattle.mc_theory.specs.Lists.{In, Distinct}
 use Rattle.mc_theory.specs.Nets.{Net, Interface, interfaces}
@@ -22,6 +22,10 @@ pub record Entry : Type 0 where
 -- the greatest TTL that there is.
 abbrev pub Live : ℕ → ℕ → Type 0
 Live rank threshold = rank + threshold + 1 ≤ 255
+
+-- whether it does
+abbrev pub is_live : ℕ → ℕ → Bool
+is_live rank threshold = nat_lt (rank + threshold) 255
 
 abbrev pub source_entry_of : Net → Entry
 source_entry_of n = record { lan = n.source; rank = 0; need = 1; forwarder = None }

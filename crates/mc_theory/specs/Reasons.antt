@@ -3,11 +3,12 @@
 -- accepted is proved.
 use Rattle.std.specs.Prelude.{ℕ, ◌+◌, max, Bool, true, false, not, ◌&&◌, ◌||◌, nat_lt, ◌==◌}
 use Rattle.std.specs.Prelude.{if◌then◌else◌, List, [], ◌∷◌, ◌++◌, Option, Some, None, is_some}
+use Rattle.std.specs.List.{list_all, list_any}
 use Rattle.mc_theory.specs.Lists.{below}
 use Rattle.mc_theory.specs.Nets.{Net, Row, Interface, is_lan}
 use Rattle.mc_theory.specs.Nets.Row.{Exact, Open, NoRow}
 use Rattle.mc_theory.specs.Flights.{is_sender}
-use Rattle.mc_theory.specs.Certificates.{Entry}
+use Rattle.mc_theory.specs.Certificates.{Entry, is_live}
 
 -- Why a list is refused: the first condition that fails, at the first place where it fails.
 pub data Reason : Type 0 where
@@ -52,14 +53,6 @@ abbrev pub first_of : {A : Type 0} → (A → Option Reason) → List A → Opti
 first_of f [] = None
 first_of f (x ∷ xs) = f x then first_of f xs
 
-abbrev pub all_pass : {A : Type 0} → (A → Bool) → List A → Bool
-all_pass p [] = true
-all_pass p (x ∷ xs) = p x && all_pass p xs
-
-abbrev pub any_pass : {A : Type 0} → (A → Bool) → List A → Bool
-any_pass p [] = false
-any_pass p (x ∷ xs) = p x || any_pass p xs
-
 -- a LAN's first entry
 abbrev pub entry_on : List Entry → ℕ → Option Entry
 entry_on [] l = None
@@ -87,7 +80,7 @@ is_source_entry (Some e) = (e.rank == 0) && ((e.need == 1) && not (is_some e.for
 abbrev pub has_source : Net → List Entry → Bool
 has_source n es =
     is_source_entry (entry_on es n.source)
-    && all_pass (λ e. (e.lan == n.source) || is_some e.forwarder) es
+    && list_all (λ e. (e.lan == n.source) || is_some e.forwarder) es
 
 -- ---- no wildcard, no stray and tree, of one router
 
@@ -107,7 +100,7 @@ onto_reason es p r pair (Some q) = child_reason p r pair q (entry_on es q)
 -- a pair: only a live one is looked at
 abbrev pub pair_reason : Net → List Entry → Entry → ℕ → ℕ × ℕ → Option Reason
 pair_reason n es p r pair =
-    if nat_lt (p.rank + pair.1) 255
+    if is_live p.rank pair.1
     then onto_reason es p r pair (n.placed r pair.0)
     else None
 
@@ -133,7 +126,7 @@ row_reason n es r (Exact incoming pairs) =
 abbrev pub feeds_from : ℕ → List (ℕ × ℕ) → Option Entry → Bool
 feeds_from v pairs None = false
 feeds_from v pairs (Some p) =
-    any_pass (λ pair. (pair.0 == v) && nat_lt (p.rank + pair.1) 255) pairs
+    list_any (λ pair. (pair.0 == v) && is_live p.rank pair.1) pairs
 
 abbrev pub row_feeds : Net → List Entry → ℕ → ℕ → Row → Bool
 row_feeds n es r v (Exact incoming pairs) =

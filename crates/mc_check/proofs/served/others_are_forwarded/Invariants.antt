@@ -1,10 +1,10 @@
 use Rattle.std.proofs.Common.{◌≡◌, drop, ◌||◌, ◌==◌, is_some}
 use Rattle.mc_theory.specs.Certificates.{Entry}
-use Rattle.mc_theory.specs.Reasons.{all_pass}
+use Rattle.std.specs.List.{list_all}
 use Rattle.mc_check.proofs.served.others_are_forwarded.Given as goal
 
 abbrev pub invariant-loop-entry : goal.invariant-loop-entry
 invariant-loop-entry l =
-    all_pass (λ (e : Entry). (e.lan == l.fn.lan) || is_some e.forwarder)
+    list_all (λ (e : Entry). (e.lan == l.fn.lan) || is_some e.forwarder)
     (drop l.entry-index l.fn.entries)
-    ≡ all_pass (λ (e : Entry). (e.lan == l.fn.lan) || is_some e.forwarder) l.fn.entries
+    ≡ list_all (λ (e : Entry). (e.lan == l.fn.lan) || is_some e.forwarder) l.fn.entries

@@ -3,7 +3,7 @@
 ghost use Rattle.std.specs.Prelude.{◌≡◌, ◌<◌, ◌^◌, All, IfOk, None, [], length};
 ghost use Rattle.mc_theory.specs.Reasons.{first_reason, twice};
 ghost use Rattle.mc_forward.specs.Domains.{net_of};
-ghost use Rattle.mc_check.specs.FlowNet.{flow_net};
+ghost use Rattle.mc_forward.specs.Journeys.{net_in};
 ghost use Rattle.mc_check.specs.Reasons.{reason_seen};
 ghost use Rattle.mc_check.specs.Verdicts.{HasCopies, HasFirstReason, IsExact, OfEachFlow, Says};
 ghost use Rattle.mc_check.specs.Verdicts.{verdict_by};
@@ -11,31 +11,31 @@ ghost use Rattle.mc_check.specs.Verdicts.{YesDelivers, YesIsRight, YesIsSafe, Ye
 
 use crate::fed::fed_reason;
 use crate::firsts::{Named, put_firsts};
-use crate::flow_tables::FlowTables;
 use crate::routers::routers_reason;
 use crate::served::{has_source, lans_reason};
 use crate::verdict::{Reason, Verdict};
 use mc_cert::{Certificate, Reached};
-use mc_forward::{Domain, PerLan};
+use mc_forward::{Domain, FlowRows, FlowView, PerLan};
 use mc_text::Memory;
 use std::alloc::Global;
 
 /// The first reason to refuse a flow's entries, no two of which name one LAN.
-fn reason_of(tables: &FlowTables<'_>, named: &Named<'_>) -> Option<Reason>
+fn reason_of(rows: &FlowRows<'_>, named: &Named<'_>) -> Option<Reason>
     requires once { twice [] named.now ≡ None }
-    ensures { reason_seen result ≡ first_reason (flow_net tables.now)
-        (length tables.now.domain.now.topology.lans) named.now }
+    ensures { reason_seen result ≡ first_reason (net_in rows.now)
+        (length rows.now.domain.topology.lans) named.now }
 {
-    if !has_source(tables, named) {
+    let view = rows.view();
+    if !has_source(view, named) {
         return Some(Reason::BadSource);
     }
-    if let Some(reason) = routers_reason(tables, named) {
+    if let Some(reason) = routers_reason(rows, named) {
         return Some(reason);
     }
-    if let Some(reason) = fed_reason(tables, named) {
+    if let Some(reason) = fed_reason(rows, named) {
         return Some(reason);
     }
-    lans_reason(tables, named)
+    lans_reason(view, named)
 }
 
 /// The first reason to refuse a list of entries for a flow.
@@ -51,12 +51,12 @@ fn first_reason_of(
         first_reason (net_of domain.now flow) (length domain.now.topology.lans) entries.now) }
 {
     let mut firsts = PerLan::new(alloc, domain.topology().lans())?;
-    let tables = FlowTables::of(alloc, domain, flow)?;
+    let rows = FlowView::new(domain, flow).look_up_all(alloc)?;
     if let Some(reason) = put_firsts(&mut firsts, entries) {
         return Ok(Some(reason));
     }
     let named = Named::new(entries, firsts);
-    Ok(reason_of(&tables, &named))
+    Ok(reason_of(&rows, &named))
 }
 
 /// The verdict by the first reason, if there is one.

@@ -4,14 +4,13 @@ ghost use Rattle.std.specs.Prelude.{◌≡◌, Some};
 ghost use Rattle.mc_theory.specs.Reasons.{feeds_from, first_of, is_fed, row_feeds, unless};
 ghost use Rattle.mc_theory.specs.Reasons.Reason.{Unfed};
 ghost use Rattle.mc_forward.specs.Domains.{pairs_of};
-ghost use Rattle.mc_check.specs.FlowNet.{flow_net};
+ghost use Rattle.mc_forward.specs.Journeys.{net_in};
 ghost use Rattle.mc_check.specs.Reasons.{reason_seen};
 
 use crate::firsts::Named;
-use crate::flow_tables::FlowTables;
 use crate::verdict::Reason;
 use mc_cert::Reached;
-use mc_forward::RowFor;
+use mc_forward::{FlowRows, RowFor};
 use mc_tables::Oif;
 use mc_topology::RouterNo;
 
@@ -28,12 +27,12 @@ fn feeds(base: &Reached, vif: u8, oifs: &[Oif]) -> bool
 }
 
 /// Whether a router's row sends by a vif what comes from a named LAN.
-fn row_feeds(tables: &FlowTables<'_>, named: &Named<'_>, router: RouterNo, vif: u8) -> bool
-    ensures { result ≡ row_feeds (flow_net tables.now) named.now router vif
-        ((flow_net tables.now).row router) }
+fn row_feeds(rows: &FlowRows<'_>, named: &Named<'_>, router: RouterNo, vif: u8) -> bool
+    ensures { result ≡ row_feeds (net_in rows.now) named.now router vif
+        ((net_in rows.now).row router) }
 {
-    match tables.row(router) {
-        RowFor::Exact(entry) => match named.at(tables.placed(router, entry.iif)) {
+    match rows.row(router) {
+        RowFor::Exact(entry) => match named.at(rows.view().placed(router, entry.iif)) {
             Some(base) => feeds(&base, vif, entry.oifs.as_slice()),
             None => false,
         },
@@ -42,29 +41,29 @@ fn row_feeds(tables: &FlowTables<'_>, named: &Named<'_>, router: RouterNo, vif: 
 }
 
 /// Whether an entry's forwarder, if it has one, sends on its LAN.
-fn is_fed(tables: &FlowTables<'_>, named: &Named<'_>, entry: &Reached) -> bool
-    ensures { result ≡ is_fed (flow_net tables.now) named.now entry.now.lan entry.now.forwarder }
+fn is_fed(rows: &FlowRows<'_>, named: &Named<'_>, entry: &Reached) -> bool
+    ensures { result ≡ is_fed (net_in rows.now) named.now entry.now.lan entry.now.forwarder }
 {
     match entry.forwarder {
         Some((router, vif)) => {
-            let placed = match tables.placed(router, vif) {
+            let placed = match rows.view().placed(router, vif) {
                 Some(lan) => lan.0 == entry.lan.0,
                 None => false,
             };
-            row_feeds(tables, named, router, vif) && placed
+            row_feeds(rows, named, router, vif) && placed
         }
         None => true,
     }
 }
 
 /// The first entry that isn't fed.
-pub(crate) fn fed_reason(tables: &FlowTables<'_>, named: &Named<'_>) -> Option<Reason>
+pub(crate) fn fed_reason(rows: &FlowRows<'_>, named: &Named<'_>) -> Option<Reason>
     ensures { reason_seen result ≡ first_of (λ entry.
-        unless (is_fed (flow_net tables.now) named.now entry.lan entry.forwarder) (Unfed entry.lan))
+        unless (is_fed (net_in rows.now) named.now entry.lan entry.forwarder) (Unfed entry.lan))
         named.now }
 {
     for entry in named.entries() {
-        if !is_fed(tables, named, entry) {
+        if !is_fed(rows, named, entry) {
             return Some(Reason::Unfed(entry.lan));
         }
     }

@@ -6,7 +6,6 @@
 mod check;
 mod fed;
 mod firsts;
-mod flow_tables;
 mod routers;
 mod served;
 mod shown;

@@ -5,14 +5,13 @@ ghost use Rattle.mc_theory.specs.Lists.{below};
 ghost use Rattle.mc_theory.specs.Reasons.{child_reason, entry_on, first_of, pair_reason};
 ghost use Rattle.mc_theory.specs.Reasons.{row_reason, wild_at};
 ghost use Rattle.mc_forward.specs.Domains.{pairs_of};
-ghost use Rattle.mc_check.specs.FlowNet.{flow_net};
+ghost use Rattle.mc_forward.specs.Journeys.{net_in};
 ghost use Rattle.mc_check.specs.Reasons.{reason_seen};
 
 use crate::firsts::Named;
-use crate::flow_tables::FlowTables;
 use crate::verdict::Reason;
 use mc_cert::Reached;
-use mc_forward::RowFor;
+use mc_forward::{FlowRows, FlowView, RowFor};
 use mc_tables::Oif;
 use mc_topology::{LanNo, RouterNo};
 
@@ -50,19 +49,19 @@ fn child_reason(
 
 /// What is wrong with a pair of a router that takes from `base`'s LAN.
 fn pair_reason(
-    tables: &FlowTables<'_>,
+    view: &FlowView<'_>,
     named: &Named<'_>,
     base: &Reached,
     router: RouterNo,
     oif: &Oif,
 ) -> Option<Reason>
-    ensures { reason_seen result ≡ pair_reason (flow_net tables.now) named.now base.now router
+    ensures { reason_seen result ≡ pair_reason (net_in view.now) named.now base.now router
         (oif.now.vif, oif.now.threshold) }
 {
     if u16::from(base.rank) + u16::from(oif.threshold) >= 255 {
         return None;
     }
-    match tables.placed(router, oif.vif) {
+    match view.placed(router, oif.vif) {
         Some(lan) => child_reason(named, base, router, oif, lan),
         None => Some(Reason::Stray(router, oif.vif)),
     }
@@ -70,18 +69,18 @@ fn pair_reason(
 
 /// What is wrong with the pairs of a router that takes from `base`'s LAN, the first.
 fn pairs_reason(
-    tables: &FlowTables<'_>,
+    view: &FlowView<'_>,
     named: &Named<'_>,
     base: &Reached,
     router: RouterNo,
     oifs: &[Oif],
 ) -> Option<Reason>
     ensures { reason_seen result
-        ≡ first_of (pair_reason (flow_net tables.now) named.now base.now router)
+        ≡ first_of (pair_reason (net_in view.now) named.now base.now router)
         (pairs_of oifs.now) }
 {
     for oif in oifs {
-        if let Some(reason) = pair_reason(tables, named, base, router, oif) {
+        if let Some(reason) = pair_reason(view, named, base, router, oif) {
             return Some(reason);
         }
     }
@@ -89,12 +88,12 @@ fn pairs_reason(
 }
 
 /// The lowest vif on a named LAN of a router whose row is open.
-fn wildcard_reason(tables: &FlowTables<'_>, named: &Named<'_>, router: RouterNo) -> Option<Reason>
-    ensures { reason_seen result ≡ first_of (wild_at (flow_net tables.now) named.now router)
+fn wildcard_reason(view: &FlowView<'_>, named: &Named<'_>, router: RouterNo) -> Option<Reason>
+    ensures { reason_seen result ≡ first_of (wild_at (net_in view.now) named.now router)
         (below 32) }
 {
     for vif in 0..32u8 {
-        if named.at(tables.placed(router, vif)).is_some() {
+        if named.at(view.placed(router, vif)).is_some() {
             return Some(Reason::Wildcard(router, vif));
         }
     }
@@ -102,28 +101,29 @@ fn wildcard_reason(tables: &FlowTables<'_>, named: &Named<'_>, router: RouterNo)
 }
 
 /// What is wrong with a router.
-fn router_reason(tables: &FlowTables<'_>, named: &Named<'_>, router: RouterNo) -> Option<Reason>
-    ensures { reason_seen result ≡ row_reason (flow_net tables.now) named.now router
-        ((flow_net tables.now).row router) }
+fn router_reason(rows: &FlowRows<'_>, named: &Named<'_>, router: RouterNo) -> Option<Reason>
+    ensures { reason_seen result ≡ row_reason (net_in rows.now) named.now router
+        ((net_in rows.now).row router) }
 {
-    match tables.row(router) {
-        RowFor::Exact(entry) => match named.at(tables.placed(router, entry.iif)) {
-            Some(base) => pairs_reason(tables, named, &base, router, entry.oifs.as_slice()),
+    let view = rows.view();
+    match rows.row(router) {
+        RowFor::Exact(entry) => match named.at(view.placed(router, entry.iif)) {
+            Some(base) => pairs_reason(view, named, &base, router, entry.oifs.as_slice()),
             None => None,
         },
-        RowFor::Open => wildcard_reason(tables, named, router),
+        RowFor::Open => wildcard_reason(view, named, router),
         RowFor::NoRow => None,
     }
 }
 
 /// What is wrong with the routers, the first.
-pub(crate) fn routers_reason(tables: &FlowTables<'_>, named: &Named<'_>) -> Option<Reason>
+pub(crate) fn routers_reason(rows: &FlowRows<'_>, named: &Named<'_>) -> Option<Reason>
     ensures { reason_seen result ≡ first_of (λ router.
-        row_reason (flow_net tables.now) named.now router ((flow_net tables.now).row router))
-        (below (flow_net tables.now).routers) }
+        row_reason (net_in rows.now) named.now router ((net_in rows.now).row router))
+        (below (net_in rows.now).routers) }
 {
-    for number in 0..tables.routers() {
-        if let Some(reason) = router_reason(tables, named, RouterNo(number)) {
+    for number in 0..rows.view().routers() {
+        if let Some(reason) = router_reason(rows, named, RouterNo(number)) {
             return Some(reason);
         }
     }

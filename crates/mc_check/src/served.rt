@@ -5,13 +5,13 @@ ghost use Rattle.std.specs.List.{list_all};
 ghost use Rattle.mc_theory.specs.Lists.{below};
 ghost use Rattle.mc_theory.specs.Reasons.{entry_on, first_of, has_source};
 ghost use Rattle.mc_theory.specs.Reasons.{is_source_entry, lan_reason};
-ghost use Rattle.mc_check.specs.FlowNet.{flow_net};
+ghost use Rattle.mc_forward.specs.Journeys.{net_in};
 ghost use Rattle.mc_check.specs.Reasons.{reason_seen};
 
 use crate::firsts::Named;
-use crate::flow_tables::FlowTables;
 use crate::verdict::Reason;
 use mc_cert::Reached;
+use mc_forward::FlowView;
 use mc_topology::LanNo;
 
 /// Whether a LAN has the source's entry: rank 0, need 1, no forwarder.
@@ -38,35 +38,35 @@ fn others_are_forwarded(entries: &[Reached], lan: LanNo) -> bool
 }
 
 /// Whether the source's LAN has the source's entry, and every other entry a forwarder.
-pub(crate) fn has_source(tables: &FlowTables<'_>, named: &Named<'_>) -> bool
-    ensures { result ≡ has_source (flow_net tables.now) named.now }
+pub(crate) fn has_source(view: &FlowView<'_>, named: &Named<'_>) -> bool
+    ensures { result ≡ has_source (net_in view.now) named.now }
 {
-    let source = tables.source();
+    let source = view.source();
     is_source_entry(named, source) && others_are_forwarded(named.entries(), source)
 }
 
 /// Whether a LAN that wants the flow goes without it.
-fn lan_reason(tables: &FlowTables<'_>, named: &Named<'_>, lan: LanNo) -> Option<Reason>
-    requires { lan < length tables.now.domain.now.topology.lans }
-    ensures { reason_seen result ≡ lan_reason (flow_net tables.now) named.now lan }
+fn lan_reason(view: &FlowView<'_>, named: &Named<'_>, lan: LanNo) -> Option<Reason>
+    requires { lan < length view.now.domain.topology.lans }
+    ensures { reason_seen result ≡ lan_reason (net_in view.now) named.now lan }
 {
-    if !tables.wants(lan) {
+    if !view.wants(lan) {
         return None;
     }
     match named.on(lan) {
-        Some(entry) if entry.need > tables.ttl() => Some(Reason::Low(lan)),
+        Some(entry) if entry.need > view.ttl() => Some(Reason::Low(lan)),
         Some(_) => None,
         None => Some(Reason::Missed(lan)),
     }
 }
 
 /// The first LAN that wants the flow and goes without it.
-pub(crate) fn lans_reason(tables: &FlowTables<'_>, named: &Named<'_>) -> Option<Reason>
-    ensures { reason_seen result ≡ first_of (lan_reason (flow_net tables.now) named.now)
-        (below (length tables.now.domain.now.topology.lans)) }
+pub(crate) fn lans_reason(view: &FlowView<'_>, named: &Named<'_>) -> Option<Reason>
+    ensures { reason_seen result ≡ first_of (lan_reason (net_in view.now) named.now)
+        (below (length view.now.domain.topology.lans)) }
 {
-    for number in 0..tables.lans() {
-        if let Some(reason) = lan_reason(tables, named, LanNo(number)) {
+    for number in 0..view.lans() {
+        if let Some(reason) = lan_reason(view, named, LanNo(number)) {
             return Some(reason);
         }
     }

@@ -1,6 +1,6 @@
 -- The vector of first items, as it fills.
 use Rattle.std.proofs.Common.{◌≡◌, ◌≢◌, ℕ, zero, suc, ◌<◌, Bool, true, false, cond, ◌==◌, List, []}
-use Rattle.std.proofs.Common.{◌∷◌, ◌++◌, length, Option, Some, None, is_some, replicate, refl, ap}
+use Rattle.std.proofs.Common.{◌∷◌, ◌++◌, length, Option, Some, None, replicate, refl, ap}
 use Rattle.std.proofs.Common.{sym, subst, ◌∙◌, arith}
 use Rattle.std.specs.Prelude.{slice_set, IsTrue, IsFalse, IsSome}
 use Rattle.std.proofs.lemmas.Bool.{eqb-true, eq-eqb, false≢true}

@@ -4,13 +4,11 @@ use Rattle.std.proofs.Common.{List, [], ◌∷◌, ◌++◌, map, length, remove
 use Rattle.std.proofs.Common.{Some, None, option_map, refl, ap, sym, subst, ◌∙◌, arith}
 use Rattle.std.proofs.Common.{length-append}
 use Rattle.std.proofs.lemmas.Option.{slice_get_read}
-use Rattle.mc_theory.specs.Lists.{In}
 use Rattle.mc_theory.specs.Nets.{Net, Row, Interface}
 use Rattle.mc_theory.specs.Nets.Row.{Exact, Open, NoRow}
 use Rattle.mc_theory.specs.Flights.{Copy, Waiting, Flight, put, leave, send, sends, handle_by}
 use Rattle.mc_theory.specs.Flights.{handle, without, step, waits_at, hearers}
 use Rattle.mc_theory.specs.Events.{Event, Outcome, outcome_by, event_of}
-use Rattle.mc_theory.proofs.InLists.{slice_get-in}
 use Rattle.mc_forward.specs.Journeys.{flight_of}
 
 remove-append : {A : Type 0} (xs ys : List A) (i : ℕ) → i < length xs
@@ -95,8 +93,3 @@ pub still-waits : (n : Net) (f g : Flight) (i : ℕ) (w : Waiting) → i < lengt
     → g ≡ handle n (Some w) f → i < length g.waiting
 still-waits n f g i w lt e = subst (λ (h : Flight). i < length h.waiting) (sym e)
     (late-row n w (n.row w.router) i f lt).1
-
--- an item that was read is one of the list
-pub in-read : {A : Type 0} (xs : List A) (i : ℕ) (x : A) → i < length xs → x ≡ get_or xs i x
-    → In x xs
-in-read xs i x lt read = slice_get-in xs i x (slice_get_read xs (length xs) i x refl lt read)

@@ -3,7 +3,7 @@ pub mod DomainLemmas
 pub mod EntryLemmas
 pub mod LateLemmas
 pub mod RouterLemmas
-pub mod KeptLemmas
+pub mod PastLemmas
 pub mod ListedLemmas
 pub mod EachLemmas
 pub mod PlaceLemmas

@@ -6,8 +6,7 @@ use Rattle.std.specs.Prelude.{OnOk, OnErr}
 use Rattle.mc_theory.specs.Nets.{Net, Row, IsNet, Interface, interfaces}
 use Rattle.mc_theory.specs.Nets.Row.{Exact, Open, NoRow}
 use Rattle.mc_theory.specs.Flights.{Copy, Waiting, Flight, put, leave, send, sends, handle_by}
-use Rattle.mc_theory.specs.Flights.{handle, without, step, start, waits_at, hearers, is_sender}
-use Rattle.mc_theory.specs.Flights.{first_copy}
+use Rattle.mc_theory.specs.Flights.{handle, without, step, waits_at, hearers, is_sender}
 use Rattle.mc_theory.proofs.InLists.{in-append_cases, in-map_cases, in-filter_cases, in-remove}
 use Rattle.mc_theory.proofs.Placing.{placed-interfaces}
 use Rattle.mc_forward.specs.Journeys.{AtRouters}

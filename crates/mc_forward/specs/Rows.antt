@@ -1,12 +1,12 @@
--- What a domain answers of a router's row, and the rows that a flight keeps.
-use Rattle.std.specs.Prelude.{◌≡◌, ℕ, List, length, Option, Some, None, slice_index_or}
+-- What a domain answers of a router's row, and the rows of all routers.
+use Rattle.std.specs.Prelude.{◌≡◌, ℕ, ◌<◌, List, length, Option, Some, None, slice_get}
 use Rattle.mc_tables.specs.CacheTable.{IsEntry}
 use Rattle.mc_theory.specs.Nets.{Row}
 use Rattle.mc_theory.specs.Nets.Row.{Exact as exact, Open as open_row, NoRow as no_row}
 use Rattle.mc_forward.specs.declared.row.RowFor.{RowFor}
 use Rattle.mc_forward.specs.declared.row.RowFor.TheVariants.{Exact, Open, NoRow}
 use Rattle.mc_forward.specs.Domains.{pairs_of, row_of}
-use Rattle.mc_forward.specs.Journeys.{FlowIn, IsFlowIn}
+use Rattle.mc_forward.specs.Journeys.{FlowIn}
 
 -- the row that an answer shows
 abbrev pub row_seen : RowFor → Row
@@ -20,14 +20,13 @@ EntryStands (Exact entry) = IsEntry entry.now
 EntryStands Open = Unit {0}
 EntryStands NoRow = Unit {0}
 
--- an answer is the router's row for the flow
-pub record IsRowOf (f : FlowIn) (router : ℕ) (row : RowFor) : Type 0 where
-  pub seen : row_seen row ≡ row_of f.domain f.flow router
-  pub stands : EntryStands row
+-- the row at a place, none past the end
+abbrev pub row_held : Option RowFor → Row
+row_held None = no_row
+row_held (Some row) = row_seen row
 
--- A flow of a domain, with a place for each router's row. What stands there is the router's row.
-pub record IsKept (f : FlowIn) (rows : List (Option RowFor)) : Type 0 where
-  pub flow : IsFlowIn f
-  pub count : length rows ≡ length f.domain.topology.routers
-  pub kept : (router : ℕ) (row : RowFor) → slice_index_or rows router None ≡ Some row
-      → IsRowOf f router row
+-- the rows of the first routers for a flow, in the routers' order
+pub record AreRows (f : FlowIn) (routers : ℕ) (rows : List RowFor) : Type 0 where
+  pub count : length rows ≡ routers
+  pub each : (router : ℕ) → router < routers
+      → row_held (slice_get rows router) ≡ row_of f.domain f.flow router

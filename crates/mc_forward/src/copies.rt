@@ -8,12 +8,12 @@ ghost use Rattle.mc_theory.specs.Flights.{step, without};
 ghost use Rattle.mc_theory.specs.Events.Outcome.{Sent};
 ghost use Rattle.mc_theory.specs.Events.{event_of, outcome_by, sent_onto, sent_astray};
 ghost use Rattle.mc_forward.specs.Domains.{pairs_of};
-ghost use Rattle.mc_forward.specs.Journeys.{net_in, Extends, AtRouters};
+ghost use Rattle.mc_forward.specs.Journeys.{net_in, Extends};
 ghost use Rattle.mc_forward.specs.Outcomes.{outcome_seen};
 
 use crate::copy::{Carried, Stray, WaitingCopy};
 use crate::event::{Event, Outcome};
-use crate::flow_net::FlowNet;
+use crate::flow_view::FlowView;
 use crate::row::RowFor;
 use mc_tables::Oif;
 use mc_text::Memory;
@@ -55,15 +55,15 @@ fn is_sent_by(copy: &Carried, router: RouterNo, vif: u8) -> bool
 /// A copy that its LAN carries waits at the other interfaces of the LAN.
 fn wait_at_hearers(
     waiting: &mut VecDeque<WaitingCopy>,
-    net: &FlowNet<'_>,
+    view: &FlowView<'_>,
     copy: &Carried,
 ) -> Result<(), Memory>
-    requires { copy.now.lan < length net.now.domain.topology.lans }
+    requires { copy.now.lan < length view.now.domain.topology.lans }
     ensures ok { OnOk result (waiting.new.items ≡
-        waiting.old.items ++ map (waits_at copy.now.ttl) (hearers (net_in net.now) copy.now)) }
+        waiting.old.items ++ map (waits_at copy.now.ttl) (hearers (net_in view.now) copy.now)) }
     ensures kept { take (length waiting.old.items) waiting.new.items ≡ waiting.old.items }
 {
-    for interface in net.interfaces(copy.lan) {
+    for interface in view.interfaces(copy.lan) {
         let (router, vif) = interface;
         if !is_sent_by(copy, router, vif) {
             waiting.push_back(WaitingCopy {
@@ -115,44 +115,35 @@ impl Copies {
         &self.strays
     }
 
-    /// The router at which the waiting copy with this index waits.
-    pub(crate) fn router(&self, index: usize) -> RouterNo
-        requires { index < length self.now.waiting }
-        ensures { option_map (λ w. w.router) (slice_get self.now.waiting index) ≡ Some result }
-    {
-        self.waiting[index].router
-    }
-
     /// A copy is put on its LAN.
-    pub(crate) fn put(&mut self, net: &FlowNet<'_>, copy: &Carried) -> Result<(), Memory>
-        requires { copy.now.lan < length net.now.domain.topology.lans }
-        ensures ok { OnOk result (self.new ≡ put (net_in net.now) copy.now self.old) }
+    pub(crate) fn put(&mut self, view: &FlowView<'_>, copy: &Carried) -> Result<(), Memory>
+        requires { copy.now.lan < length view.now.domain.topology.lans }
+        ensures ok { OnOk result (self.new ≡ put (net_in view.now) copy.now self.old) }
         ensures kept { Extends self.old self.new }
     {
         self.carried.push(*copy)?;
-        wait_at_hearers(&mut self.waiting, net, copy)
+        wait_at_hearers(&mut self.waiting, view, copy)
     }
 
     /// A router sends by a vif, for a copy that came with one more time to live. Whether that puts
     /// one on a LAN.
-    fn send(&mut self, net: &FlowNet<'_>, taken: &WaitingCopy, vif: u8) -> Result<bool, Memory>
-        requires ttl { 0 < taken.now.ttl }
-        requires router { taken.now.router < length net.now.domain.topology.routers }
-        ensures ok { OnOk result (self.new ≡ leave (net_in net.now) (taken.now.ttl - 1)
-            (taken.now.router, vif) ((net_in net.now).placed taken.now.router vif) self.old) }
+    fn send(&mut self, view: &FlowView<'_>, taken: &WaitingCopy, vif: u8) -> Result<bool, Memory>
+        requires { 0 < taken.now.ttl }
+        ensures ok { OnOk result (self.new ≡ leave (net_in view.now) (taken.now.ttl - 1)
+            (taken.now.router, vif) ((net_in view.now).placed taken.now.router vif) self.old) }
         ensures onto { IfOk result (λ onto.
-            onto ≡ is_some ((net_in net.now).placed taken.now.router vif)) }
+            onto ≡ is_some ((net_in view.now).placed taken.now.router vif)) }
         ensures kept { Extends self.old self.new }
     {
         let router = taken.router;
-        match net.placed(router, vif) {
+        match view.placed(router, vif) {
             Some(lan) => {
                 let copy = Carried {
                     lan,
                     ttl: taken.ttl - 1,
                     sender: Some((router, vif)),
                 };
-                self.put(net, &copy)?;
+                self.put(view, &copy)?;
                 Ok(true)
             }
             None => {
@@ -165,24 +156,23 @@ impl Copies {
     /// A router sends by each outgoing vif whose threshold the time to live exceeds.
     fn send_all(
         &mut self,
-        net: &FlowNet<'_>,
+        view: &FlowView<'_>,
         taken: &WaitingCopy,
         oifs: &[Oif],
     ) -> Result<Outcome, Memory>
-        requires router { taken.now.router < length net.now.domain.topology.routers }
-        requires few { length oifs.now ≤ 32 }
+        requires { length oifs.now ≤ 32 }
         ensures ok { OnOk result (self.new ≡
-            sends (net_in net.now) taken.now.router taken.now.ttl (pairs_of oifs.now) self.old) }
+            sends (net_in view.now) taken.now.router taken.now.ttl (pairs_of oifs.now) self.old) }
         ensures outcome { IfOk result (λ outcome. outcome_seen outcome ≡ Sent
-            (sent_onto (net_in net.now) taken.now.router taken.now.ttl (pairs_of oifs.now))
-            (sent_astray (net_in net.now) taken.now.router taken.now.ttl (pairs_of oifs.now))) }
+            (sent_onto (net_in view.now) taken.now.router taken.now.ttl (pairs_of oifs.now))
+            (sent_astray (net_in view.now) taken.now.router taken.now.ttl (pairs_of oifs.now))) }
         ensures kept { Extends self.old self.new }
     {
         let mut copies = 0;
         let mut strays = 0;
         for oif in oifs {
             if taken.ttl > oif.threshold {
-                if self.send(net, taken, oif.vif)? {
+                if self.send(view, taken, oif.vif)? {
                     copies += 1;
                 } else {
                     strays += 1;
@@ -193,17 +183,16 @@ impl Copies {
     }
 
     /// What a router does with a copy that waits at its vif. The copy still waits afterwards.
-    fn forward(&mut self, net: &FlowNet<'_>, taken: &WaitingCopy) -> Result<Outcome, Memory>
-        requires { taken.now.router < length net.now.domain.topology.routers }
-        ensures ok { OnOk result (self.new ≡ handle (net_in net.now) (Some taken.now) self.old) }
+    fn forward(&mut self, view: &FlowView<'_>, taken: &WaitingCopy) -> Result<Outcome, Memory>
+        ensures ok { OnOk result (self.new ≡ handle (net_in view.now) (Some taken.now) self.old) }
         ensures outcome { IfOk result (λ outcome. outcome_seen outcome ≡
-            outcome_by (net_in net.now) taken.now ((net_in net.now).row taken.now.router)) }
+            outcome_by (net_in view.now) taken.now ((net_in view.now).row taken.now.router)) }
         ensures kept { Extends self.old self.new }
     {
-        match net.row(taken.router) {
+        match view.row(taken.router) {
             RowFor::Exact(entry) => {
                 if entry.iif == taken.vif {
-                    self.send_all(net, taken, entry.oifs.as_slice())
+                    self.send_all(view, taken, entry.oifs.as_slice())
                 } else {
                     Ok(Outcome::OtherVif)
                 }
@@ -221,12 +210,11 @@ impl Copies {
 
     /// The waiting copy with this index is taken away and handled. All that grows does so before,
     /// so that nothing is changed where memory runs out.
-    pub(crate) fn handle(&mut self, net: &FlowNet<'_>, index: usize) -> Result<Event, Memory>
-        requires waits { index < length self.old.waiting }
-        requires routers { AtRouters (length net.now.domain.topology.routers) self.old }
-        ensures ok { OnOk result (self.new ≡ step (net_in net.now) index self.old) }
+    pub(crate) fn handle(&mut self, view: &FlowView<'_>, index: usize) -> Result<Event, Memory>
+        requires { index < length self.old.waiting }
+        ensures ok { OnOk result (self.new ≡ step (net_in view.now) index self.old) }
         ensures event { IfOk result (λ event.
-            option_map (event_of (net_in net.now)) (slice_get self.old.waiting index)
+            option_map (event_of (net_in view.now)) (slice_get self.old.waiting index)
             ≡ Some event) }
         ensures err { OnErr result (self.new ≡ self.old) }
     {
@@ -234,7 +222,7 @@ impl Copies {
         let waiting = self.waiting.len();
         let strays = self.strays.len();
         let taken = self.waiting[index];
-        match self.forward(net, &taken) {
+        match self.forward(view, &taken) {
             Ok(outcome) => {
                 take_away(&mut self.waiting, index);
                 Ok(Event {

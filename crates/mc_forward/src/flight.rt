@@ -11,7 +11,7 @@ use crate::copies::Copies;
 use crate::copy::{Carried, Stray};
 use crate::domain::Domain;
 use crate::event::Event;
-use crate::flow_net::FlowNet;
+use crate::flow_view::FlowView;
 use mc_text::Memory;
 use mc_topology::LanNo;
 use std::alloc::Global;
@@ -21,7 +21,7 @@ use std::marker::Model;
 /// caller picks. Its value in contracts is the domain, the flow's number and the flight.
 #[derive(Drop)]
 pub struct Flight<'d> {
-    net: FlowNet<'d>,
+    view: FlowView<'d>,
     copies: Copies,
 }
 
@@ -32,9 +32,9 @@ impl<'d> Model for Flight<'d> {
 
     ghost coded = { journey_code };
 
-    ghost view = { λ f. record { domain = f.net.domain; flow = f.net.flow; flight = f.copies } };
+    ghost view = { λ f. record { domain = f.view.domain; flow = f.view.flow; flight = f.copies } };
 
-    ghost invariant = { λ f. IsFlight f.net f.copies };
+    ghost invariant = { λ f. IsFlight f.view f.copies };
 }
 
 /// How many of the copies a LAN carried, 4,294,967,295 where there are more.
@@ -70,15 +70,15 @@ impl<'d> Flight<'d> {
           flight = start (net_of domain.now flow) ttl;
         }) }
     {
-        let net = FlowNet::new(alloc, domain, flow)?;
+        let view = FlowView::new(domain, flow);
         let mut copies = Copies::new(alloc);
         let first = Carried {
-            lan: net.source(),
+            lan: view.source(),
             ttl,
             sender: None,
         };
-        copies.put(&net, &first)?;
-        Ok(Flight { net, copies })
+        copies.put(&view, &first)?;
+        Ok(Flight { view, copies })
     }
 
     /// How many copies wait.
@@ -127,8 +127,7 @@ impl<'d> Flight<'d> {
             (slice_get self.old.flight.waiting index) ≡ Some event) }
         ensures err { OnErr result (self.new ≡ self.old) }
     {
-        self.net.look_up(self.copies.router(index));
-        self.copies.handle(&self.net, index)
+        self.copies.handle(&self.view, index)
     }
 
     /// The waiting copy with this index is lost: no router handles it. Nothing else changes.

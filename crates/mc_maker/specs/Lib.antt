@@ -1,7 +1,6 @@
 pub mod Examined
 pub mod Making
 pub mod ByLan
-pub mod FlowNet
 pub use Rattle.mc_theory.specs.Nets
 pub use Rattle.mc_theory.specs.Flights
 pub use Rattle.mc_theory.specs.Certificates

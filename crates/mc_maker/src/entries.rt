@@ -5,11 +5,10 @@ ghost use Rattle.std.specs.Prelude.{◌≡◌, ◌<◌, ◌≤◌, All, IfOk, If
 ghost use Rattle.mc_theory.specs.Made.{entries_of, need_over, threshold_of};
 ghost use Rattle.mc_forward.specs.Domains.{pairs_of};
 ghost use Rattle.mc_maker.specs.ByLan.{IsByLan, entry_by, entry_held, held_entries, need_held};
-ghost use Rattle.mc_maker.specs.FlowNet.{flow_net};
+ghost use Rattle.mc_forward.specs.Journeys.{net_in};
 
-use crate::followed::Followed;
 use mc_cert::Reached;
-use mc_forward::{Carried, PerLan, RowFor};
+use mc_forward::{Carried, FlowView, PerLan, RowFor};
 use mc_tables::Oif;
 use mc_text::Memory;
 use mc_topology::{LanNo, RouterNo};
@@ -50,62 +49,52 @@ fn need_over(threshold: u8, base: Option<Reached>) -> u8
 }
 
 /// The least TTL with which packets are sent by a router's vif.
-fn need_by(followed: &Followed<'_>, by_lan: &PerLan<Reached>, router: RouterNo, vif: u8) -> u8
-    requires router { router < length followed.now.domain.now.topology.routers }
-    requires small { need_held (flow_net followed.now) by_lan.now (Some (router, vif)) ≤ 255 }
-    ensures { result ≡ need_held (flow_net followed.now) by_lan.now (Some (router, vif)) }
+fn need_by(view: &FlowView<'_>, by_lan: &PerLan<Reached>, router: RouterNo, vif: u8) -> u8
+    requires { need_held (net_in view.now) by_lan.now (Some (router, vif)) ≤ 255 }
+    ensures { result ≡ need_held (net_in view.now) by_lan.now (Some (router, vif)) }
 {
-    match followed.row(router) {
+    match view.row(router) {
         RowFor::Exact(entry) => {
             let threshold = threshold_of(vif, entry.oifs.as_slice());
-            need_over(
-                threshold,
-                entry_at(by_lan, followed.placed(router, entry.iif)),
-            )
+            need_over(threshold, entry_at(by_lan, view.placed(router, entry.iif)))
         }
         RowFor::Open | RowFor::NoRow => 1,
     }
 }
 
 /// The least TTL with which packets reach the LAN of a copy with this sender, 1 for the source's.
-fn need_of(followed: &Followed<'_>, by_lan: &PerLan<Reached>, sender: Option<(RouterNo, u8)>) -> u8
-    requires router { IfSome sender (λ i.
-        i.0 < length followed.now.domain.now.topology.routers) }
-    requires small { need_held (flow_net followed.now) by_lan.now sender ≤ 255 }
-    ensures { result ≡ need_held (flow_net followed.now) by_lan.now sender }
+fn need_of(view: &FlowView<'_>, by_lan: &PerLan<Reached>, sender: Option<(RouterNo, u8)>) -> u8
+    requires { need_held (net_in view.now) by_lan.now sender ≤ 255 }
+    ensures { result ≡ need_held (net_in view.now) by_lan.now sender }
 {
     match sender {
-        Some((router, vif)) => need_by(followed, by_lan, router, vif),
+        Some((router, vif)) => need_by(view, by_lan, router, vif),
         None => 1,
     }
 }
 
 /// The entry of a copy, after those of the earlier ones.
-fn entry_of(followed: &Followed<'_>, by_lan: &PerLan<Reached>, copy: &Carried) -> Reached
-    requires router { IfSome copy.now.sender (λ i.
-        i.0 < length followed.now.domain.now.topology.routers) }
-    requires small { need_held (flow_net followed.now) by_lan.now copy.now.sender ≤ 255 }
-    ensures { result ≡ entry_by (flow_net followed.now) by_lan.now copy.now }
+fn entry_of(view: &FlowView<'_>, by_lan: &PerLan<Reached>, copy: &Carried) -> Reached
+    requires { need_held (net_in view.now) by_lan.now copy.now.sender ≤ 255 }
+    ensures { result ≡ entry_by (net_in view.now) by_lan.now copy.now }
 {
     Reached {
         lan: copy.lan,
         rank: 255 - copy.ttl,
-        need: need_of(followed, by_lan, copy.sender),
+        need: need_of(view, by_lan, copy.sender),
         forwarder: copy.sender,
     }
 }
 
 /// Puts the entry of each copy on its LAN, unless an earlier one is there.
-fn put_entries(followed: &Followed<'_>, by_lan: &mut PerLan<Reached>, copies: &[Carried])
+fn put_entries(view: &FlowView<'_>, by_lan: &mut PerLan<Reached>, copies: &[Carried])
     requires empty { IsByLan by_lan.old [] }
     requires lans { All (λ c. c.lan < length by_lan.old) copies.now }
-    requires senders { All (λ c. IfSome c.sender (λ i.
-        i.0 < length followed.now.domain.now.topology.routers)) copies.now }
-    requires needs { All (λ e. e.need ≤ 255) (entries_of (flow_net followed.now) copies.now) }
-    ensures { IsByLan by_lan.new (entries_of (flow_net followed.now) copies.now) }
+    requires needs { All (λ e. e.need ≤ 255) (entries_of (net_in view.now) copies.now) }
+    ensures { IsByLan by_lan.new (entries_of (net_in view.now) copies.now) }
 {
     for copy in copies {
-        let entry = entry_of(followed, by_lan, copy);
+        let entry = entry_of(view, by_lan, copy);
         let _free = by_lan.put_first(entry.lan, entry);
     }
 }
@@ -113,18 +102,16 @@ fn put_entries(followed: &Followed<'_>, by_lan: &mut PerLan<Reached>, copies: &[
 /// The entries of the copies that a travel at TTL 255 carried, each on its LAN.
 pub(crate) fn entries_by_lan(
     alloc: Global,
-    followed: &Followed<'_>,
+    view: &FlowView<'_>,
     copies: &[Carried],
 ) -> Result<PerLan<Reached>, Memory>
-    requires lans { All (λ c. c.lan < length followed.now.domain.now.topology.lans) copies.now }
-    requires senders { All (λ c. IfSome c.sender (λ i.
-        i.0 < length followed.now.domain.now.topology.routers)) copies.now }
-    requires needs { All (λ e. e.need ≤ 255) (entries_of (flow_net followed.now) copies.now) }
+    requires lans { All (λ c. c.lan < length view.now.domain.topology.lans) copies.now }
+    requires needs { All (λ e. e.need ≤ 255) (entries_of (net_in view.now) copies.now) }
     ensures { IfOk result (λ by_lan.
-        IsByLan by_lan (entries_of (flow_net followed.now) copies.now)) }
+        IsByLan by_lan (entries_of (net_in view.now) copies.now)) }
 {
-    let mut by_lan = PerLan::new(alloc, followed.lans())?;
-    put_entries(followed, &mut by_lan, copies);
+    let mut by_lan = PerLan::new(alloc, view.lans())?;
+    put_entries(view, &mut by_lan, copies);
     Ok(by_lan)
 }
 

@@ -12,10 +12,9 @@ ghost use Rattle.mc_maker.specs.Examined.{IsOfTravel, IsTravelOfFirst, IsTtlOfFa
 ghost use Rattle.mc_maker.specs.Making.{AreClean};
 
 use crate::entries::{entries_by_lan, listed};
-use crate::followed::Followed;
 use crate::served::serves_all;
 use mc_cert::Reached;
-use mc_forward::{Carried, Domain};
+use mc_forward::{Carried, Domain, FlowView};
 use mc_replay::{Finding, First, Travel, replay, replay_to_end};
 use mc_text::Memory;
 use std::alloc::Global;
@@ -57,9 +56,9 @@ fn certificate_of(
     ensures none { IfOk result (λ made. IfNone made ((travel : Travel) →
         IsTravelOfFirst domain.now flow (ttl_of domain.now flow) travel → FindsFault travel)) }
 {
-    let followed = Followed::new(domain, flow);
-    let by_lan = entries_by_lan(alloc, &followed, copies)?;
-    if !serves_all(&followed, &by_lan) {
+    let view = FlowView::new(domain, flow);
+    let by_lan = entries_by_lan(alloc, &view, copies)?;
+    if !serves_all(&view, &by_lan) {
         return Ok(None);
     }
     let entries = listed(alloc, &by_lan)?;

@@ -4,7 +4,6 @@
 
 mod entries;
 mod examination;
-mod followed;
 mod served;
 
 pub use examination::{Examined, examine, make};

@@ -1,7 +1,6 @@
 pub mod FindingValues
 pub mod Travels
 pub mod TravelText
-pub mod FlowNet
 pub use Rattle.mc_theory.specs.Nets
 pub use Rattle.mc_theory.specs.Flights
 pub use Rattle.mc_theory.specs.Events

@@ -6,34 +6,29 @@ ghost use Rattle.mc_theory.specs.Flights.{Copy};
 ghost use Rattle.mc_theory.specs.Findings.{double, finding, meets, missed};
 ghost use Rattle.mc_forward.specs.PerLan.{IsFirstBy};
 ghost use Rattle.mc_replay.specs.FindingValues.{finding_seen};
-ghost use Rattle.mc_replay.specs.FlowNet.{flow_net};
+ghost use Rattle.mc_forward.specs.Journeys.{net_in};
 
 use crate::finding::Finding;
 use crate::firsts::sender_on;
-use crate::followed::Followed;
-use mc_forward::{Carried, Flight, PerLan};
+use mc_forward::{Carried, Flight, FlowView, PerLan};
 use mc_topology::LanNo;
 
 /// Whether the walk back from a copy, over the first copies of the LANs that each was taken from,
 /// comes by the copy's own LAN. The walk ends at the source's copy, before it has gone over as many
 /// LANs as there are copies.
 fn comes_by_its_lan(
-    followed: &Followed<'_>,
+    view: &FlowView<'_>,
     copies: &[Carried],
     firsts: &PerLan<Carried>,
     copy: &Carried,
 ) -> bool
-    requires firsts { IsFirstBy (λ c. c.lan) firsts.now copies.now }
-    requires senders { All (λ c. IfSome c.sender (λ i.
-        i.0 < length followed.now.domain.now.topology.routers)) copies.now }
-    requires sender { IfSome copy.now.sender (λ i.
-        i.0 < length followed.now.domain.now.topology.routers) }
-    ensures { result ≡ meets (flow_net followed.now) copies.now copy.now.lan (length copies.now)
+    requires { IsFirstBy (λ c. c.lan) firsts.now copies.now }
+    ensures { result ≡ meets (net_in view.now) copies.now copy.now.lan (length copies.now)
         copy.now.sender }
 {
     let mut sender = copy.sender;
     for _step in copies {
-        let Some(lan) = followed.from_lan(sender) else {
+        let Some(lan) = view.from_lan(sender) else {
             return false;
         };
         if lan == copy.lan {
@@ -45,14 +40,14 @@ fn comes_by_its_lan(
 }
 
 /// The lowest LAN that wants the flow and carried no copy.
-fn missed(followed: &Followed<'_>, firsts: &PerLan<Carried>) -> Option<LanNo>
+fn missed(view: &FlowView<'_>, firsts: &PerLan<Carried>) -> Option<LanNo>
     ensures { (copies : List Copy) → IsFirstBy (λ c. c.lan) firsts.now copies → result ≡
-        missed (flow_net followed.now) copies
-        (below (length followed.now.domain.now.topology.lans)) }
+        missed (net_in view.now) copies
+        (below (length view.now.domain.topology.lans)) }
 {
-    for number in 0..followed.lans() {
+    for number in 0..view.lans() {
         let lan = LanNo(number);
-        if followed.wants(lan) && firsts.on(lan).is_none() {
+        if view.wants(lan) && firsts.on(lan).is_none() {
             return Some(lan);
         }
     }
@@ -62,19 +57,18 @@ fn missed(followed: &Followed<'_>, firsts: &PerLan<Carried>) -> Option<LanNo>
 /// The finding of a flight whose copies' firsts are these, and whose first second copy is this;
 /// none if the flight goes on.
 pub(crate) fn finding_of(
-    followed: &Followed<'_>,
+    view: &FlowView<'_>,
     flight: &Flight<'_>,
     firsts: &PerLan<Carried>,
     second: Option<Carried>,
 ) -> Option<Finding>
-    requires domain { flight.now.domain ≡ followed.now.domain.now }
     requires firsts { IsFirstBy (λ c. c.lan) firsts.now flight.now.flight.carried }
     requires second { second ≡ double [] flight.now.flight.carried }
-    ensures { finding_seen result ≡ finding (flow_net followed.now)
-        (length followed.now.domain.now.topology.lans) flight.now.flight }
+    ensures { finding_seen result ≡ finding (net_in view.now)
+        (length view.now.domain.topology.lans) flight.now.flight }
 {
     if let Some(copy) = second {
-        if comes_by_its_lan(followed, flight.copies(), firsts, &copy) {
+        if comes_by_its_lan(view, flight.copies(), firsts, &copy) {
             return Some(Finding::Loop(copy.lan));
         }
         return Some(Finding::Duplicate(copy.lan));
@@ -85,7 +79,7 @@ pub(crate) fn finding_of(
     if flight.waiting() > 0 {
         return None;
     }
-    match missed(followed, firsts) {
+    match missed(view, firsts) {
         Some(lan) => Some(Finding::Missed(lan)),
         None => Some(Finding::Clean),
     }

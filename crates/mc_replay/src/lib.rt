@@ -4,7 +4,6 @@
 
 mod finding;
 mod firsts;
-mod followed;
 mod found;
 mod picker;
 mod shown;

@@ -12,10 +12,9 @@ ghost use Rattle.mc_replay.specs.Travels.{replay_of};
 
 use crate::finding::Finding;
 use crate::firsts::take_in;
-use crate::followed::Followed;
 use crate::found::finding_of;
 use crate::picker::Picker;
-use mc_forward::{Carried, Domain, Event, Flight, PerLan};
+use mc_forward::{Carried, Domain, Event, Flight, FlowView, PerLan};
 use mc_text::Memory;
 use std::alloc::Global;
 
@@ -42,34 +41,34 @@ pub struct Ended<'d> {
 /// something, and tells what that shows. The handlings go into `events`, and the first copy of each
 /// LAN into `firsts`.
 fn travel_on<'d, P: Picker>(
-    followed: &Followed<'d>,
+    view: &FlowView<'d>,
     flight: &mut Flight<'d>,
     firsts: &mut PerLan<Carried>,
     events: &mut Vec<Event>,
     picker: &mut P,
 ) -> Result<Finding, Memory>
-    requires domain { flight.old.domain ≡ followed.now.domain.now }
-    requires flow { flight.old.flow ≡ followed.now.flow }
+    requires domain { flight.old.domain ≡ view.now.domain }
+    requires flow { flight.old.flow ≡ view.now.flow }
     requires start { (ttl : ℕ) × (flight.old.flight
-        ≡ start (net_of followed.now.domain.now followed.now.flow) ttl) }
-    requires count { length firsts.old ≡ length followed.now.domain.now.topology.lans }
+        ≡ start (net_of view.now.domain view.now.flow) ttl) }
+    requires count { length firsts.old ≡ length view.now.domain.topology.lans }
     requires firsts { IsFirstBy (λ c. c.lan) firsts.old [] }
     requires events { events.old.items ≡ [] }
-    ensures domain { IfOk result (λ _. flight.new.domain ≡ followed.now.domain.now) }
-    ensures flow { IfOk result (λ _. flight.new.flow ≡ followed.now.flow) }
+    ensures domain { IfOk result (λ _. flight.new.domain ≡ view.now.domain) }
+    ensures flow { IfOk result (λ _. flight.new.flow ≡ view.now.flow) }
     ensures run { IfOk result (λ finding. Goes
-        (net_of followed.now.domain.now followed.now.flow)
-        (length followed.now.domain.now.topology.lans) (P.choices picker.old) flight.old.flight
+        (net_of view.now.domain view.now.flow)
+        (length view.now.domain.topology.lans) (P.choices picker.old) flight.old.flight
         events.new.items flight.new.flight (finding_value finding)) }
     ensures short { IfOk result (λ _. length events.new.items
-        ≤ length (placed_vifs (net_of followed.now.domain.now followed.now.flow))) }
+        ≤ length (placed_vifs (net_of view.now.domain view.now.flow))) }
 {
     let mut seen = 0;
     'travel: loop {
         let copies = flight.copies();
         let second = take_in(firsts, copies, seen);
         seen = copies.len();
-        if let Some(finding) = finding_of(followed, flight, firsts, second) {
+        if let Some(finding) = finding_of(view, flight, firsts, second) {
             return Ok(finding);
         }
         let pick = picker.pick(flight.waiting());
@@ -103,11 +102,11 @@ pub fn replay_to_end<'d, P: Picker>(
     ensures short { IfOk result (λ ended. HasShortTravel
         (replay_of domain.now flow ttl (P.choices picker.old)) ended.travel) }
 {
-    let followed = Followed::new(domain, flow);
-    let mut firsts = PerLan::new(alloc, followed.lans())?;
+    let view = FlowView::new(domain, flow);
+    let mut firsts = PerLan::new(alloc, view.lans())?;
     let mut flight = Flight::start(alloc, domain, flow, ttl)?;
     let mut events = Vec::new(alloc);
-    let finding = travel_on(&followed, &mut flight, &mut firsts, &mut events, picker)?;
+    let finding = travel_on(&view, &mut flight, &mut firsts, &mut events, picker)?;
     let travel = Travel { events, finding };
     Ok(Ended { travel, flight })
 }

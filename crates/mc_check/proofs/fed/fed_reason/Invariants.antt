@@ -2,12 +2,12 @@ use Rattle.std.proofs.Common.{◌≡◌, drop}
 use Rattle.mc_theory.specs.Certificates.{Entry}
 use Rattle.mc_theory.specs.Reasons.{first_of, is_fed, unless}
 use Rattle.mc_theory.specs.Reasons.Reason.{Unfed}
-use Rattle.mc_check.specs.FlowNet.{flow_net}
+use Rattle.mc_forward.specs.Journeys.{net_in}
 use Rattle.mc_check.proofs.fed.fed_reason.Given as goal
 
 abbrev pub invariant-loop-entry : goal.invariant-loop-entry
 invariant-loop-entry l =
-    first_of (λ (e : Entry). unless (is_fed (flow_net l.fn.tables) l.fn.named e.lan e.forwarder)
+    first_of (λ (e : Entry). unless (is_fed (net_in l.fn.rows) l.fn.named e.lan e.forwarder)
     (Unfed e.lan)) (drop l.entry-index l.entry-items)
-    ≡ first_of (λ (e : Entry). unless (is_fed (flow_net l.fn.tables) l.fn.named e.lan e.forwarder)
+    ≡ first_of (λ (e : Entry). unless (is_fed (net_in l.fn.rows) l.fn.named e.lan e.forwarder)
     (Unfed e.lan)) l.fn.named

@@ -7,6 +7,6 @@ abbrev pub invariant-loop-interface : goal.invariant-loop-interface
 invariant-loop-interface l = record {
   rest : l.waiting.items ++ map (waits_at l.fn.copy.ttl)
       (filter (λ i. not (is_sender l.fn.copy.sender i)) l.interface-iterator)
-      ≡ l.fn.waiting.items ++ map (waits_at l.fn.copy.ttl) (hearers (net_in l.fn.net) l.fn.copy);
+      ≡ l.fn.waiting.items ++ map (waits_at l.fn.copy.ttl) (hearers (net_in l.fn.view) l.fn.copy);
   kept : take (length l.fn.waiting.items) l.waiting.items ≡ l.fn.waiting.items;
 }

@@ -2,23 +2,23 @@
 use Rattle.std.proofs.Common.{◌≡◌, ◌<◌, length, ap, sym, subst, arith}
 use Rattle.mc_theory.specs.Flights.{Copy}
 use Rattle.mc_theory.specs.Certificates.{Entry}
-use Rattle.mc_maker.specs.FlowNet.{flow_net}
+use Rattle.mc_forward.specs.Journeys.{net_in}
 use Rattle.mc_maker.proofs.FilledLemmas.{filled-start, filled-next, filled-end, need-small}
 use Rattle.mc_maker.proofs.entries.put_entries.Goals as goal
 
 pub loop-copy-init : goal.loop-copy-init
-loop-copy-init c = filled-start (flow_net c.args.followed.now) c.args.by_lan.now c.args.copies.now
+loop-copy-init c = filled-start (net_in c.args.view.now) c.args.by_lan.now c.args.copies.now
     c.requires.empty
 
 pub returns : goal.returns
 returns c =
-    filled-end (flow_net c.args.followed.now) c.loop-copy.by_lan c.args.by_lan.now c.args.copies.now
+    filled-end (net_in c.args.view.now) c.loop-copy.by_lan c.args.by_lan.now c.args.copies.now
     c.loop-copy.copy-index c.loop-copy.invariant
     (omega (arith, c.loop-copy-test.false))
 
-pub entry_of-entry-requires-clause-small : goal.entry_of-entry-requires-clause-small
-entry_of-entry-requires-clause-small c =
-    need-small (flow_net c.args.followed.now) c.loop-copy.by_lan c.args.by_lan.now c.args.copies.now
+pub entry_of-entry-requires : goal.entry_of-entry-requires
+entry_of-entry-requires c =
+    need-small (net_in c.args.view.now) c.loop-copy.by_lan c.args.by_lan.now c.args.copies.now
     c.loop-copy.copy-index c.copy-item.result c.loop-copy.invariant
     c.loop-copy-test.true c.copy-item.is c.requires.needs
 
@@ -33,7 +33,7 @@ loop-copy-preserved c =
     let within : x.lan < length c.args.by_lan.now =
     subst (λ (y : Copy). y.lan < length c.args.by_lan.now) (sym c.copy-item.is)
     (c.requires.lans k x c.loop-copy-test.true) in
-    filled-next (flow_net c.args.followed.now) c.loop-copy.by_lan c.put_first-free.new.self c.args.by_lan.now
+    filled-next (net_in c.args.view.now) c.loop-copy.by_lan c.put_first-free.new.self c.args.by_lan.now
     cs k x e c.put_first-free.result c.loop-copy.invariant c.loop-copy-test.true
     c.copy-item.is within c.entry_of-entry.ensures told.free
     told.put told.earlier told.kept

@@ -1,18 +1,18 @@
 -- One LAN after the other.
-use Rattle.std.proofs.Common.{◌≡◌, ◌+◌, ◌<◌, ◌==◌, false, length, drop, Option, Some, ap, sym}
-use Rattle.std.proofs.Common.{subst, ◌∙◌}
-use Rattle.std.specs.Prelude.{IfSome, option_and_then}
+use Rattle.std.proofs.Common.{◌≡◌, ◌+◌, ◌==◌, false, length, drop, Option, Some, ap, sym}
+use Rattle.std.proofs.Common.{◌∙◌}
+use Rattle.std.specs.Prelude.{option_and_then}
 use Rattle.mc_theory.specs.Nets.{Interface}
 use Rattle.mc_theory.specs.Flights.{Copy}
 use Rattle.mc_theory.specs.Findings.{from_lan, meets, sender_on}
-use Rattle.mc_replay.specs.FlowNet.{flow_net}
+use Rattle.mc_forward.specs.Journeys.{net_in}
 use Rattle.mc_forward.proofs.FirstLemmas.{first-copy}
-use Rattle.mc_replay.proofs.WalkLemmas.{meets-turn, one-fewer, sender-first, sender-among}
+use Rattle.mc_replay.proofs.WalkLemmas.{meets-turn, one-fewer, sender-first}
 use Rattle.mc_replay.proofs.found.comes_by_its_lan.Goals as goal
 
 pub loop-step-preserved : goal.loop-step-preserved
 loop-step-preserved c =
-    let n = flow_net c.args.followed.now in
+    let n = net_in c.args.view.now in
     let cs = c.args.copies.now in
     let l = c.args.copy.now.lan in
     let p = c.in-Some.lan in
@@ -25,14 +25,8 @@ loop-step-preserved c =
     ∙ (sym c.eq.ensures ∙ c.if-eq.false) in
     let next : c.sender_on-sender.result ≡ sender_on cs p =
     c.sender_on-sender.ensures
-    ∙ (ap (option_and_then (λ (x : Copy). x.sender)) (c.requires.firsts p ∙ first-copy cs p)
+    ∙ (ap (option_and_then (λ (x : Copy). x.sender)) (c.requires p ∙ first-copy cs p)
     ∙ sender-first cs p) in
-    record {
-      rest = ap (λ (x : Option Interface). meets n cs l k x) next
-          ∙ (sym (meets-turn n cs l k c.loop-step.sender p from other)
-          ∙ (ap (λ m. meets n cs l m c.loop-step.sender) (sym fewer) ∙ c.loop-step.invariant.rest));
-      listed = subst (λ (x : Option Interface). IfSome x
-          (λ i. i.0 < length c.args.followed.now.domain.now.topology.routers)) (sym next)
-          (sender-among (λ i. i.0 < length c.args.followed.now.domain.now.topology.routers) cs p
-          c.requires.senders);
-    }
+    ap (λ (x : Option Interface). meets n cs l k x) next
+    ∙ (sym (meets-turn n cs l k c.loop-step.sender p from other)
+    ∙ (ap (λ m. meets n cs l m c.loop-step.sender) (sym fewer) ∙ c.loop-step.invariant))

@@ -1,6 +1,6 @@
 use Rattle.std.proofs.Common.{◌≡◌, true, false, is_some, sym, ap, ◌∙◌, arith}
 use Rattle.mc_theory.specs.Findings.{copy_on}
-use Rattle.mc_replay.specs.FlowNet.{flow_net}
+use Rattle.mc_forward.specs.Journeys.{net_in}
 use Rattle.mc_forward.proofs.FirstLemmas.{first-copy}
 use Rattle.mc_replay.proofs.MissedLemmas.{missed-start, missed-unwanted, missed-there, missed-found}
 use Rattle.mc_replay.proofs.found.missed.Goals as goal
@@ -8,11 +8,11 @@ use Rattle.mc_replay.proofs.found.missed.Goals.{else-wants-via-then-wants+else-i
 use Rattle.mc_replay.proofs.found.missed.Goals.{else-wants-via-else-wants}
 
 pub loop-number-init : goal.loop-number-init
-loop-number-init c = λ copies are. missed-start (flow_net c.args.followed.now) copies
+loop-number-init c = λ copies are. missed-start (net_in c.args.view.now) copies
 
 pub returns-then-is_none : goal.returns-then-is_none
 returns-then-is_none c = λ copies are.
-    (let n = flow_net c.args.followed.now in
+    (let n = net_in c.args.view.now in
     let k = c.loop-number.number in
     let w : n.wants k ≡ true = cc in
     let none : is_some c.on.result ≡ false = grind arith in
@@ -23,7 +23,7 @@ returns-then-is_none c = λ copies are.
 
 pub loop-number-preserved : goal.loop-number-preserved
 loop-number-preserved c = λ copies are.
-    (let n = flow_net c.args.followed.now in
+    (let n = net_in c.args.view.now in
     let k = c.loop-number.number in
     elim c.else-wants.branch [
       | else-wants-via-then-wants+else-is_none w ↦ (

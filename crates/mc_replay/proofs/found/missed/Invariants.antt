@@ -3,9 +3,9 @@ use Rattle.mc_theory.specs.Lists.{below}
 use Rattle.mc_theory.specs.Flights.{Copy}
 use Rattle.mc_theory.specs.Findings.{missed}
 use Rattle.mc_forward.specs.PerLan.{IsFirstBy}
-use Rattle.mc_replay.specs.FlowNet.{flow_net}
+use Rattle.mc_forward.specs.Journeys.{net_in}
 use Rattle.mc_replay.proofs.found.missed.Given as goal
 
 abbrev pub invariant-loop-number : goal.invariant-loop-number
 invariant-loop-number l = (copies : List Copy) → IsFirstBy (λ (c : Copy). c.lan) l.fn.firsts copies
-    → missed (flow_net l.fn.followed) copies (below l.number) ≡ None
+    → missed (net_in l.fn.view) copies (below l.number) ≡ None

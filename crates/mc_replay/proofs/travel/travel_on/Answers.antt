@@ -11,31 +11,31 @@ use Rattle.mc_replay.proofs.travel.travel_on.Goals as goal
 
 pub travel-init : goal.travel-init
 travel-init g c =
-    let d = c.args.followed.now.domain.now in
+    let d = c.args.view.now.domain in
     record {
       domain = c.requires.domain;
       flow = c.requires.flow;
       looked = looked-start c.args.firsts.now _ _ c.requires.count c.requires.firsts;
-      way = way-from (net_of d c.args.followed.now.flow) (length d.topology.lans) _ _ _
+      way = way-from (net_of d c.args.view.now.flow) (length d.topology.lans) _ _ _
           c.requires.start c.requires.events;
     }
 
 pub returns-in-Some-clause-run : goal.returns-in-Some-clause-run
 returns-in-Some-clause-run g c =
-    let d = c.args.followed.now.domain.now in
-    way-end (net_of d c.args.followed.now.flow) (length d.topology.lans) _ _ _ _ _ _
+    let d = c.args.view.now.domain in
+    way-end (net_of d c.args.view.now.flow) (length d.topology.lans) _ _ _ _ _ _
     c.travel.invariant.way (sym c.in-Some.ensures)
 
 pub returns-in-Some-clause-short : goal.returns-in-Some-clause-short
 returns-in-Some-clause-short g c =
-    let d = c.args.followed.now.domain.now in
-    way-short (net_of d c.args.followed.now.flow) (length d.topology.lans) _ _ _ _ _
+    let d = c.args.view.now.domain in
+    way-short (net_of d c.args.view.now.flow) (length d.topology.lans) _ _ _ _ _
     c.travel.invariant.way
 
 pub travel-smaller : goal.travel-smaller
 travel-smaller g c =
-    let d = c.args.followed.now.domain.now in
-    let n = net_of d c.args.followed.now.flow in
+    let d = c.args.view.now.domain in
+    let n = net_of d c.args.view.now.flow in
     let f = c.travel.flight.flight in
     let none : finding n (length d.topology.lans) f ≡ None = sym c.in_default.ensures in
     let chosen = c.pick-pick.ensures.value
@@ -48,17 +48,17 @@ travel-smaller g c =
 
 pub travel-preserved : goal.travel-preserved
 travel-preserved g c =
-    let d = c.args.followed.now.domain.now in
-    let n = net_of d c.args.followed.now.flow in
+    let d = c.args.view.now.domain in
+    let n = net_of d c.args.view.now.flow in
     let f = c.travel.flight.flight in
     let none : finding n (length d.topology.lans) f ≡ None = sym c.in_default.ensures in
     let chosen = c.pick-pick.ensures.value
     ∙ ap (λ (w : ℕ). choice w (g.P.Picker.choices c.travel.picker).numbers
     (g.P.Picker.choices c.travel.picker).last) c.waiting.ensures in
     let inv = c.travel.invariant in
-    let next = flown-at d c.args.followed.now.flow c.pick-pick.result c.travel.flight
+    let next = flown-at d c.args.view.now.flow c.pick-pick.result c.travel.flight
     c.handle.new.self inv.domain inv.flow c.in_ok-handle.ensures.ok in
-    let event = seen-at d c.args.followed.now.flow c.travel.flight
+    let event = seen-at d c.args.view.now.flow c.travel.flight
     (slice_get f.waiting c.pick-pick.result) c.in_ok-handle.field-0 inv.domain inv.flow
     c.in_ok-handle.ensures.event in
     let new = c.take_in-second.new.firsts in

@@ -6,15 +6,15 @@ use Rattle.mc_replay.proofs.travel.travel_on.Given as goal
 
 abbrev pub invariant-travel : goal.invariant-travel
 invariant-travel g l = record {
-  domain : l.flight.domain ≡ l.fn.followed.domain.now;
-  flow : l.flight.flow ≡ l.fn.followed.flow;
-  looked : Looked l.firsts (length l.fn.followed.domain.now.topology.lans) l.seen
+  domain : l.flight.domain ≡ l.fn.view.domain;
+  flow : l.flight.flow ≡ l.fn.view.flow;
+  looked : Looked l.firsts (length l.fn.view.domain.topology.lans) l.seen
       l.flight.flight.carried;
-  way : IsOnItsWay (net_of l.fn.followed.domain.now l.fn.followed.flow)
-      (length l.fn.followed.domain.now.topology.lans) (g.P.Picker.choices l.fn.picker)
+  way : IsOnItsWay (net_of l.fn.view.domain l.fn.view.flow)
+      (length l.fn.view.domain.topology.lans) (g.P.Picker.choices l.fn.picker)
       l.fn.flight.flight (g.P.Picker.choices l.picker) l.flight.flight l.events.items;
 }
 
 abbrev pub decreases-travel : goal.decreases-travel
-decreases-travel g l = length (placed_vifs (net_of l.fn.followed.domain.now l.fn.followed.flow))
+decreases-travel g l = length (placed_vifs (net_of l.fn.view.domain l.fn.view.flow))
     - length l.events.items

@@ -1,24 +1,16 @@
 -- What was handled is taken away last.
 use Rattle.std.proofs.Common.{◌≡◌, ◌<◌, List, length, get_or, ap, sym, subst, ◌∙◌}
-use Rattle.mc_theory.specs.Lists.{In}
 use Rattle.mc_theory.specs.Flights.{Waiting, Flight, without}
 use Rattle.mc_forward.specs.Journeys.{net_in, flight_of}
-use Rattle.mc_forward.proofs.LateLemmas.{handled-late, event-seen, still-waits, in-read}
+use Rattle.mc_forward.proofs.LateLemmas.{handled-late, event-seen, still-waits}
 use Rattle.mc_forward.proofs.copies.Copies.handle.Goals as goal
-
-pub forward-requires : goal.forward-requires
-forward-requires c =
-    let waits = subst (λ (f : Flight). c.args.index < length f.waiting)
-    (sym c.self.view_is) c.requires.waits in
-    c.requires.routers _ (subst (λ (f : Flight). In c.index.result.now f.waiting) c.self.view_is
-    (in-read _ c.args.index _ waits c.index.ensures))
 
 pub take_away-requires : goal.take_away-requires
 take_away-requires c =
     let ok = c.in-Ok.ensures.ok in
     subst (λ (f : Flight). c.args.index < length f.waiting) (sym c.self-2.view_is)
-    (still-waits (net_in c.args.net.now) c.args.self.now c.forward.new.self c.args.index
-    c.index.result.now c.requires.waits ok)
+    (still-waits (net_in c.args.view.now) c.args.self.now c.forward.new.self c.args.index
+    c.index.result.now c.requires ok)
 
 pub returns-in-Ok-clause-ok : goal.returns-in-Ok-clause-ok
 returns-in-Ok-clause-ok c =
@@ -27,12 +19,12 @@ returns-in-Ok-clause-ok c =
     ap (λ (ws : List Waiting). flight_of c.self-2.inside.carried.items ws
     c.self-2.inside.strays.items) c.take_away.ensures
     ∙ ap (without c.args.index) c.self-2.view_is
-    ∙ handled-late (net_in c.args.net.now) c.args.self.now c.forward.new.self c.args.index
-    c.index.result.now c.requires.waits read c.in-Ok.ensures.ok
+    ∙ handled-late (net_in c.args.view.now) c.args.self.now c.forward.new.self c.args.index
+    c.index.result.now c.requires read c.in-Ok.ensures.ok
 
 pub returns-in-Ok-clause-event : goal.returns-in-Ok-clause-event
 returns-in-Ok-clause-event c =
     let read = subst (λ (f : Flight). c.index.result.now ≡ get_or f.waiting c.args.index
     c.index.result.now) c.self.view_is c.index.ensures in
-    event-seen (net_in c.args.net.now) c.args.self.now.waiting c.args.index c.index.result.now _ _
-    c.requires.waits read c.taken.view_is c.in-Ok.ensures.outcome
+    event-seen (net_in c.args.view.now) c.args.self.now.waiting c.args.index c.index.result.now _ _
+    c.requires read c.taken.view_is c.in-Ok.ensures.outcome

@@ -7,15 +7,15 @@ use Rattle.mc_forward.proofs.copies.Copies.send_all.Given as goal
 
 abbrev pub invariant-loop-oif : goal.invariant-loop-oif
 invariant-loop-oif l = record {
-  rest : sends (net_in l.fn.net) l.fn.taken.router l.fn.taken.ttl
+  rest : sends (net_in l.fn.view) l.fn.taken.router l.fn.taken.ttl
       (pairs_of (drop l.oif-index l.fn.oifs)) l.self
-      ≡ sends (net_in l.fn.net) l.fn.taken.router l.fn.taken.ttl (pairs_of l.fn.oifs) l.fn.self;
-  copies : l.copies + sent_onto (net_in l.fn.net) l.fn.taken.router l.fn.taken.ttl
+      ≡ sends (net_in l.fn.view) l.fn.taken.router l.fn.taken.ttl (pairs_of l.fn.oifs) l.fn.self;
+  copies : l.copies + sent_onto (net_in l.fn.view) l.fn.taken.router l.fn.taken.ttl
       (pairs_of (drop l.oif-index l.fn.oifs))
-      ≡ sent_onto (net_in l.fn.net) l.fn.taken.router l.fn.taken.ttl (pairs_of l.fn.oifs);
-  strays : l.strays + sent_astray (net_in l.fn.net) l.fn.taken.router l.fn.taken.ttl
+      ≡ sent_onto (net_in l.fn.view) l.fn.taken.router l.fn.taken.ttl (pairs_of l.fn.oifs);
+  strays : l.strays + sent_astray (net_in l.fn.view) l.fn.taken.router l.fn.taken.ttl
       (pairs_of (drop l.oif-index l.fn.oifs))
-      ≡ sent_astray (net_in l.fn.net) l.fn.taken.router l.fn.taken.ttl (pairs_of l.fn.oifs);
+      ≡ sent_astray (net_in l.fn.view) l.fn.taken.router l.fn.taken.ttl (pairs_of l.fn.oifs);
   few : l.copies + l.strays ≤ l.oif-index;
   kept : Extends l.fn.self l.self;
 }

@@ -8,13 +8,13 @@ use Rattle.mc_forward.proofs.flight.Flight.start.Goals as goal
 
 pub invariant_of-result : goal.invariant_of-result
 invariant_of-result c =
-    let n = c.in_ok-net.net in
+    let n = c.new-view.result in
     let routers = length n.domain.topology.routers in
     let lans = length n.domain.topology.lans in
-    let net = net-of_domain n.domain n.flow c.in_ok-net.ensures.rules.domain in
+    let net = net-of_domain n.domain n.flow c.new-view.ensures.rules.domain in
     let first : Copy = record { lan = c.source.result; ttl = c.args.ttl; sender = None } in
     record {
-      flow = c.in_ok-net.ensures.rules;
+      flow = c.new-view.ensures.rules;
       routers = subst (AtRouters routers) (sym c.in_ok-put.ensures.ok)
           (at-put (net_in n) net first c.new-copies.result
           (at-none routers c.new-copies.result c.new-copies.ensures));

@@ -1,0 +1,212 @@
+//! A domain as the packets of one flow meet it.
+
+ghost use Rattle.std.specs.Prelude.{◌≡◌, ◌<◌, IfOk, IfSome, length};
+ghost use Rattle.mc_theory.specs.Nets.{interfaces};
+ghost use Rattle.mc_theory.specs.Findings.{from_lan, taken_from};
+ghost use Rattle.mc_forward.specs.Journeys.{net_in, IsFlowIn};
+ghost use Rattle.mc_forward.specs.Rows.{row_seen, AreRows, EntryStands};
+
+use crate::domain::Domain;
+use crate::interfaces::Interfaces;
+use crate::row::RowFor;
+use mc_text::Memory;
+use mc_topology::{LanNo, RouterNo, Topology};
+use std::alloc::Global;
+use std::marker::Model;
+
+/// A flow of a domain. Its value in contracts is the domain and the flow's number.
+#[derive(Drop)]
+pub struct FlowView<'d> {
+    domain: &'d Domain,
+    flow: u32,
+}
+
+impl<'d> Model for FlowView<'d> {
+    ghost use Rattle.mc_forward.specs.Journeys.{FlowIn, IsFlowIn, flow_in_code};
+
+    ghost Value = { FlowIn };
+
+    ghost coded = { flow_in_code };
+
+    ghost view = { λ v. record { domain = v.domain.now; flow = v.flow } };
+
+    ghost invariant = { λ v. IsFlowIn (record { domain = v.domain.now; flow = v.flow }) };
+}
+
+impl<'d> FlowView<'d> {
+    /// The flow with this number.
+    pub fn new(domain: &'d Domain, flow: u32) -> FlowView<'d>
+        requires { flow < length domain.now.topology.flows }
+        ensures flow { result ≡ record { domain = domain.now; flow = flow } }
+        ensures rules { IsFlowIn result }
+    {
+        let _rules = domain.topology();
+        FlowView { domain, flow }
+    }
+
+    /// The topology of the domain.
+    pub fn topology(&self) -> &'d Topology
+        ensures topology { result.now ≡ self.now.domain.topology }
+        // What every flow of a domain keeps.
+        ensures rules { IsFlowIn self.now }
+    {
+        self.domain.topology()
+    }
+
+    /// How many routers there are.
+    pub fn routers(&self) -> u32
+        ensures count { result ≡ (net_in self.now).routers }
+        ensures rules { IsFlowIn self.now }
+    {
+        self.topology().routers()
+    }
+
+    /// How many LANs there are.
+    pub fn lans(&self) -> u32
+        ensures count { result ≡ length self.now.domain.topology.lans }
+        ensures rules { IsFlowIn self.now }
+    {
+        self.topology().lans()
+    }
+
+    /// The LAN on which the source is.
+    pub fn source(&self) -> LanNo
+        ensures lan { result ≡ (net_in self.now).source }
+        ensures listed { result < length self.now.domain.topology.lans }
+    {
+        self.topology().flow(self.flow).lan
+    }
+
+    /// The least time to live of the flow's packets.
+    pub fn ttl(&self) -> u8
+        ensures { result ≡ (net_in self.now).ttl }
+    {
+        self.topology().flow(self.flow).ttl
+    }
+
+    /// Whether a LAN wants the flow.
+    pub fn wants(&self, lan: LanNo) -> bool
+        requires { lan < length self.now.domain.topology.lans }
+        ensures { result ≡ (net_in self.now).wants lan }
+    {
+        self.domain.wants(lan, self.flow)
+    }
+
+    /// The LAN that a router's vif is placed on. None for a router that the topology hasn't.
+    pub fn placed(&self, router: RouterNo, vif: u8) -> Option<LanNo>
+        ensures lan { result ≡ (net_in self.now).placed router vif }
+        ensures listed { IfSome result (λ lan. lan < length self.now.domain.topology.lans) }
+    {
+        if router.0 < self.routers() {
+            self.domain.placed(router, vif)
+        } else {
+            None
+        }
+    }
+
+    /// What a router has for the flow. No row for a router that the topology hasn't.
+    pub fn row(&self, router: RouterNo) -> RowFor<'d>
+        ensures row { row_seen result ≡ (net_in self.now).row router }
+        ensures stands { EntryStands result }
+    {
+        if router.0 < self.routers() {
+            self.domain.entry(router, self.flow)
+        } else {
+            RowFor::NoRow
+        }
+    }
+
+    /// The interfaces of a LAN.
+    pub fn interfaces(&self, lan: LanNo) -> Interfaces<'d>
+        requires { lan < length self.now.domain.topology.lans }
+        ensures { result ≡ interfaces (net_in self.now) lan }
+    {
+        self.domain.interfaces(lan)
+    }
+
+    /// The LAN that a router's row takes the flow from.
+    fn taken_from(&self, router: RouterNo) -> Option<LanNo>
+        ensures { result ≡ taken_from (net_in self.now) router ((net_in self.now).row router) }
+    {
+        match self.row(router) {
+            RowFor::Exact(entry) => self.placed(router, entry.iif),
+            RowFor::Open | RowFor::NoRow => None,
+        }
+    }
+
+    /// The LAN that a sender took its copy from; the source took it from none.
+    pub fn from_lan(&self, sender: Option<(RouterNo, u8)>) -> Option<LanNo>
+        ensures { result ≡ from_lan (net_in self.now) sender }
+    {
+        match sender {
+            Some((router, _)) => self.taken_from(router),
+            None => None,
+        }
+    }
+
+    /// The flow with the row of each router, each looked up once.
+    ///
+    /// # Errors
+    ///
+    /// `Memory` where a growth was refused.
+    pub fn look_up_all(self, alloc: Global) -> Result<FlowRows<'d>, Memory>
+        ensures { IfOk result (λ rows. rows ≡ self.entry) }
+    {
+        let rows = rows_of(alloc, &self)?;
+        Ok(FlowRows { view: self, rows })
+    }
+}
+
+/// The row of each router for a flow.
+fn rows_of<'d>(alloc: Global, view: &FlowView<'d>) -> Result<Vec<RowFor<'d>>, Memory>
+    ensures { IfOk result (λ rows.
+        AreRows view.now (length view.now.domain.topology.routers) rows.items) }
+{
+    let mut rows = Vec::with_capacity(alloc, view.routers() as usize)?;
+    for number in 0..view.routers() {
+        rows.push(view.row(RouterNo(number)))?;
+    }
+    Ok(rows)
+}
+
+/// A flow of a domain, with the row of each router at hand. Its value in contracts is the domain
+/// and the flow's number.
+#[derive(Drop)]
+pub struct FlowRows<'d> {
+    view: FlowView<'d>,
+    rows: Vec<RowFor<'d>>,
+}
+
+impl<'d> Model for FlowRows<'d> {
+    ghost use Rattle.std.specs.Prelude.{length};
+    ghost use Rattle.mc_forward.specs.Journeys.{FlowIn, flow_in_code};
+    ghost use Rattle.mc_forward.specs.Rows.{AreRows};
+
+    ghost Value = { FlowIn };
+
+    ghost coded = { flow_in_code };
+
+    ghost view = { λ r. r.view };
+
+    ghost invariant = { λ r. AreRows r.view (length r.view.domain.topology.routers) r.rows.items };
+}
+
+impl<'d> FlowRows<'d> {
+    /// The flow.
+    pub fn view(&self) -> &FlowView<'d>
+        ensures { result.now ≡ self.now }
+    {
+        &self.view
+    }
+
+    /// What a router has for the flow. No row for a router that the topology hasn't.
+    pub fn row(&self, router: RouterNo) -> RowFor<'d>
+        ensures { row_seen result ≡ (net_in self.now).row router }
+    {
+        if router.0 < self.view.routers() {
+            self.rows[router.0 as usize]
+        } else {
+            RowFor::NoRow
+        }
+    }
+}

@@ -2,7 +2,7 @@
 use Rattle.std.proofs.Common.{◌≡◌, ℕ, suc, Bool, true, false, cond, List, [], ◌∷◌, filter, length}
 use Rattle.std.proofs.Common.{map, refl, ap}
 use Rattle.mc_theory.specs.Lists.{count_of}
-use Rattle.mc_theory.specs.Flights.{Pick, IsLossless}
+use Rattle.mc_theory.specs.Flights.{IsLossless}
 use Rattle.mc_theory.specs.Flights.Pick.{Handles}
 
 count_step : {A : Type 0} (p : A → Bool) (x : A) (xs : List A) (b : Bool) →

@@ -1,5 +1,5 @@
 -- The worked networks that keep the headline.
-use Rattle.std.proofs.Common.{◌≡◌, ℕ, ◌<◌, ◌≤◌, true, ◌||◌, ◌==◌, inl, inr, refl, arith, eqb-true}
+use Rattle.std.proofs.Common.{◌||◌, ◌==◌, inl, inr, refl, arith, eqb-true}
 use Rattle.std.proofs.lemmas.Bool.{or_cases}
 use Rattle.mc_theory.specs.Lists.{below}
 use Rattle.mc_theory.specs.Nets.{WantsBelow, IsNet}

@@ -4,7 +4,7 @@ use Rattle.std.proofs.Common.{◌∷◌, map, Some, refl, subst, eqb-true, ltb-t
 use Rattle.std.specs.Bool.{⊤}
 use Rattle.std.proofs.lemmas.Bool.{and_parts}
 use Rattle.mc_theory.specs.Lists.{Distinct}
-use Rattle.mc_theory.specs.Nets.{Net, IsNet, Row}
+use Rattle.mc_theory.specs.Nets.{IsNet, Row}
 use Rattle.mc_theory.specs.Nets.Row.{Exact, Open, NoRow}
 use Rattle.mc_theory.specs.Worked.{Place, place_in, row_in, network}
 

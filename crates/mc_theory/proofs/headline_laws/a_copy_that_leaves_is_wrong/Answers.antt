@@ -1,6 +1,6 @@
 -- A copy strays.
-use Rattle.std.proofs.Common.{◌≡◌, ◌≤◌, ◌<◌, ℕ, inl, inr, List, [], ◌∷◌, map, refl, arith}
-use Rattle.mc_theory.specs.Nets.{Interface, interfaces}
+use Rattle.std.proofs.Common.{◌≡◌, [], ◌∷◌, refl, arith}
+use Rattle.mc_theory.specs.Nets.{interfaces}
 use Rattle.mc_theory.specs.Lists.{below}
 use Rattle.mc_theory.specs.Flights.Pick.{Handles}
 use Rattle.mc_theory.proofs.headline_laws.a_copy_that_leaves_is_wrong.Goals as goal

@@ -1,8 +1,7 @@
 -- l2 carried none.
-use Rattle.std.proofs.Common.{◌≡◌, ◌≤◌, ◌<◌, ℕ, inl, inr, [], ◌∷◌, refl, arith}
+use Rattle.std.proofs.Common.{◌≡◌, inl, inr, [], ◌∷◌, refl, arith}
 use Rattle.mc_theory.specs.Nets.{interfaces}
 use Rattle.mc_theory.specs.Lists.{below}
-use Rattle.mc_theory.specs.Flights.{start, run, copies_on, InRange, Pick}
 use Rattle.mc_theory.specs.Flights.Pick.{Handles}
 use Rattle.mc_theory.proofs.headline_laws.a_lan_that_is_not_served_is_wrong.Goals as goal
 

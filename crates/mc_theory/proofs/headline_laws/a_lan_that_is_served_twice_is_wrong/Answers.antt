@@ -1,6 +1,6 @@
 -- Computed, and by the certificate of the open diamond.
-use Rattle.std.proofs.Common.{◌≡◌, ◌≤◌, ◌<◌, ℕ, inl, inr, List, [], ◌∷◌, map, refl, arith}
-use Rattle.mc_theory.specs.Nets.{Interface, interfaces}
+use Rattle.std.proofs.Common.{◌≤◌, inl, [], ◌∷◌, map, refl, arith}
+use Rattle.mc_theory.specs.Nets.{interfaces}
 use Rattle.mc_theory.specs.Lists.{Distinct, below}
 use Rattle.mc_theory.specs.Flights.Pick.{Handles}
 use Rattle.mc_theory.proofs.WorkedKept.{diamond-kept}

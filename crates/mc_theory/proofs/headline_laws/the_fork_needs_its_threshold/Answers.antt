@@ -1,6 +1,6 @@
 -- Computed, and by the certificate.
-use Rattle.std.proofs.Common.{◌≡◌, ◌≤◌, ◌<◌, ℕ, inl, inr, List, [], ◌∷◌, map, refl, arith}
-use Rattle.mc_theory.specs.Nets.{Interface, interfaces}
+use Rattle.std.proofs.Common.{◌≡◌, inl, inr, [], ◌∷◌, refl, arith}
+use Rattle.mc_theory.specs.Nets.{interfaces}
 use Rattle.mc_theory.specs.Lists.{below}
 use Rattle.mc_theory.specs.Flights.Pick.{Handles}
 use Rattle.mc_theory.proofs.WorkedKept.{fork-kept}

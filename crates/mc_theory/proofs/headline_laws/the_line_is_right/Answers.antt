@@ -1,10 +1,8 @@
 -- Computed, and by the certificate.
-use Rattle.std.proofs.Common.{◌≡◌, ◌≤◌, ◌<◌, ℕ, [], ◌∷◌, refl, arith}
+use Rattle.std.proofs.Common.{◌≤◌, [], ◌∷◌, refl, arith}
 use Rattle.mc_theory.specs.Nets.{interfaces}
 use Rattle.mc_theory.specs.Lists.{below}
-use Rattle.mc_theory.specs.Flights.{start, run, copies_on, InRange, Pick}
 use Rattle.mc_theory.specs.Flights.Pick.{Handles}
-use Rattle.mc_theory.specs.Worked.{line}
 use Rattle.mc_theory.proofs.WorkedKept.{line-kept, line-right}
 use Rattle.mc_theory.proofs.headline_laws.the_line_is_right.Goals as goal
 

@@ -7,22 +7,23 @@ ghost use Rattle.mc_forward.specs.Domains.{IsDomain};
 ghost use Rattle.mc_forward.specs.DomainParts.{domain_with, IsWorkedOut};
 
 use crate::domain::Domain;
-use crate::interfaces::{LanInterfaces, interfaces_of_lans};
+use crate::interfaces::interfaces_of_lans;
+use crate::items::Items;
 use crate::places::{Places, places_of_routers};
 use crate::refused::{DomainFault, Refused};
 use crate::tables::Tables;
-use crate::wants::{WantedFlows, wants_of_lans};
+use crate::wants::wants_of_lans;
 use mc_igmp::ReportList;
 use mc_text::Memory;
-use mc_topology::Topology;
+use mc_topology::{RouterNo, Topology};
 use std::alloc::Global;
 
 /// What is worked out once of the parts of a domain.
 #[derive(Drop)]
 struct WorkedOut {
-    wants: Vec<WantedFlows>,
+    wants: Vec<Items<bool>>,
     places: Vec<Places>,
-    interfaces: Vec<LanInterfaces>,
+    interfaces: Vec<Items<(RouterNo, u8)>>,
 }
 
 fn work_out(

@@ -6,11 +6,11 @@ ghost use Rattle.mc_forward.specs.Domains.{IsDomain, net_of, placed_of, row_of, 
 ghost use Rattle.mc_forward.specs.DomainParts.{domain_with, IsWorkedOut};
 ghost use Rattle.mc_forward.specs.Rows.{row_seen, EntryStands};
 
-use crate::interfaces::{Interfaces, LanInterfaces};
+use crate::interfaces::Interfaces;
+use crate::items::Items;
 use crate::places::Places;
 use crate::row::RowFor;
 use crate::tables::Tables;
-use crate::wants::WantedFlows;
 use mc_topology::{LanNo, RouterNo, Topology};
 use std::marker::Model;
 
@@ -19,9 +19,9 @@ use std::marker::Model;
 pub struct Domain {
     topology: Topology,
     tables: Vec<Tables>,
-    wants: Vec<WantedFlows>,
+    wants: Vec<Items<bool>>,
     places: Vec<Places>,
-    interfaces: Vec<LanInterfaces>,
+    interfaces: Vec<Items<(RouterNo, u8)>>,
 }
 
 impl Model for Domain {
@@ -52,9 +52,9 @@ impl Domain {
     pub(crate) fn new(
         topology: Topology,
         tables: Vec<Tables>,
-        wants: Vec<WantedFlows>,
+        wants: Vec<Items<bool>>,
         places: Vec<Places>,
-        interfaces: Vec<LanInterfaces>,
+        interfaces: Vec<Items<(RouterNo, u8)>>,
     ) -> Domain
         requires { IsWorkedOut (domain_with topology tables.items wants.items) places.items
             interfaces.items }
@@ -118,7 +118,7 @@ impl Domain {
         ensures { result ≡ wants_of self.now flow lan }
     {
         let wanted = &self.wants[lan.0 as usize];
-        wanted.flows[flow as usize]
+        wanted.items[flow as usize]
     }
 
     /// The vifs that are placed on a LAN, by router and then by vif.
@@ -127,6 +127,6 @@ impl Domain {
         ensures { (flow : ℕ) → result ≡ interfaces (net_of self.now flow) lan }
     {
         let interfaces = &self.interfaces[lan.0 as usize];
-        interfaces.iter()
+        Interfaces::new(interfaces)
     }
 }

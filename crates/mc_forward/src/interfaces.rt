@@ -5,25 +5,12 @@ ghost use Rattle.std.specs.Prelude.{length, map, slice_index_or};
 ghost use Rattle.mc_theory.specs.Lists.{below};
 ghost use Rattle.mc_forward.specs.Assembling.{vifs_on, place_in, interfaces_by};
 
+use crate::items::Items;
 use crate::places::Places;
 use mc_text::Memory;
 use mc_topology::RouterNo;
 use std::alloc::Global;
 use std::marker::Model;
-
-/// The vifs that are placed on one LAN, by router and then by vif.
-#[derive(Debug, Drop)]
-pub(crate) struct LanInterfaces {
-    pub(crate) interfaces: Vec<(RouterNo, u8)>,
-}
-
-impl Model for LanInterfaces {
-    ghost use Rattle.std.specs.Prelude.{ℕ, List};
-
-    ghost Value = { List (ℕ × ℕ) };
-
-    ghost view = { λ s. s.interfaces.items };
-}
 
 /// The interfaces of a LAN, from the first: each a router and its vif. Its value in contracts is
 /// the list of those that are left.
@@ -40,22 +27,12 @@ impl<'a> Model for Interfaces<'a> {
     ghost view = { λ s. s.left.now };
 }
 
-impl LanInterfaces {
-    /// Adds a vif behind the others.
-    fn push(&mut self, router: RouterNo, vif: u8) -> Result<(), Memory>
-        ensures { OnOk result (self.new ≡ self.old ++ (router, vif) ∷ []) }
+impl<'a> Interfaces<'a> {
+    /// All of a LAN's interfaces.
+    pub(crate) fn new(all: &'a Items<(RouterNo, u8)>) -> Interfaces<'a>
+        ensures { result ≡ all.now }
     {
-        self.interfaces.push((router, vif))?;
-        Ok(())
-    }
-
-    /// All of them, from the first.
-    pub(crate) fn iter(&self) -> Interfaces<'_>
-        ensures { result ≡ self.now }
-    {
-        Interfaces {
-            left: &self.interfaces,
-        }
+        Interfaces { left: &all.items }
     }
 }
 
@@ -80,13 +57,13 @@ impl<'a> Iterator for Interfaces<'a> {
 }
 
 /// No interface yet, for so many LANs.
-fn no_interfaces(alloc: Global, lans: u32) -> Result<Vec<LanInterfaces>, Memory>
+fn no_interfaces(alloc: Global, lans: u32) -> Result<Vec<Items<(RouterNo, u8)>>, Memory>
     ensures { IfOk result (λ lists. lists.items ≡ map (λ lan. []) (below lans)) }
 {
     let mut lists = Vec::new(alloc);
     for _ in 0..lans {
-        lists.push(LanInterfaces {
-            interfaces: Vec::new(alloc),
+        lists.push(Items {
+            items: Vec::new(alloc),
         })?;
     }
     Ok(lists)
@@ -94,7 +71,7 @@ fn no_interfaces(alloc: Global, lans: u32) -> Result<Vec<LanInterfaces>, Memory>
 
 /// Adds a router's vifs to the LANs on which they are placed.
 fn add_router(
-    lists: &mut Vec<LanInterfaces>,
+    lists: &mut Vec<Items<(RouterNo, u8)>>,
     router: RouterNo,
     places: &Places,
 ) -> Result<(), Memory>
@@ -108,7 +85,7 @@ fn add_router(
     for vif in 0..32u8 {
         if let Some(lan) = places[vif as usize] {
             let list = &mut lists[lan.0 as usize];
-            list.push(router, vif)?;
+            list.push((router, vif))?;
         }
     }
     Ok(())
@@ -119,7 +96,7 @@ pub(crate) fn interfaces_of_lans(
     alloc: Global,
     lans: u32,
     places: &[Places],
-) -> Result<Vec<LanInterfaces>, Memory>
+) -> Result<Vec<Items<(RouterNo, u8)>>, Memory>
     requires few { length places.now ≤ 256 }
     requires listed { (router vif lan : ℕ) →
         place_in places.now router vif ≡ Some lan → lan < lans }

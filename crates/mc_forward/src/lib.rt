@@ -11,6 +11,7 @@ mod flight;
 mod flow_laws;
 mod flow_view;
 mod interfaces;
+mod items;
 mod laws;
 mod per_lan;
 mod places;

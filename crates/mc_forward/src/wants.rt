@@ -5,26 +5,12 @@ ghost use Rattle.std.specs.List.Sorted.{IsStrictlyIncreasing};
 ghost use Rattle.mc_filter.specs.Addresses.{has};
 ghost use Rattle.mc_forward.specs.Assembling.{EachAt, ArePlaces, AreWanted};
 
+use crate::items::Items;
 use mc_filter::wants_of_groups;
 use mc_igmp::ReportList;
 use mc_text::{Addr, Memory};
 use mc_topology::Topology;
 use std::alloc::Global;
-use std::marker::Model;
-
-/// Which flows a LAN wants.
-#[derive(Debug, Drop)]
-pub(crate) struct WantedFlows {
-    pub(crate) flows: Vec<bool>,
-}
-
-impl Model for WantedFlows {
-    ghost use Rattle.std.specs.Prelude.{Bool, List};
-
-    ghost Value = { List Bool };
-
-    ghost view = { λ s. s.flows.items };
-}
 
 /// The group of each flow.
 fn group_of_each(alloc: Global, topology: &Topology) -> Result<Vec<Addr>, Memory>
@@ -83,7 +69,7 @@ fn wanted_flows(
     groups: &[Addr],
     places: &[usize],
     list: &ReportList,
-) -> Result<WantedFlows, Memory>
+) -> Result<Items<bool>, Memory>
     requires ascending { IsStrictlyIncreasing groups.now }
     requires places { ArePlaces groups.now topology.now.flows places.now }
     ensures { IfOk result (AreWanted topology.now.flows list.now) }
@@ -94,7 +80,7 @@ fn wanted_flows(
         let filter = &filters[places[flow as usize]];
         flows.push(filter.admits(topology.flow(flow).source))?;
     }
-    Ok(WantedFlows { flows })
+    Ok(Items { items: flows })
 }
 
 /// Which flows each LAN wants. Each list is walked over once.
@@ -102,7 +88,7 @@ pub(crate) fn wants_of_lans(
     alloc: Global,
     topology: &Topology,
     reports: &[ReportList],
-) -> Result<Vec<WantedFlows>, Memory>
+) -> Result<Vec<Items<bool>>, Memory>
     ensures count { IfOk result (λ wants. vec_len wants ≡ length reports.now) }
     ensures each { IfOk result (λ wants.
         EachAt (AreWanted topology.now.flows) reports.now wants.items) }

@@ -117,26 +117,26 @@ stands_fed t text lists few h = record {
 
 pub made_stands : (text written : List ℕ) (m : IsMadeText text true written)
     → length written ≤ 16777216
-    → CertificateStands m.domain.topology written (lists_of m.examined)
+    → CertificateStands m.domain.topology written (lists_of m.holds.examined)
 made_stands text written m few =
     let d = m.domain in
     let t = d.topology in
-    let lists = lists_of m.examined in
+    let lists = lists_of m.holds.examined in
     let body = certificate_text t lists in
     let size : length written ≡ length body + 1 =
-    ap (λ (bytes : List ℕ). length bytes) m.spelled ∙ length-append body (10 ∷ []) in
+    ap (λ (bytes : List ℕ). length bytes) m.holds.spelled ∙ length-append body (10 ∷ []) in
     let stands = texts_stand t lists m.means.rules.topology
-    (lists_belong d m.examined m.are_examined (sym m.answer))
-    (lists_kept d m.examined m.are_examined)
-    (lists_bytes d m.examined m.are_examined) (omega (arith, size, few)) in
-    subst (λ (bytes : List ℕ). CertificateStands t bytes lists) (sym m.spelled)
+    (lists_belong d m.holds.examined m.holds.are_examined (sym m.holds.answer))
+    (lists_kept d m.holds.examined m.holds.are_examined)
+    (lists_bytes d m.holds.examined m.holds.are_examined) (omega (arith, size, few)) in
+    subst (λ (bytes : List ℕ). CertificateStands t bytes lists) (sym m.holds.spelled)
     (stands_fed t body lists (omega (arith, size, few, length-append body (10 ∷ []))) stands)
 
 pub made_reads : (text written : List ℕ) (m : IsMadeText text true written)
     → length written ≤ 16777216
-    → reading_of m.domain.topology written ≡ Ok (lists_of m.examined)
+    → reading_of m.domain.topology written ≡ Ok (lists_of m.holds.examined)
 made_reads text written m few =
-    reading_again m.domain.topology written (lists_of m.examined) (made_stands text written m few)
+    reading_again m.domain.topology written (lists_of m.holds.examined) (made_stands text written m few)
 
 -- ---- each list is accepted
 
@@ -153,10 +153,10 @@ list_at P (Found ttl travel ∷ xs) all each k es at = absurd cc
 
 pub made_accepted : (text written : List ℕ) (m : IsMadeText text true written) (flow : ℕ)
     (es : Tree)
-    → slice_get (lists_of m.examined) flow ≡ Some es → IsAccepted (net_of m.domain flow) es
+    → slice_get (lists_of m.holds.examined) flow ≡ Some es → IsAccepted (net_of m.domain flow) es
 made_accepted text written m =
-    list_at (λ k. IsAccepted (net_of m.domain k)) m.examined (sym m.answer)
-    (λ k x at. (m.are_examined.each k x at).accepted)
+    list_at (λ k. IsAccepted (net_of m.domain k)) m.holds.examined (sym m.holds.answer)
+    (λ k x at. (m.holds.are_examined.each k x at).accepted)
 
 -- ---- the bundle with the certificate
 
@@ -251,22 +251,23 @@ pub yes_told : (text written bundle : List ℕ) (parts : List PartText) → IsMa
     → (told : List ℕ) × IsVerdictText bundle true told
 yes_told text written bundle parts m is more =
     let d = m.domain in
-    let lists = lists_of m.examined in
+    let lists = lists_of m.holds.examined in
     let few = certificate_fits bundle parts written more in
-    let belong = lists_belong d m.examined m.are_examined (sym m.answer) in (
+    let belong = lists_belong d m.holds.examined m.holds.are_examined (sym m.holds.answer) in (
       check_text d.topology (map yes_of lists),
       record {
-        domain = d;
-        lists = lists;
-        verdicts = map yes_of lists;
+        domain = record { domain = d; lists = lists };
         means = record {
           certificate = written;
           domain = means_with text bundle parts written d m.means is more;
           lists_stand = made_stands text written m few;
         };
-        are_verdicts = are_yes_of d lists belong.count (made_accepted text written m);
-        answer = sym (all_yes lists);
-        spelled = refl;
+        holds = record {
+          verdicts = map yes_of lists;
+          are_verdicts = are_yes_of d lists belong.count (made_accepted text written m);
+          answer = sym (all_yes lists);
+          spelled = refl;
+        };
       },
     )
 
@@ -307,20 +308,20 @@ pub only_yes : (text written bundle : List ℕ) (parts : List PartText) (all : B
     → IsBundle bundle (with_certificate parts written) → IsVerdictText bundle all told → all ≡ true
 only_yes text written bundle parts all told m is more v =
     let d = m.domain in
-    let lists = lists_of m.examined in
+    let lists = lists_of m.holds.examined in
     let few = certificate_fits bundle parts written more in
     let mine = means_with text bundle parts written d m.means is more in
-    let same = one_of_bundle bundle (Some v.means.certificate) (Some written) v.domain d refl
+    let same = one_of_bundle bundle (Some v.means.certificate) (Some written) v.domain.domain d refl
     v.means.domain mine in
-    let theirs : AreOf v.domain v.means.certificate v.lists v.verdicts =
-    record { stand = v.means.lists_stand; are = v.are_verdicts } in
-    let here : AreOf d written v.lists v.verdicts =
-    subst (λ (c : List ℕ). AreOf d c v.lists v.verdicts) (some_is same.1)
-    (subst (λ (e : DomainValue). AreOf e v.means.certificate v.lists v.verdicts) same.0
+    let theirs : AreOf v.domain.domain v.means.certificate v.domain.lists v.holds.verdicts =
+    record { stand = v.means.lists_stand; are = v.holds.are_verdicts } in
+    let here : AreOf d written v.domain.lists v.holds.verdicts =
+    subst (λ (c : List ℕ). AreOf d c v.domain.lists v.holds.verdicts) (some_is same.1)
+    (subst (λ (e : DomainValue). AreOf e v.means.certificate v.domain.lists v.holds.verdicts) same.0
     theirs) in
-    let one : v.lists ≡ lists =
-    one_certificate d.topology written v.lists lists here.stand (made_stands text written m few) in
-    let belong = lists_belong d m.examined m.are_examined (sym m.answer) in
-    v.answer ∙ verdicts_yes d lists v.verdicts m.means.rules belong.count
-    (subst (λ (ls : List Tree). AreVerdicts d ls v.verdicts) one here.are)
+    let one : v.domain.lists ≡ lists =
+    one_certificate d.topology written v.domain.lists lists here.stand (made_stands text written m few) in
+    let belong = lists_belong d m.holds.examined m.holds.are_examined (sym m.holds.answer) in
+    v.holds.answer ∙ verdicts_yes d lists v.holds.verdicts m.means.rules belong.count
+    (subst (λ (ls : List Tree). AreVerdicts d ls v.holds.verdicts) one here.are)
     (made_accepted text written m)

@@ -1,16 +1,10 @@
 -- What a run of `mcaudit check` shows of the text that it read.
-use Rattle.std.proofs.Common.{◌≡◌, ◌≢◌, ℕ, zero, suc, ◌<◌, Bool, true, List, [], ◌∷◌, ◌++◌}
-use Rattle.std.proofs.Common.{length, take, drop, All, inl, inr, Option, Some, None, Result, Ok}
-use Rattle.std.proofs.Common.{Err}
-use Rattle.std.proofs.Common.{refl, sym, ap, subst, ◌∙◌, arith, append_assoc}
-use Rattle.std.specs.Prelude.{IfOk, IfSome, IsTrue, is_some, unwrap_or, slice_get, codes}
-use Rattle.std.specs.String.{string_bytes}
-use Rattle.std.specs.Io.KnownBytes.{Appends}
+use Rattle.std.proofs.Common.{◌≡◌, ◌≢◌, ℕ, zero, suc, ◌<◌, Bool, true, List, [], ◌∷◌, length, All}
+use Rattle.std.proofs.Common.{Option, Some, None, Err, refl, sym, ap, subst, ◌∙◌, arith}
+use Rattle.std.specs.Prelude.{is_some, unwrap_or, slice_get}
 use Rattle.std.specs.List.{list_all}
 use Rattle.std.proofs.lemmas.Bool.{and_parts}
-use Rattle.std.proofs.lemmas.List.{take_all, length-append, take-append-drop}
 use denote.Ref.{Bor}
-use Rattle.mc_text.specs.Device.{AppendsPart}
 use Rattle.mc_theory.specs.Certificates.{Entry}
 use Rattle.mc_theory.specs.Headline.{HeadlineHolds}
 use Rattle.mc_topology.specs.Topology.{TopologyValue}
@@ -27,19 +21,13 @@ use Rattle.mc_check.specs.Verdicts.{YesKeepsHeadline}
 use Rattle.mc_check.specs.declared.verdict.Verdict.{Verdict}
 use Rattle.mc_check.specs.declared.verdict.Verdict.TheVariants.{Yes, No}
 use Rattle.mc_input.specs.InputView.{certificate_seen}
-use Rattle.mc_run.specs.declared.check.Verdicts.{Verdicts}
-use Rattle.mc_run.specs.declared.fault.RunFault.{RunFault}
-use Rattle.mc_run.specs.declared.fault.RunFault.TheVariants.{Write}
 use Rattle.mc_run.specs.BundleMeaning.{MeansDomain, MeansCertified, HasBadCertificate}
 use Rattle.mc_run.specs.BundleMeaning.{IsRefusedFor}
-use Rattle.mc_run.specs.CheckRun.{IsTextOfVerdicts, IsVerdictText, Answers, WritesVerdicts}
-use Rattle.mc_run.specs.CheckRun.{WritesPartOfVerdicts}
-use Rattle.mc_run.specs.CheckRun.{WroteYes, SaysYes, KeepsHeadline, HeadlineOf}
+use Rattle.mc_run.specs.CheckRun.{IsTextOfVerdicts, KeepsHeadline}
 use Rattle.mc_run.specs.Failures.{IsNoDeviceFault}
 use Rattle.mc_run.specs.RunFault.{of_certificate, of_certificate_kind}
 use Rattle.mc_run.specs.VerdictText.{IsVerdict, AreVerdicts, are_yes, check_text}
-use Rattle.mc_run.proofs.RunLemmas.{IsRead, read_whole, refused_whole}
-use Rattle.mc_run.proofs.VerdictLines.{lines_say}
+use Rattle.mc_run.proofs.MakeLemmas.{at}
 
 -- ---- the certificate
 
@@ -80,16 +68,16 @@ certificate_refused text o read d t f means there same refused =
     ))
 
 pub not_by_device : (f : CertFault) (k : CertFaultKind) → IsNoDeviceFault (of_certificate_kind f k)
-not_by_device f kinds.NotJson = tt
-not_by_device f kinds.BadVersion = tt
-not_by_device f kinds.MissingKey = tt
-not_by_device f kinds.UnknownKey = tt
-not_by_device f kinds.BadKind = tt
-not_by_device f kinds.BadNumber = tt
-not_by_device f kinds.UnknownName = tt
-not_by_device f kinds.WrongFlows = tt
-not_by_device f kinds.TooMany = tt
-not_by_device f kinds.Memory = tt
+not_by_device f kinds.NotJson = (refl, refl)
+not_by_device f kinds.BadVersion = (refl, refl)
+not_by_device f kinds.MissingKey = (refl, refl)
+not_by_device f kinds.UnknownKey = (refl, refl)
+not_by_device f kinds.BadKind = (refl, refl)
+not_by_device f kinds.BadNumber = (refl, refl)
+not_by_device f kinds.UnknownName = (refl, refl)
+not_by_device f kinds.WrongFlows = (refl, refl)
+not_by_device f kinds.TooMany = (refl, refl)
+not_by_device f kinds.Memory = (refl, refl)
 
 -- a certificate that is read
 pub certified : (text : List ℕ) (o : Option (List ℕ)) (read : List ℕ) (d : DomainValue)
@@ -123,12 +111,6 @@ are_verdicts d lists vs count belongs exact copies first = record {
   each = λ flow es v listed told. is_verdict (length d.topology.lans) d flow es v
       (exact flow es v listed told) (copies flow es v listed told) (first flow es v listed told);
 }
-
--- what stands at a place within a list
-at : {A : Type 0} (xs : List A) (k : ℕ) → k < length xs → (x : A) × (slice_get xs k ≡ Some x)
-at [] k within = absurd (omega (arith, within))
-at (x ∷ xs) zero within = (x, refl)
-at (x ∷ xs) (suc k) within = at xs k (omega (arith, within))
 
 yes_at : (vs : List Verdict) (k : ℕ) (v : Verdict) → list_all is_yes vs ≡ true
     → slice_get vs k ≡ Some v → is_yes v ≡ true
@@ -176,169 +158,3 @@ verdicts_told d lists vs seen again t all written are same other topology answer
   spelled = spelled ∙ ap (λ t. check_text t seen) topology
       ∙ ap (check_text d.topology) same;
 }
-
--- the same, where a bundle tells the domain and the certificate,
-pub bundle_told : (text : List ℕ) (d : DomainValue) (lists : List Tree)
-    (r : Result Verdicts RunFault) → MeansCertified text d lists
-    → IfOk r (λ told. IsTextOfVerdicts d lists told.yes (string_bytes told.text))
-    → IfOk r (λ told. IsVerdictText text told.yes (string_bytes told.text))
-bundle_told text d lists (Ok told) means is = record {
-  domain = d;
-  lists = lists;
-  verdicts = is.verdicts;
-  means = means;
-  are_verdicts = is.are_verdicts;
-  answer = is.answer;
-  spelled = is.spelled;
-}
-bundle_told text d lists (Err f) means is = tt
-
--- and the headline
-pub bundle_keeps : (text : List ℕ) (d : DomainValue) (lists : List Tree)
-    (r : Result Verdicts RunFault) → MeansCertified text d lists
-    → IfOk r (λ told. IsTrue told.yes → KeepsHeadline d lists)
-    → IfOk r (λ told. IsTrue told.yes → HeadlineOf text)
-bundle_keeps text d lists (Ok told) means keeps = λ yes. record {
-  domain = d;
-  lists = lists;
-  means = means;
-  keeps = keeps yes;
-}
-bundle_keeps text d lists (Err f) means keeps = tt
-
--- ---- the whole input
-
-verdict_whole : (text : List ℕ) (all : Bool) (written : List ℕ)
-    → IsVerdictText (take 268435552 text) all written → IsVerdictText text all written
-verdict_whole text all written v =
-    let m = v.means.domain in
-    subst (λ (t : List ℕ). IsVerdictText t all written)
-    (read_whole text m.input (Some v.means.certificate) m.parts) v
-
-headline_whole : (text : List ℕ) → HeadlineOf (take 268435552 text) → HeadlineOf text
-headline_whole text h =
-    let m = h.means.domain in
-    subst (λ (t : List ℕ). HeadlineOf t)
-    (read_whole text m.input (Some h.means.certificate) m.parts) h
-
--- ---- the run
-
-pub refused_told : (told : Option (List ℕ)) (taken : List ℕ) (f : RunFault)
-    (r : Result Bool RunFault) → r ≡ Err f → IsRead told taken → IsRefusedFor true taken f
-    → IfSome told (λ text. Answers text r)
-refused_told None taken f r is read refused = tt
-refused_told (Some text) taken f r is read refused =
-    let here = subst (λ (t : List ℕ). IsRefusedFor true t f) read refused in
-    rw is (refused_whole true text f here)
-
--- a run whose output failed says nothing of the text
-pub answer_unwritten : (told : Option (List ℕ)) (r : Result Bool RunFault) → r ≡ Err Write
-    → IfSome told (λ text. Answers text r)
-answer_unwritten None r is = tt
-answer_unwritten (Some text) r is = rw is tt
-
-pub answer_told : (told : Option (List ℕ)) (taken : List ℕ) (all : Bool) (written : List ℕ)
-    → IsRead told taken → IsVerdictText taken all written
-    → IfSome told (λ text. Answers text (Ok all))
-answer_told None taken all written read v = tt
-answer_told (Some text) taken all written read v = (
-  written,
-  verdict_whole text all written (subst (λ (t : List ℕ). IsVerdictText t all written)
-      read v),
-)
-
-pub written_told : (told : Option (List ℕ)) (taken : List ℕ) (all : Bool) (written bytes : List ℕ)
-    (old new : Option (List ℕ)) → IsRead told taken → IsVerdictText taken all written
-    → bytes ≡ written → Appends old new bytes
-    → IfSome told (λ text. WritesVerdicts text all old new)
-written_told None taken all written bytes old new read v same puts = tt
-written_told (Some text) taken all written bytes old new read v same puts = (
-  written,
-  verdict_whole text all written (subst (λ (t : List ℕ). IsVerdictText t all written) read v),
-  subst (λ (b : List ℕ). Appends old new b) same puts,
-)
-
-pub part_told : (told : Option (List ℕ)) (taken : List ℕ) (all : Bool) (written bytes : List ℕ)
-    (old new : Option (List ℕ)) → IsRead told taken → IsVerdictText taken all written
-    → bytes ≡ written → AppendsPart old new bytes
-    → IfSome told (λ text. WritesPartOfVerdicts text old new)
-part_told None taken all written bytes old new read v same puts = tt
-part_told (Some text) taken all written bytes old new read v same puts = (
-  all,
-  written,
-  verdict_whole text all written (subst (λ (t : List ℕ). IsVerdictText t all written) read v),
-  subst (λ (b : List ℕ). AppendsPart old new b) same puts,
-)
-
-headline_told : (told : Option (List ℕ)) (taken : List ℕ) → IsRead told taken → HeadlineOf taken
-    → IfSome told HeadlineOf
-headline_told None taken read h = tt
-headline_told (Some text) taken read h =
-    headline_whole text (subst (λ (t : List ℕ). HeadlineOf t) read h)
-
--- ---- yes
-
--- what stands behind the same front is the same
-pub cancel : (xs ys zs : List ℕ) → xs ++ ys ≡ xs ++ zs → ys ≡ zs
-cancel [] ys zs same = same
-cancel (x ∷ xs) ys zs same = cancel xs ys zs cc
-
--- nothing was written where the output is as it was
-unsaid : (old : Option (List ℕ)) → WroteYes old old → ⊥
-unsaid None wrote = wrote
-unsaid (Some xs) (front, rest, starts, same) =
-    let size = ap (λ (bytes : List ℕ). length bytes) same in
-    absurd (omega (
-      arith,
-      size,
-      length-append xs (front ++ (codes "verdict yes" ++ rest)),
-      length-append front (codes "verdict yes" ++ rest),
-      length-append (codes "verdict yes") rest,
-    ))
-
--- a run that is refused says no yes
-pub refused_unsaid : (f : RunFault) (r : Result Bool RunFault) (old : Option (List ℕ)) (P : Type 0)
-    → r ≡ Err f → SaysYes r old old → P
-refused_unsaid f r old P is (inl ok) = absurd cc
-refused_unsaid f r old P is (inr wrote) = absurd (unsaid old wrote)
-
--- what was written, whole or in part, says yes only where all verdicts are
-wrote_yes : (taken : List ℕ) (all : Bool) (written bytes : List ℕ) (k : ℕ)
-    (old new : Option (List ℕ))
-    → IsVerdictText taken all written → bytes ≡ written → Appends old new (take k bytes)
-    → WroteYes old new → all ≡ true
-wrote_yes taken all written bytes k None new v same puts wrote = absurd wrote
-wrote_yes taken all written bytes k (Some xs) None v same puts wrote = absurd wrote
-wrote_yes taken all written bytes k (Some xs) (Some ys) v same puts (front, rest, starts, is) =
-    let more = codes "verdict yes" ++ rest in
-    let part : take k bytes ≡ front ++ more = cancel xs _ _ (sym puts ∙ is) in
-    let whole : check_text v.domain.topology v.verdicts
-    ≡ front ++ (codes "verdict yes" ++ (rest ++ drop k bytes)) =
-    sym v.spelled ∙ sym same ∙ sym (take-append-drop k bytes)
-    ∙ ap (λ zs. zs ++ drop k bytes) part ∙ append_assoc front more (drop k bytes) in
-    v.answer ∙ (lines_say v.domain.topology v.domain.topology.flows v.verdicts
-    (are_yes v.verdicts) front (rest ++ drop k bytes) v.means.domain.rules.topology starts
-    whole).0
-
--- the headline, after a part of the text was written,
-pub part_says : (told : Option (List ℕ)) (taken : List ℕ) (all : Bool) (written bytes : List ℕ)
-    (old new : Option (List ℕ)) (r : Result Bool RunFault) → IsRead told taken
-    → IsVerdictText taken all written → bytes ≡ written → (IsTrue all → HeadlineOf taken)
-    → AppendsPart old new bytes → r ≡ Err Write → SaysYes r old new → IfSome told HeadlineOf
-part_says told taken all written bytes old new r read v same keeps puts is (inl ok) = absurd cc
-part_says told taken all written bytes old new r read v same keeps puts is (inr wrote) =
-    headline_told told taken read
-    (keeps (wrote_yes taken all written bytes puts.0 old new v same puts.2 wrote))
-
--- and after the whole
-pub whole_says : (told : Option (List ℕ)) (taken : List ℕ) (all : Bool) (written bytes : List ℕ)
-    (old new : Option (List ℕ)) → IsRead told taken
-    → IsVerdictText taken all written → bytes ≡ written → (IsTrue all → HeadlineOf taken)
-    → Appends old new bytes → SaysYes (Ok all) old new → IfSome told HeadlineOf
-whole_says told taken all written bytes old new read v same keeps puts (inl ok) =
-    headline_told told taken read (keeps (cc))
-whole_says told taken all written bytes old new read v same keeps puts (inr wrote) =
-    let whole = subst (λ (b : List ℕ). Appends old new b)
-    (sym (take_all (length bytes) bytes (omega arith))) puts in
-    headline_told told taken read
-    (keeps (wrote_yes taken all written bytes (length bytes) old new v same whole wrote))

@@ -1,14 +1,11 @@
 -- What a run of `mcaudit make` shows of the text that it read.
 use Rattle.std.proofs.Common.{◌≡◌, ◌≢◌, ℕ, zero, suc, ◌+◌, ◌<◌, ◌≤◌, ◌⊎◌, inl, inr, All, Bool, true}
 use Rattle.std.proofs.Common.{false, List, [], ◌∷◌, ◌++◌}
-use Rattle.std.proofs.Common.{Global, Vec, length, take, Option, Some, None, Result, Ok, Err, refl}
+use Rattle.std.proofs.Common.{Global, Vec, length, Some, refl}
 use Rattle.std.proofs.Common.{sym, ap, subst, ◌∙◌, arith}
 use Rattle.std.proofs.Common.{append_assoc, append-nil, length-append}
-use Rattle.std.specs.Prelude.{◌↔◌, ◌==◌, IfOk, IfSome, IsTrue, codes, slice_get}
-use Rattle.std.specs.String.{string_bytes}
-use Rattle.std.specs.Io.KnownBytes.{Appends}
+use Rattle.std.specs.Prelude.{◌↔◌, ◌==◌, IsTrue, codes, slice_get}
 use Rattle.std.proofs.lemmas.Bool.{and_parts, eq-eqb, eqb-true, false≢true}
-use Rattle.mc_text.specs.Device.{AppendsPart}
 use Rattle.mc_topology.specs.declared.flow.Flow.{Flow}
 use Rattle.mc_topology.specs.Topology.{TopologyValue}
 use Rattle.mc_theory.specs.Certificates.{IsRight}
@@ -20,14 +17,9 @@ use Rattle.mc_replay.specs.declared.travel.Travel.{Travel}
 use Rattle.mc_maker.specs.Examined.{IfCertified, is_certified}
 use Rattle.mc_maker.specs.declared.examination.Examined.{Examined}
 use Rattle.mc_maker.specs.declared.examination.Examined.TheVariants.{Certified, Found}
-use Rattle.mc_run.specs.declared.make.Told.{Told}
-use Rattle.mc_run.specs.declared.fault.RunFault.{RunFault}
-use Rattle.mc_run.specs.declared.fault.RunFault.TheVariants.{Write}
-use Rattle.mc_run.specs.BundleMeaning.{MeansDomain, IsRefusedFor}
-use Rattle.mc_run.specs.MakeRun.{Answers, AreExamined, AreMade, IsExamined, IsMadeText}
-use Rattle.mc_run.specs.MakeRun.{IsTextOfMade, SaysIfRight, WritesMade, WritesPartOfMade}
-use Rattle.mc_run.specs.MakeRun.{are_certified, found_lines, lines_of, lines_of_flow, lists_of}
-use Rattle.mc_run.proofs.RunLemmas.{IsRead, read_whole, refused_whole}
+use Rattle.mc_run.specs.MakeRun.{AreExamined, AreMade, AreRight, IsExamined, IsMadeText}
+use Rattle.mc_run.specs.MakeRun.{IsTextOfMade, SaysAllRight, are_certified, found_lines, lines_of}
+use Rattle.mc_run.specs.MakeRun.{lines_of_flow, lists_of}
 
 -- ---- places in a list
 
@@ -294,105 +286,12 @@ certificate_told d t lists lines written made same none spelled = record {
       ∙ ap (λ ls. certificate_text d.topology ls ++ codes "\n") made.lists_are;
 }
 
--- the same, where a bundle tells the domain,
-pub made_told : (text : List ℕ) (o : Option (List ℕ)) (d : DomainValue)
-    (r : Result Told RunFault) → MeansDomain text o d → o ≡ None
-    → IfOk r (λ told. IsTextOfMade d told.certified (string_bytes told.text))
-    → IfOk r (λ told. IsMadeText text told.certified (string_bytes told.text))
-made_told text o d (Ok told) means without is = record {
-  domain = d;
-  examined = is.examined;
-  means = subst (λ (c : Option (List ℕ)). MeansDomain text c d) without means;
-  are_examined = is.are_examined;
-  answer = is.answer;
-  spelled = is.spelled;
-}
-made_told text o d (Err f) means without is = tt
-
 -- and what that says of its flows
-pub made_right : (text : List ℕ) (o : Option (List ℕ)) (d : DomainValue)
-    (r : Result Told RunFault) → MeansDomain text o d → o ≡ None
-    → IfOk r (λ told. IsTextOfMade d told.certified (string_bytes told.text))
-    → IfOk r (λ told. SaysIfRight text told.certified)
-made_right text o d (Ok told) means without is = record {
-  domain = d;
-  means = subst (λ (c : Option (List ℕ)). MeansDomain text c d) without means;
-  right = subst (λ (b : Bool). IsTrue b
-      ↔ ((flow : ℕ) → flow < length d.topology.flows → IsRight (net_of d flow)))
-      (sym is.answer) (certified_right d is.examined is.are_examined);
+pub made_right : (text : List ℕ) (certified : Bool) (written : List ℕ)
+    → IsMadeText text certified written → SaysAllRight text certified
+made_right text certified written m = record {
+  domain = m.domain;
+  means = m.means;
+  holds = subst (AreRight m.domain) (sym m.holds.answer)
+      (certified_right m.domain m.holds.examined m.holds.are_examined);
 }
-made_right text o d (Err f) means without is = tt
-
--- ---- the whole input
-
-made_whole : (text : List ℕ) (certified : Bool) (written : List ℕ)
-    → IsMadeText (take 268435552 text) certified written → IsMadeText text certified written
-made_whole text certified written m =
-    subst (λ (t : List ℕ). IsMadeText t certified written)
-    (read_whole text m.means.input None m.means.parts) m
-
-right_whole : (text : List ℕ) (certified : Bool)
-    → SaysIfRight (take 268435552 text) certified → SaysIfRight text certified
-right_whole text certified r =
-    subst (λ (t : List ℕ). SaysIfRight t certified)
-    (read_whole text r.means.input None r.means.parts) r
-
-made_read : (text taken : List ℕ) (certified : Bool) (written : List ℕ)
-    → taken ≡ take 268435552 text → IsMadeText taken certified written
-    → IsMadeText text certified written
-made_read text taken certified written read m =
-    made_whole text certified written
-    (subst (λ (t : List ℕ). IsMadeText t certified written) read m)
-
--- ---- the run
-
-pub make_refused : (told : Option (List ℕ)) (taken : List ℕ) (f : RunFault)
-    (r : Result Bool RunFault) → r ≡ Err f → IsRead told taken → IsRefusedFor false taken f
-    → IfSome told (λ text. Answers text r)
-make_refused None taken f r is read refused = tt
-make_refused (Some text) taken f r is read refused =
-    let here = subst (λ (t : List ℕ). IsRefusedFor false t f) read refused in
-    rw is (refused_whole false text f here)
-
--- a run whose output failed says nothing of the text
-pub make_unwritten : (told : Option (List ℕ)) (r : Result Bool RunFault) → r ≡ Err Write
-    → IfSome told (λ text. Answers text r)
-make_unwritten None r is = tt
-make_unwritten (Some text) r is = rw is tt
-
-pub make_told : (told : Option (List ℕ)) (taken : List ℕ) (certified : Bool) (written : List ℕ)
-    → IsRead told taken → IsMadeText taken certified written
-    → IfSome told (λ text. Answers text (Ok certified))
-make_told None taken certified written read m = tt
-make_told (Some text) taken certified written read m =
-    (written, made_read text taken certified written read m)
-
-pub right_told : (told : Option (List ℕ)) (taken : List ℕ) (certified : Bool)
-    → IsRead told taken → SaysIfRight taken certified
-    → IfSome told (λ text. SaysIfRight text certified)
-right_told None taken certified read r = tt
-right_told (Some text) taken certified read r =
-    right_whole text certified (subst (λ (t : List ℕ). SaysIfRight t certified) read r)
-
-pub make_written : (told : Option (List ℕ)) (taken : List ℕ) (certified : Bool)
-    (written bytes : List ℕ) (old new : Option (List ℕ)) → IsRead told taken
-    → IsMadeText taken certified written → bytes ≡ written → Appends old new bytes
-    → IfSome told (λ text. WritesMade text certified old new)
-make_written None taken certified written bytes old new read m same puts = tt
-make_written (Some text) taken certified written bytes old new read m same puts = (
-  written,
-  made_read text taken certified written read m,
-  subst (λ (b : List ℕ). Appends old new b) same puts,
-)
-
-pub make_part : (told : Option (List ℕ)) (taken : List ℕ) (certified : Bool)
-    (written bytes : List ℕ) (old new : Option (List ℕ)) → IsRead told taken
-    → IsMadeText taken certified written → bytes ≡ written → AppendsPart old new bytes
-    → IfSome told (λ text. WritesPartOfMade text old new)
-make_part None taken certified written bytes old new read m same puts = tt
-make_part (Some text) taken certified written bytes old new read m same puts = (
-  certified,
-  written,
-  made_read text taken certified written read m,
-  subst (λ (b : List ℕ). AppendsPart old new b) same puts,
-)

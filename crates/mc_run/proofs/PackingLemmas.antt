@@ -1,18 +1,26 @@
 -- What packing shows, told with the run's faults.
-use Rattle.std.proofs.Common.{◌≡◌, ℕ, Bool, List, Option, Some, None, Result, Err, refl, ap, ◌∙◌}
-use Rattle.std.specs.Prelude.{◌≢◌, IfErr, IfSome}
+use Rattle.std.proofs.Common.{◌≡◌, ℕ, Bool, List, Option, Some, None, Result, Ok, Err, refl, ap, ◌∙◌}
+use Rattle.std.specs.Prelude.{◌≢◌, IfErr, IfSome, IsErrAnd}
 use Rattle.mc_files.specs.Files.{FileText}
 use Rattle.mc_files.specs.PackRun.{Answers, SaysNothing, failed_files, failed_writes}
 use Rattle.mc_files.specs.declared.fault.PackFault.{PackFault}
 use Rattle.mc_files.specs.declared.fault.PackFault.TheVariants as packing
 use Rattle.mc_run.specs.declared.fault.RunFault.{RunFault}
 use Rattle.mc_run.specs.declared.fault.RunFault.TheVariants.{Write}
-use Rattle.mc_run.specs.PackingRun.{AnswersPack, IsOfDevices, failed_file_reads}
-use Rattle.mc_run.specs.PackingRun.{failed_pack_writes, of_packing}
+use Rattle.mc_run.specs.Failures.{counted, is_read, is_write}
+use Rattle.mc_run.specs.PackingRun.{AnswersPack, IsOfDevices, of_packing}
 
 -- what a run answers that gives this fault of packing
 abbrev Told : PackFault → Result (Unit {0}) RunFault
 Told f = Err (of_packing f)
+
+-- it does
+abbrev pub IsTold : PackFault → Result (Unit {0}) RunFault → Type 0
+IsTold f r = IsErrAnd r (λ fault. fault ≡ of_packing f)
+
+told_is : (f : PackFault) (r : Result (Unit {0}) RunFault) → IsTold f r → r ≡ Told f
+told_is f (Ok done) e = absurd e
+told_is f (Err fault) e = rw e refl
 
 fault_answer : (certified : Bool) (files : List FileText) (f : PackFault)
     → Answers certified files (Err f) → AnswersPack certified files (Told f)
@@ -23,10 +31,12 @@ fault_answer certified files packing.Write is = tt
 fault_answer certified files packing.Memory is = tt
 
 pub answer_told : (told : Option (List FileText)) (certified : Bool) (f : PackFault)
-    (r : Result (Unit {0}) RunFault) → IfSome told (λ files. Answers certified files (Err f))
-    → r ≡ Told f → IfSome told (λ files. AnswersPack certified files r)
-answer_told None certified f r is e = tt
-answer_told (Some files) certified f r is e = rw (e) (fault_answer certified files f is)
+    (r : Result (Unit {0}) RunFault) → IsTold f r
+    → IfSome told (λ files. Answers certified files (Err f))
+    → IfSome told (λ files. AnswersPack certified files r)
+answer_told None certified f r e is = tt
+answer_told (Some files) certified f r e is =
+    rw (told_is f r e) (fault_answer certified files f is)
 
 fault_only : (f : PackFault) → SaysNothing f → IsOfDevices (of_packing f)
 fault_only (packing.Topology f) none = absurd none
@@ -35,34 +45,35 @@ fault_only packing.Read none = tt
 fault_only packing.Write none = tt
 fault_only packing.Memory none = tt
 
-pub only_told : (f : PackFault) (r : Result (Unit {0}) RunFault) → SaysNothing f → r ≡ Told f
+pub only_told : (f : PackFault) (r : Result (Unit {0}) RunFault) → IsTold f r → SaysNothing f
     → IfErr r IsOfDevices
-only_told f r none e = rw (e) (fault_only f none)
+only_told f r e none = rw (told_is f r e) (fault_only f none)
 
 -- a fault that is told as Write is packing's Write
-pub is_write : (f : PackFault) → of_packing f ≡ Write → f ≡ packing.Write
-is_write (packing.Topology f) e = absurd cc
-is_write packing.TooLarge e = absurd cc
-is_write packing.Read e = absurd cc
-is_write packing.Write e = refl
-is_write packing.Memory e = absurd cc
+written : (f : PackFault) → of_packing f ≡ Write → f ≡ packing.Write
+written (packing.Topology f) e = absurd cc
+written packing.TooLarge e = absurd cc
+written packing.Read e = absurd cc
+written packing.Write e = refl
+written packing.Memory e = absurd cc
 
 abbrev Packed : PackFault → Result (Unit {0}) PackFault
 Packed f = Err f
 
-pub part_told : (f : PackFault) (r : Result (Unit {0}) RunFault) (P : Type 0)
-    → (Packed f ≡ Packed packing.Write → P) → r ≡ Told f → r ≡ Err Write → P
-part_told f r P packed e write =
+pub part_told : (f : PackFault) (r : Result (Unit {0}) RunFault) (P : Type 0) → IsTold f r
+    → (Packed f ≡ Packed packing.Write → P) → r ≡ Err Write → P
+part_told f r P e packed write =
+    let is = told_is f r e in
     let same : of_packing f ≡ Write = cc in
-    packed (ap Packed (is_write f same))
+    packed (ap Packed (written f same))
 
-pub unwritten_told : (f : PackFault) (r : Result (Unit {0}) RunFault) (P : Type 0)
-    → (f ≢ packing.Write → P) → r ≡ Told f → IfErr r (λ fault. fault ≢ Write → P)
-unwritten_told f r P packed e =
-    rw (e) (λ other. packed (λ is. other (ap of_packing is)))
+pub unwritten_told : (f : PackFault) (r : Result (Unit {0}) RunFault) (P : Type 0) → IsTold f r
+    → (f ≢ packing.Write → P) → IfErr r (λ fault. fault ≢ Write → P)
+unwritten_told f r P e packed =
+    rw (told_is f r e) (λ other. packed (λ is. other (ap of_packing is)))
 
 fault_reads : (f : PackFault) (before : ℕ) → failed_files {X = Unit {0}} (Err f) before
-    ≡ failed_file_reads (Told f) before
+    ≡ counted is_read (Told f) before
 fault_reads (packing.Topology f) before = refl
 fault_reads packing.TooLarge before = refl
 fault_reads packing.Read before = refl
@@ -70,19 +81,17 @@ fault_reads packing.Write before = refl
 fault_reads packing.Memory before = refl
 
 fault_writes : (f : PackFault) (before : ℕ) → failed_writes {X = Unit {0}} (Err f) before
-    ≡ failed_pack_writes (Told f) before
+    ≡ counted is_write (Told f) before
 fault_writes (packing.Topology f) before = refl
 fault_writes packing.TooLarge before = refl
 fault_writes packing.Read before = refl
 fault_writes packing.Write before = refl
 fault_writes packing.Memory before = refl
 
-pub reads_told : (f : PackFault) (r : Result (Unit {0}) RunFault) (before after : ℕ)
-    → after ≡ failed_files {X = Unit {0}} (Err f) before → r ≡ Told f
-    → after ≡ failed_file_reads r before
-reads_told f r before after is e = rw (e) (is ∙ fault_reads f before)
+pub reads_told : (f : PackFault) (r : Result (Unit {0}) RunFault) (before after : ℕ) → IsTold f r
+    → after ≡ failed_files {X = Unit {0}} (Err f) before → after ≡ counted is_read r before
+reads_told f r before after e is = rw (told_is f r e) (is ∙ fault_reads f before)
 
-pub writes_told : (f : PackFault) (r : Result (Unit {0}) RunFault) (before after : ℕ)
-    → after ≡ failed_writes {X = Unit {0}} (Err f) before → r ≡ Told f
-    → after ≡ failed_pack_writes r before
-writes_told f r before after is e = rw (e) (is ∙ fault_writes f before)
+pub writes_told : (f : PackFault) (r : Result (Unit {0}) RunFault) (before after : ℕ) → IsTold f r
+    → after ≡ failed_writes {X = Unit {0}} (Err f) before → after ≡ counted is_write r before
+writes_told f r before after e is = rw (told_is f r e) (is ∙ fault_writes f before)

@@ -1,11 +1,10 @@
 -- A run reads one byte more than the greatest list, and so sees whether the input is too large.
-use Rattle.std.proofs.Common.{◌≡◌, ℕ, ◌<◌, ◌≤◌, Bool, true, false, List, length, take, ◌⊎◌, inl}
+use Rattle.std.proofs.Common.{◌≡◌, ℕ, ◌<◌, ◌≤◌, Bool, List, length, take, ◌⊎◌, inl}
 use Rattle.std.proofs.Common.{inr}
 use Rattle.std.proofs.Common.{Option, Some, None, Result, Ok, Err, refl, sym, ap, subst, ◌∙◌, arith}
 use Rattle.std.proofs.Common.{length-take}
-use Rattle.std.specs.Prelude.{IfSome, IsTrue, ◌↔◌, IsErrAnd, OnErr, OnOk, is_ok}
+use Rattle.std.specs.Prelude.{IfSome, IsTrue, ◌↔◌, IsErrAnd}
 use Rattle.mc_run.specs.declared.fault.RunFault.{RunFault}
-use Rattle.mc_run.specs.declared.fault.RunFault.TheVariants.{Write}
 use Rattle.std.proofs.lemmas.Bool.{cases_lt, lt-ltb}
 use Rattle.std.proofs.lemmas.List.{take_all}
 use Rattle.mc_igmp.specs.declared.record.Record.{Record}
@@ -98,19 +97,3 @@ pub refused_run : (told : Option (List ℕ)) (taken : List ℕ) (group source : 
 refused_run told taken group source f (Ok wanted) is read why = absurd is
 refused_run told taken group source f (Err fault) is read why =
     rw is (refused_list told taken group source f read why)
-
--- what a call says of its failing, where it failed
-pub where_failed : {X E : Type 0} (r : Result X E) (P : Type 0) → is_ok r ≡ false → OnErr r P → P
-where_failed (Ok x) P failed says = absurd cc
-where_failed (Err e) P failed says = says
-
--- what a call says of its success, where it succeeded
-pub where_succeeded : {X E : Type 0} (r : Result X E) (P : Type 0) → is_ok r ≡ true → OnOk r P → P
-where_succeeded (Ok x) P done says = says
-where_succeeded (Err e) P done says = absurd cc
-
--- a run whose output failed says nothing of the list
-pub write_failed : (told : Option (List ℕ)) (group source : ℕ) (r : Result Bool RunFault)
-    → r ≡ Err Write → IfSome told (λ text. Answers text group source r)
-write_failed None group source r is = tt
-write_failed (Some text) group source r is = rw is tt

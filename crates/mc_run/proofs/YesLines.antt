@@ -14,6 +14,7 @@ use Rattle.mc_run.specs.CheckRun.{IsLineStart, IsVerdictText, WroteYes}
 use Rattle.mc_run.specs.MakeRun.{are_certified}
 use Rattle.mc_run.specs.VerdictText.{are_yes, flow_line, flow_lines, last_line}
 use Rattle.mc_run.proofs.AuditLines.{audit_says}
+use Rattle.mc_run.proofs.RunLemmas.{HasYes}
 use Rattle.mc_run.proofs.VerdictLines.{body, line-body, lines_say}
 
 -- ---- a line begins after whole lines
@@ -48,18 +49,25 @@ written_yes old front written starts is =
 pub verdict_says : (text written old : List ℕ) → IsVerdictText text true written
     → WroteYes (Some old) (Some (old ++ written))
 verdict_says text written old v =
-    let front = flow_lines v.domain.topology v.domain.topology.flows v.verdicts in
-    written_yes old front written
-    (flows_end v.domain.topology v.domain.topology.flows v.verdicts)
-    (v.spelled ∙ ap (λ all. front ++ last_line all) (sym v.answer))
+    let t = v.domain.domain.topology in
+    let front = flow_lines t t.flows v.holds.verdicts in
+    written_yes old front written (flows_end t t.flows v.holds.verdicts)
+    (v.holds.spelled ∙ ap (λ all. front ++ last_line all) (sym v.holds.answer))
 
 pub verdict_last : (text written front rest : List ℕ) (all : Bool) → IsVerdictText text all written
     → IsLineStart front → written ≡ front ++ (codes "verdict yes" ++ rest)
     → (all ≡ true) × (rest ≡ codes "\n")
 verdict_last text written front rest all v starts is =
-    let said = lines_say v.domain.topology v.domain.topology.flows v.verdicts
-    (are_yes v.verdicts) front rest v.means.domain.rules.topology starts (sym v.spelled ∙ is) in
-    (v.answer ∙ said.0, said.1)
+    let t = v.domain.domain.topology in
+    let said = lines_say t t.flows v.holds.verdicts (are_yes v.holds.verdicts) front rest
+    v.means.domain.rules.topology starts (sym v.holds.spelled ∙ is) in
+    (v.holds.answer ∙ said.0, said.1)
+
+-- so a text of verdicts with these bytes says yes
+pub verdict_yes : (text : List ℕ) (all : Bool) (written : List ℕ) → IsVerdictText text all written
+    → HasYes written → all ≡ true
+verdict_yes text all written v (front, rest, starts, is) =
+    (verdict_last text written front rest all v starts is).0
 
 -- ---- the text of an audit
 
@@ -75,19 +83,24 @@ certified_end travels t (f ∷ fs) (Certified entries ∷ xs) all =
 certified_end travels t (f ∷ fs) (Found ttl travel ∷ xs) all = absurd cc
 
 pub audit_yes : (files : List FileText) (travels : Bool) (written old : List ℕ)
-    → IsAuditText files travels true written → WroteYes (Some old) (Some (old ++ written))
+    → IsAuditText travels files true written → WroteYes (Some old) (Some (old ++ written))
 audit_yes files travels written old a =
     let t = a.domain.topology in
-    let front = flows_told travels t t.flows a.audited.examined in
+    let front = flows_told travels t t.flows a.holds.examined in
     written_yes old front written
-    (certified_end travels t t.flows a.audited.examined (sym a.audited.answer))
-    (a.audited.spelled ∙ ap (λ all. front ++ last_line all) (sym a.audited.answer))
+    (certified_end travels t t.flows a.holds.examined (sym a.holds.answer))
+    (a.holds.spelled ∙ ap (λ all. front ++ last_line all) (sym a.holds.answer))
 
 pub audit_last : (files : List FileText) (travels all : Bool) (written front rest : List ℕ)
-    → IsAuditText files travels all written → IsLineStart front
+    → IsAuditText travels files all written → IsLineStart front
     → written ≡ front ++ (codes "verdict yes" ++ rest) → (all ≡ true) × (rest ≡ codes "\n")
 audit_last files travels all written front rest a starts is =
-    let said = audit_says travels a.domain.topology a.audited.examined
-    (are_certified a.audited.examined) front rest a.means.rules.topology starts
-    (sym a.audited.spelled ∙ is) in
-    (a.audited.answer ∙ said.0, said.1)
+    let said = audit_says travels a.domain.topology a.holds.examined
+    (are_certified a.holds.examined) front rest a.means.rules.topology starts
+    (sym a.holds.spelled ∙ is) in
+    (a.holds.answer ∙ said.0, said.1)
+
+pub audit_says_yes : (travels : Bool) (files : List FileText) (all : Bool) (written : List ℕ)
+    → IsAuditText travels files all written → HasYes written → all ≡ true
+audit_says_yes travels files all written a (front, rest, starts, is) =
+    (audit_last files travels all written front rest a starts is).0

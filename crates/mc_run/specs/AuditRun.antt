@@ -1,9 +1,6 @@
 -- What `mcaudit audit` answers and writes, and what its yes is worth.
-use Rattle.std.specs.Prelude.{◌≡◌, ◌↔◌, ℕ, ◌<◌, Bool, true, false, IsTrue, List, [], ◌∷◌, ◌++◌}
-use Rattle.std.specs.Prelude.{flat_map, length, slice_get, ◌⊎◌}
-use Rattle.std.specs.Prelude.{Option, Some, Result, Ok, Err}
-use Rattle.std.specs.Io.KnownBytes.{Appends}
-use Rattle.mc_text.specs.Device.{AppendsPart}
+use Rattle.std.specs.Prelude.{◌≡◌, ℕ, Bool, true, false, List, [], ◌∷◌, ◌++◌, flat_map, length}
+use Rattle.std.specs.Prelude.{slice_get, Some, ◌⊎◌}
 use Rattle.mc_files.specs.Files.{FileText}
 use Rattle.mc_topology.specs.declared.flow.Flow.{Flow}
 use Rattle.mc_topology.specs.Topology.{TopologyValue}
@@ -18,11 +15,11 @@ use Rattle.mc_maker.specs.Examined.{FindsFault, IfCertified, IsTravelOfFirst, Is
 use Rattle.mc_maker.specs.Examined.{is_certified}
 use Rattle.mc_maker.specs.declared.examination.Examined.{Examined}
 use Rattle.mc_maker.specs.declared.examination.Examined.TheVariants.{Certified, Found}
-use Rattle.mc_run.specs.declared.fault.RunFault.{RunFault}
 use Rattle.mc_run.specs.CheckRun.{KeepsHeadline}
-use Rattle.mc_run.specs.FilesMeaning.{MeansFiles, AreRefusedFor}
-use Rattle.mc_run.specs.MakeRun.{AreExamined, IsExamined, are_certified, found_lines, lists_of}
-use Rattle.mc_run.specs.MakeRun.{no_certificate_line}
+use Rattle.mc_run.specs.FilesMeaning.{MeansFiles}
+use Rattle.mc_run.specs.MakeRun.{AreExamined, AreRight, IsExamined, are_certified, found_lines}
+use Rattle.mc_run.specs.MakeRun.{lists_of, no_certificate_line}
+use Rattle.mc_run.specs.OfDomain.{OfDomain}
 use Rattle.mc_run.specs.ReplayRun.{event_lines}
 use Rattle.mc_run.specs.VerdictText.{flow_line, last_line}
 
@@ -79,59 +76,33 @@ pub record IsAudited (d : DomainValue) (travels all : Bool) (written : List ℕ)
   pub answer : all ≡ are_certified examined
   pub spelled : written ≡ audit_text travels d.topology examined
 
--- ---- answers
-
--- The files mean a domain, and this is written of it.
-pub record IsAuditText (files : List FileText) (travels all : Bool) (written : List ℕ)
-    : Type 0 where
-  pub domain : DomainValue
-  pub means : MeansFiles files domain
-  pub audited : IsAudited domain travels all written
-
--- the answer is whether all flows are certified, or the files' first fault
-abbrev pub Answers : List FileText → (travels : Bool) → Result Bool RunFault → Type 0
-Answers files travels (Ok all) = (written : List ℕ) × IsAuditText files travels all written
-Answers files travels (Err fault) = AreRefusedFor files fault
-
--- the text was written whole
-abbrev pub WritesAudit : List FileText → (travels all : Bool) → Option (List ℕ)
-    → Option (List ℕ) → Type 0
-WritesAudit files travels all old new =
-    (written : List ℕ) × IsAuditText files travels all written × Appends old new written
-
--- a proper part of it was written, from its front
-abbrev pub WritesPartOfAudit : List FileText → (travels : Bool) → Option (List ℕ)
-    → Option (List ℕ) → Type 0
-WritesPartOfAudit files travels old new =
-    (all : Bool) × (written : List ℕ) × IsAuditText files travels all written
-    × AppendsPart old new written
+-- the files mean a domain, and this is written of it
+abbrev pub IsAuditText : (travels : Bool) → List FileText → Bool → List ℕ → Type 0
+IsAuditText travels files all written =
+    OfDomain MeansFiles (λ d. IsAudited d travels all written) files
 
 -- ---- what that says of the flows
 
 -- The lines say of a flow that it has a certificate, with so many copies, where it is right, and
 -- else that it has none.
-pub record SaysIfRight (t : TopologyValue) (f : Flow) (n : Net) (lines : List ℕ) : Type 0 where
+pub record SaysFlowRight (t : TopologyValue) (f : Flow) (n : Net) (lines : List ℕ) : Type 0 where
   pub right : IsRight n → (copies : ℕ) × (lines ≡ flow_line t f (Yes copies))
   pub wrong : ¬ IsRight n → (more : List ℕ) × (lines ≡ no_certificate_line f ++ more)
 
--- The files mean a domain, and this was written: for each flow lines that say whether it is right,
--- and last whether all are.
-pub record SaysWhichAreRight (files : List FileText) (all : Bool) (written : List ℕ) : Type 0 where
-  pub domain : DomainValue
+-- This was written of the domain: for each flow lines that say whether it is right, and last
+-- whether all are.
+pub record TellsWhichAreRight (d : DomainValue) (all : Bool) (written : List ℕ) : Type 0 where
   pub lines : List (List ℕ)
-  pub means : MeansFiles files domain
-  pub count : length lines ≡ length domain.topology.flows
-  pub each : (flow : ℕ) (f : Flow) (ls : List ℕ) → slice_get domain.topology.flows flow ≡ Some f
-      → slice_get lines flow ≡ Some ls → SaysIfRight domain.topology f (net_of domain flow) ls
+  pub count : length lines ≡ length d.topology.flows
+  pub each : (flow : ℕ) (f : Flow) (ls : List ℕ) → slice_get d.topology.flows flow ≡ Some f
+      → slice_get lines flow ≡ Some ls → SaysFlowRight d.topology f (net_of d flow) ls
   pub spelled : written ≡ flat_map (λ ls. ls) lines ++ last_line all
-  pub answer : IsTrue all
-      ↔ ((flow : ℕ) → flow < length domain.topology.flows → IsRight (net_of domain flow))
+  pub answer : AreRight d all
 
--- that was written whole
-abbrev pub WritesWhichAreRight : List FileText → (all : Bool) → Option (List ℕ)
-    → Option (List ℕ) → Type 0
-WritesWhichAreRight files all old new =
-    (written : List ℕ) × SaysWhichAreRight files all written × Appends old new written
+-- the files mean a domain of which that was written
+abbrev pub SaysWhichAreRight : List FileText → Bool → List ℕ → Type 0
+SaysWhichAreRight files all written =
+    OfDomain MeansFiles (λ d. TellsWhichAreRight d all written) files
 
 -- The lines say yes to the flow with so many copies, and so it is: the flow is right, the checker
 -- accepts a list of so many entries, and the headline holds with so many named.
@@ -155,35 +126,27 @@ pub record SaysWhatIsFound (d : DomainValue) (flow : ℕ) (f : Flow) (travels : 
   pub spelled : lines ≡ found_lines d.topology f ttl travel.finding
       ++ events_told travels d.topology travel
 
--- The files mean a domain, and this is written of it: for each flow in order lines that say the one
--- or the other of it, and the last line.
-pub record SaysOfEach (files : List FileText) (travels : Bool) (written : List ℕ) : Type 0 where
-  pub domain : DomainValue
+-- This is written of the domain: for each flow in order lines that say the one or the other of it,
+-- and the line that says whether all are certified.
+pub record TellsOfEach (d : DomainValue) (travels all : Bool) (written : List ℕ) : Type 0 where
   pub lines : List (List ℕ)
-  pub all : Bool
-  pub means : MeansFiles files domain
-  pub count : length lines ≡ length domain.topology.flows
-  pub each : (flow : ℕ) (f : Flow) (ls : List ℕ) → slice_get domain.topology.flows flow ≡ Some f
+  pub count : length lines ≡ length d.topology.flows
+  pub each : (flow : ℕ) (f : Flow) (ls : List ℕ) → slice_get d.topology.flows flow ≡ Some f
       → slice_get lines flow ≡ Some ls
-      → SaysYesOf domain flow f ls ⊎ SaysWhatIsFound domain flow f travels ls
+      → SaysYesOf d flow f ls ⊎ SaysWhatIsFound d flow f travels ls
   pub spelled : written ≡ flat_map (λ ls. ls) lines ++ last_line all
 
--- that was written whole,
-abbrev pub WritesOfEach : List FileText → (travels : Bool) → Option (List ℕ) → Option (List ℕ)
-    → Type 0
-WritesOfEach files travels old new =
-    (written : List ℕ) × SaysOfEach files travels written × Appends old new written
+-- the files mean a domain of which that is written
+abbrev pub SaysOfEach : (travels : Bool) → List FileText → Bool → List ℕ → Type 0
+SaysOfEach travels files all written =
+    OfDomain MeansFiles (λ d. TellsOfEach d travels all written) files
 
--- or a proper part of it, from its front
-abbrev pub WritesPartOfEach : List FileText → (travels : Bool) → Option (List ℕ)
-    → Option (List ℕ) → Type 0
-WritesPartOfEach files travels old new =
-    (written : List ℕ) × SaysOfEach files travels written × AppendsPart old new written
-
--- The files mean a domain, each of whose flows has a list for which the headline holds.
-pub record HeadlineOf (files : List FileText) : Type 0 where
-  pub domain : DomainValue
+-- Each of the domain's flows has a list for which the headline holds.
+pub record KeepsByLists (d : DomainValue) : Type 0 where
   pub examined : List Examined
-  pub means : MeansFiles files domain
-  pub are_examined : AreExamined domain examined
-  pub keeps : KeepsHeadline domain (lists_of examined)
+  pub are_examined : AreExamined d examined
+  pub keeps : KeepsHeadline d (lists_of examined)
+
+-- the files mean a domain of which that holds
+abbrev pub HeadlineOf : List FileText → Type 0
+HeadlineOf = OfDomain MeansFiles KeepsByLists

@@ -1,6 +1,6 @@
 -- What a bundle means to a run: a domain, and the lists of a certificate for its flows; or why it
 -- is refused.
-use Rattle.std.specs.Prelude.{◌≡◌, ℕ, Bool, IsTrue, List, Option, Some, Err, ⊤}
+use Rattle.std.specs.Prelude.{◌≡◌, ℕ, Bool, IsTrue, List, Option, Some, None, Err, ⊤}
 use Rattle.mc_forward.specs.Domains.{DomainValue, IsDomain}
 use Rattle.mc_forward.specs.Assembling.{IsAssembled}
 use Rattle.mc_cert.specs.Certificate.{Tree}
@@ -26,12 +26,25 @@ pub record MeansDomain (text : List ℕ) (certificate : Option (List ℕ)) (d : 
   pub assembled : IsAssembled input.topology input.tables input.reports d
   pub rules : IsDomain d
 
+-- the same, where there is to be none
+abbrev pub MeansUncertified : List ℕ → DomainValue → Type 0
+MeansUncertified text d = MeansDomain text None d
+
 -- The bundle's parts tell the domain, and its certificate a list of entries for each of the
 -- domain's flows.
 pub record MeansCertified (text : List ℕ) (d : DomainValue) (lists : List Tree) : Type 0 where
   pub certificate : List ℕ
   pub domain : MeansDomain text (Some certificate) d
   pub lists_stand : CertificateStands d.topology certificate lists
+
+-- a domain, and a list of entries for each of its flows,
+pub record CertifiedDomain : Type 0 where
+  pub domain : DomainValue
+  pub lists : List Tree
+
+-- and that a bundle means them
+abbrev pub MeansWithLists : List ℕ → CertifiedDomain → Type 0
+MeansWithLists text c = MeansCertified text c.domain c.lists
 
 -- ---- why it is refused
 

@@ -1,14 +1,13 @@
 -- What `mcaudit check` answers and writes, and what its yes is worth.
 use Rattle.std.specs.Prelude.{◌≡◌, ℕ, ◌<◌, Bool, true, List, [], ◌∷◌, ◌++◌, codes, length, ◌⊎◌}
-use Rattle.std.specs.Prelude.{Option, Some, Result, Ok, Err}
-use Rattle.std.specs.Io.KnownBytes.{Appends}
-use Rattle.mc_text.specs.Device.{AppendsPart}
+use Rattle.std.specs.Prelude.{Option, Some, Result, Ok}
 use Rattle.mc_theory.specs.Headline.{HeadlineHolds}
 use Rattle.mc_forward.specs.Domains.{DomainValue, net_of}
 use Rattle.mc_cert.specs.Certificate.{Tree, tree_at}
 use Rattle.mc_check.specs.declared.verdict.Verdict.{Verdict}
 use Rattle.mc_run.specs.declared.fault.RunFault.{RunFault}
-use Rattle.mc_run.specs.BundleMeaning.{MeansCertified, IsRefusedFor}
+use Rattle.mc_run.specs.BundleMeaning.{MeansWithLists}
+use Rattle.mc_run.specs.OfDomain.{OfDomain}
 use Rattle.mc_run.specs.VerdictText.{AreVerdicts, are_yes, check_text}
 
 -- ---- answers and texts
@@ -24,30 +23,9 @@ pub record IsTextOfVerdicts (d : DomainValue) (lists : List Tree) (all : Bool) (
 
 -- The text means a domain with a certificate, and this is the text of the verdicts on the domain's
 -- flows, and whether all are yes.
-pub record IsVerdictText (text : List ℕ) (all : Bool) (written : List ℕ) : Type 0 where
-  pub domain : DomainValue
-  pub lists : List Tree
-  pub verdicts : List Verdict
-  pub means : MeansCertified text domain lists
-  pub are_verdicts : AreVerdicts domain lists verdicts
-  pub answer : all ≡ are_yes verdicts
-  pub spelled : written ≡ check_text domain.topology verdicts
-
--- the answer is whether all verdicts are yes, or the text's first fault
-abbrev pub Answers : List ℕ → Result Bool RunFault → Type 0
-Answers text (Ok all) = (written : List ℕ) × IsVerdictText text all written
-Answers text (Err fault) = IsRefusedFor true text fault
-
--- the verdict text was written whole
-abbrev pub WritesVerdicts : List ℕ → Bool → Option (List ℕ) → Option (List ℕ) → Type 0
-WritesVerdicts text all old new =
-    (written : List ℕ) × IsVerdictText text all written × Appends old new written
-
--- a proper part of the verdict text was written, from its front
-abbrev pub WritesPartOfVerdicts : List ℕ → Option (List ℕ) → Option (List ℕ) → Type 0
-WritesPartOfVerdicts text old new =
-    (all : Bool) × (written : List ℕ) × IsVerdictText text all written
-    × AppendsPart old new written
+abbrev pub IsVerdictText : List ℕ → Bool → List ℕ → Type 0
+IsVerdictText text all written =
+    OfDomain MeansWithLists (λ c. IsTextOfVerdicts c.domain c.lists all written) text
 
 -- ---- the headline
 
@@ -75,9 +53,6 @@ KeepsHeadline d lists =
     (flow : ℕ) → flow < length d.topology.flows
     → HeadlineHolds (net_of d flow) (length (tree_at lists flow))
 
--- The text means a domain and a certificate for which that holds.
-pub record HeadlineOf (text : List ℕ) : Type 0 where
-  pub domain : DomainValue
-  pub lists : List Tree
-  pub means : MeansCertified text domain lists
-  pub keeps : KeepsHeadline domain lists
+-- the text means a domain and a certificate for which that holds
+abbrev pub HeadlineOf : List ℕ → Type 0
+HeadlineOf = OfDomain MeansWithLists (λ c. KeepsHeadline c.domain c.lists)

@@ -1,24 +1,23 @@
 -- What a run does to the number of its devices' calls that failed.
-use Rattle.std.specs.Prelude.{ℕ, ◌+◌, Bool, Result, Err, ⊤}
+use Rattle.std.specs.Prelude.{◌≡◌, ℕ, ◌+◌, Bool, true, false, cond, Result, Ok, Err}
 use Rattle.mc_run.specs.declared.fault.RunFault.{RunFault}
 use Rattle.mc_run.specs.declared.fault.RunFault.TheVariants.{Read, Write}
 
--- the input failed once in a run that answers Read, and the output once in one that answers Write
-abbrev pub failed_reads : Result Bool RunFault → ℕ → ℕ
-failed_reads (Err Read) before = before + 1
-failed_reads _ before = before
+-- a device's count after a call, which rises by one where the call answers a fault of its own
+abbrev pub counted : {X E : Type 0} → (E → Bool) → Result X E → ℕ → ℕ
+counted is_own (Ok x) before = before
+counted is_own (Err e) before = cond (is_own e) (before + 1) before
 
-abbrev pub failed_writes : Result Bool RunFault → ℕ → ℕ
-failed_writes (Err Write) before = before + 1
-failed_writes _ before = before
+-- the input, or the files, failed once in a run that answers Read,
+abbrev pub is_read : RunFault → Bool
+is_read Read = true
+is_read _ = false
 
--- the files failed once in a step that answers Read
-abbrev pub failed_by : {X : Type 0} → Result X RunFault → ℕ → ℕ
-failed_by (Err Read) before = before + 1
-failed_by _ before = before
+-- and the output once in one that answers Write
+abbrev pub is_write : RunFault → Bool
+is_write Write = true
+is_write _ = false
 
 -- it is no fault of a device
 abbrev pub IsNoDeviceFault : RunFault → Type 0
-IsNoDeviceFault Read = ⊥
-IsNoDeviceFault Write = ⊥
-IsNoDeviceFault _ = ⊤
+IsNoDeviceFault fault = (is_read fault ≡ false) × (is_write fault ≡ false)

@@ -4,9 +4,11 @@ pub mod CheckRun
 pub mod Failures
 pub mod FilesMeaning
 pub mod MakeRun
+pub mod OfDomain
 pub mod PackingRun
 pub mod ReplayRun
 pub mod RunFault
+pub mod Said
 pub mod VerdictText
 pub mod WantsRun
 pub use Rattle.mc_text.specs.Addr

@@ -1,12 +1,10 @@
 -- What `mcaudit make` answers and writes.
 use Rattle.std.specs.Prelude.{◌≡◌, ◌↔◌, ℕ, ◌<◌, Bool, true, false, All, IsTrue, List, [], ◌∷◌, ◌++◌}
 use Rattle.std.specs.Prelude.{codes, decimal}
-use Rattle.std.specs.Prelude.{length, map, slice_get, Option, Some, None, Result, Ok, Err}
+use Rattle.std.specs.Prelude.{length, map, slice_get, Some}
 use Rattle.std.specs.List.{list_all}
 use Rattle.std.specs.List.Sorted.{IsStrictlyIncreasing}
-use Rattle.std.specs.Io.KnownBytes.{Appends}
 use Rattle.mc_text.specs.Bundle.{PartText}
-use Rattle.mc_text.specs.Device.{AppendsPart}
 use Rattle.mc_topology.specs.declared.flow.Flow.{Flow}
 use Rattle.mc_topology.specs.Topology.{TopologyValue}
 use Rattle.mc_theory.specs.Certificates.{IsAccepted, IsRight}
@@ -20,8 +18,8 @@ use Rattle.mc_maker.specs.Examined.{FindsFault, IfCertified, IfFound, IsOfTravel
 use Rattle.mc_maker.specs.Examined.{IsTtlOfFault, is_certified}
 use Rattle.mc_maker.specs.declared.examination.Examined.{Examined}
 use Rattle.mc_maker.specs.declared.examination.Examined.TheVariants.{Certified, Found}
-use Rattle.mc_run.specs.declared.fault.RunFault.{RunFault}
-use Rattle.mc_run.specs.BundleMeaning.{MeansDomain, IsRefusedFor}
+use Rattle.mc_run.specs.BundleMeaning.{MeansUncertified}
+use Rattle.mc_run.specs.OfDomain.{OfDomain}
 use Rattle.mc_run.specs.VerdictText.{flow_words}
 
 -- ---- examinations
@@ -104,36 +102,18 @@ pub record IsTextOfMade (d : DomainValue) (certified : Bool) (written : List ℕ
 
 -- The text means a domain, and this is what is written of its flows' examinations, and whether that
 -- is a certificate.
-pub record IsMadeText (text : List ℕ) (certified : Bool) (written : List ℕ) : Type 0 where
-  pub domain : DomainValue
-  pub examined : List Examined
-  pub means : MeansDomain text None domain
-  pub are_examined : AreExamined domain examined
-  pub answer : certified ≡ are_certified examined
-  pub spelled : written ≡ made_text certified domain.topology examined
+abbrev pub IsMadeText : List ℕ → Bool → List ℕ → Type 0
+IsMadeText text certified written =
+    OfDomain MeansUncertified (λ d. IsTextOfMade d certified written) text
 
--- The text means a domain, and this says whether every flow that its topology lists is right.
-pub record SaysIfRight (text : List ℕ) (certified : Bool) : Type 0 where
-  pub domain : DomainValue
-  pub means : MeansDomain text None domain
-  pub right : IsTrue certified
-      ↔ ((flow : ℕ) → flow < length domain.topology.flows → IsRight (net_of domain flow))
+-- this says whether every flow that the domain's topology lists is right
+abbrev pub AreRight : DomainValue → Bool → Type 0
+AreRight d all =
+    IsTrue all ↔ ((flow : ℕ) → flow < length d.topology.flows → IsRight (net_of d flow))
 
--- the answer is whether a certificate is written, or the text's first fault
-abbrev pub Answers : List ℕ → Result Bool RunFault → Type 0
-Answers text (Ok certified) = (written : List ℕ) × IsMadeText text certified written
-Answers text (Err fault) = IsRefusedFor false text fault
-
--- the certificate or the lines were written whole
-abbrev pub WritesMade : List ℕ → Bool → Option (List ℕ) → Option (List ℕ) → Type 0
-WritesMade text certified old new =
-    (written : List ℕ) × IsMadeText text certified written × Appends old new written
-
--- a proper part was written, from its front
-abbrev pub WritesPartOfMade : List ℕ → Option (List ℕ) → Option (List ℕ) → Type 0
-WritesPartOfMade text old new =
-    (certified : Bool) × (written : List ℕ) × IsMadeText text certified written
-    × AppendsPart old new written
+-- the text means a domain of which this says so
+abbrev pub SaysAllRight : List ℕ → Bool → Type 0
+SaysAllRight text all = OfDomain MeansUncertified (λ d. AreRight d all) text
 
 -- ---- with the certificate
 

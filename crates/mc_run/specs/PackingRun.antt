@@ -1,5 +1,5 @@
 -- What `mcaudit pack` answers.
-use Rattle.std.specs.Prelude.{◌≡◌, ℕ, ◌+◌, Bool, List, Result, Ok, Err, ⊤}
+use Rattle.std.specs.Prelude.{◌≡◌, Bool, List, Result, Ok, Err, ⊤}
 use Rattle.mc_text.specs.Bundle.{PartText}
 use Rattle.mc_text.specs.declared.bundle_fault.BundleFault.TheVariants as bundle
 use Rattle.mc_files.specs.Files.{FileText}
@@ -37,12 +37,3 @@ IsOfDevices Read = ⊤
 IsOfDevices Write = ⊤
 IsOfDevices Memory = ⊤
 IsOfDevices _ = ⊥
-
--- the files failed once in a run that answers Read, and the output once in one that answers Write
-abbrev pub failed_file_reads : Result (Unit {0}) RunFault → ℕ → ℕ
-failed_file_reads (Err Read) before = before + 1
-failed_file_reads _ before = before
-
-abbrev pub failed_pack_writes : Result (Unit {0}) RunFault → ℕ → ℕ
-failed_pack_writes (Err Write) before = before + 1
-failed_pack_writes _ before = before

@@ -1,10 +1,8 @@
 -- What `mcaudit replay` answers and writes.
 use Rattle.std.specs.Prelude.{◌≡◌, ℕ, ◌+◌, ◌<◌, ◌⊎◌, Bool, true, false, List, [], ◌∷◌, ◌++◌, codes}
 use Rattle.std.specs.Prelude.{decimal, length}
-use Rattle.std.specs.Prelude.{Option, Some, None, Result, Ok, Err, slice_get}
-use Rattle.std.specs.Io.KnownBytes.{Appends}
+use Rattle.std.specs.Prelude.{Some, slice_get}
 use Rattle.mc_text.specs.Addr.{dotted}
-use Rattle.mc_text.specs.Device.{AppendsPart}
 use Rattle.mc_topology.specs.declared.flow.Flow.{Flow}
 use Rattle.mc_topology.specs.Topology.{TopologyValue}
 use Rattle.mc_theory.specs.Events.{Event}
@@ -18,7 +16,8 @@ use Rattle.mc_replay.specs.declared.finding.Finding.TheVariants.{Missed}
 use Rattle.mc_replay.specs.declared.travel.Travel.{Travel}
 use Rattle.mc_run.specs.declared.fault.RunFault.{RunFault}
 use Rattle.mc_run.specs.declared.fault.RunFault.TheVariants.{Memory, NoSuchFlow}
-use Rattle.mc_run.specs.BundleMeaning.{MeansDomain, IsRefusedFor}
+use Rattle.mc_run.specs.BundleMeaning.{MeansUncertified, IsRefusedFor}
+use Rattle.mc_run.specs.OfDomain.{OfDomain}
 
 -- ---- the text
 
@@ -73,47 +72,17 @@ HasNoTravel d flow fault =
     ((fault ≡ NoSuchFlow flow) × ((flow ≡ 0) ⊎ (length d.topology.flows < flow)))
     ⊎ (fault ≡ Memory)
 
--- The text means a domain, whose topology lists the flow with this number, counted from 1; and this
--- is the text of the travel of a packet of that flow with this TTL, by the picker's choices, and
--- whether it is clean.
-pub record IsTravelText (text : List ℕ) (flow ttl : ℕ) (choices : Choices) (clean : Bool)
-    (written : List ℕ) : Type 0 where
-  pub domain : DomainValue
-  pub place : ℕ
-  pub listed : Flow
-  pub travel : Travel
-  pub means : MeansDomain text None domain
-  pub counted : flow ≡ place + 1
-  pub stands : slice_get domain.topology.flows place ≡ Some listed
-  pub runs : IsRunOfChoices (replay_of domain place ttl choices) travel
-  pub answer : clean ≡ is_clean travel.finding
-  pub spelled : written ≡ replay_text domain.topology listed ttl travel
+-- The text means a domain, of which this is the text of that travel, and whether it is clean.
+abbrev pub IsTravelText : (flow ttl : ℕ) → Choices → List ℕ → Bool → List ℕ → Type 0
+IsTravelText flow ttl choices text clean written =
+    OfDomain MeansUncertified (λ d. IsTextOfTravel d flow ttl choices clean written) text
 
 -- The text means a domain, whose topology lists no flow with this number, counted from 1.
-pub record HasNoFlow (text : List ℕ) (flow : ℕ) : Type 0 where
-  pub domain : DomainValue
-  pub means : MeansDomain text None domain
-  pub none : (flow ≡ 0) ⊎ (length domain.topology.flows < flow)
+abbrev pub HasNoFlow : (flow : ℕ) → List ℕ → Type 0
+HasNoFlow flow =
+    OfDomain MeansUncertified (λ d. (flow ≡ 0) ⊎ (length d.topology.flows < flow))
 
 -- the text's first fault, or that its topology lists no such flow
-abbrev pub IsReplayRefused : List ℕ → (flow : ℕ) → RunFault → Type 0
-IsReplayRefused text flow (NoSuchFlow number) = (number ≡ flow) × HasNoFlow text flow
-IsReplayRefused text flow fault = IsRefusedFor false text fault
-
-abbrev pub Answers : List ℕ → (flow ttl : ℕ) → Choices → Result Bool RunFault → Type 0
-Answers text flow ttl choices (Ok clean) =
-    (written : List ℕ) × IsTravelText text flow ttl choices clean written
-Answers text flow ttl choices (Err fault) = IsReplayRefused text flow fault
-
--- the travel's text was written whole
-abbrev pub WritesTravel : List ℕ → (flow ttl : ℕ) → Choices → Bool → Option (List ℕ)
-    → Option (List ℕ) → Type 0
-WritesTravel text flow ttl choices clean old new =
-    (written : List ℕ) × IsTravelText text flow ttl choices clean written × Appends old new written
-
--- a proper part of it was written, from its front
-abbrev pub WritesPartOfTravel : List ℕ → (flow ttl : ℕ) → Choices → Option (List ℕ)
-    → Option (List ℕ) → Type 0
-WritesPartOfTravel text flow ttl choices old new =
-    (clean : Bool) × (written : List ℕ) × IsTravelText text flow ttl choices clean written
-    × AppendsPart old new written
+abbrev pub IsReplayRefused : (flow : ℕ) → List ℕ → RunFault → Type 0
+IsReplayRefused flow text (NoSuchFlow number) = (number ≡ flow) × HasNoFlow flow text
+IsReplayRefused flow text fault = IsRefusedFor false text fault

@@ -2,7 +2,7 @@
 //! and what a packet of each other one meets.
 
 ghost use Rattle.std.specs.Prelude.{◌≡◌, ◌≢◌, ◌++◌, ◌<◌, ◌↔◌, All, IfErr, IfOk, IfSome, IsTrue};
-ghost use Rattle.std.specs.Prelude.{OnOk, Err, Some, length, slice_get};
+ghost use Rattle.std.specs.Prelude.{OnOk, Err, Some, false, length, slice_get};
 ghost use Rattle.std.specs.Result.{IsOkAnd};
 ghost use Rattle.std.specs.String.{string_bytes};
 ghost use Rattle.mc_theory.specs.Certificates.{IsAccepted};
@@ -12,19 +12,19 @@ ghost use Rattle.mc_forward.specs.Assembling.{AreCounted, IsAssembled};
 ghost use Rattle.mc_forward.specs.Domains.{IsDomain, net_of};
 ghost use Rattle.mc_check.specs.Verdicts.{is_yes};
 ghost use Rattle.mc_check.specs.declared.verdict.Verdict.TheVariants.{Yes};
-ghost use Rattle.mc_run.specs.AuditRun.{Answers, HeadlineOf, IsAudited, IsAuditText};
-ghost use Rattle.mc_run.specs.AuditRun.{IsFlowAudited, WritesAudit, WritesOfEach};
-ghost use Rattle.mc_run.specs.AuditRun.{WritesPartOfAudit, WritesPartOfEach};
-ghost use Rattle.mc_run.specs.AuditRun.{WritesWhichAreRight, events_told};
+ghost use Rattle.mc_run.specs.AuditRun.{HeadlineOf, IsAudited, IsAuditText, IsFlowAudited};
+ghost use Rattle.mc_run.specs.AuditRun.{SaysOfEach, SaysWhichAreRight, events_told};
 ghost use Rattle.mc_run.specs.CheckRun.{SaysYes};
-ghost use Rattle.mc_run.specs.Failures.{failed_by, failed_reads, failed_writes};
+ghost use Rattle.mc_run.specs.Failures.{counted, is_read, is_write};
 ghost use Rattle.mc_run.specs.FilesMeaning.{AreRefusedFor, MeansFiles};
 ghost use Rattle.mc_run.specs.MakeRun.{found_lines};
+ghost use Rattle.mc_run.specs.Said.{Answers, Writes, WritesPart};
 ghost use Rattle.mc_run.specs.VerdictText.{flow_line};
 
 use crate::domain_input::assembled;
 use crate::fault::RunFault;
 use crate::found_text::push_found;
+use crate::said::{Said, say};
 use crate::travel_text::push_events;
 use crate::verdict_text::push_verdict;
 use mc_cert::Reached;
@@ -34,7 +34,7 @@ use mc_forward::Domain;
 use mc_input::{FilesInput, read_files};
 use mc_maker::{Examined, examine};
 use mc_replay::Travel;
-use mc_text::{Memory as NoMemory, Output, write_all};
+use mc_text::{Memory as NoMemory, Output};
 use mc_topology::{Flow, Topology};
 use std::alloc::Global;
 
@@ -65,8 +65,8 @@ fn domain_of<F: FileSource>(alloc: Global, files: &mut F) -> Result<Domain, RunF
         IfSome (F.told files.old) (λ told. MeansFiles told domain)) }
     ensures refused { IfErr result (λ fault.
         IfSome (F.told files.old) (λ told. AreRefusedFor told fault)) }
-    ensures no_write { IfErr result (λ fault. fault ≢ RunFault.Write) }
-    ensures failures { F.failed files.new ≡ failed_by result (F.failed files.old) }
+    ensures no_write { IfErr result (λ fault. is_write fault ≡ false) }
+    ensures failures { F.failed files.new ≡ counted is_read result (F.failed files.old) }
 {
     let input = read_files(alloc, files)?;
     domain_with(alloc, input)
@@ -156,16 +156,9 @@ fn push_flow(
     }
 }
 
-/// What is written of a domain, and whether all its flows are certified.
-#[derive(Drop)]
-struct Told {
-    text: String,
-    yes: bool,
-}
-
 /// What is written of each flow of a domain, in order, and last of all.
-fn audit_all(alloc: Global, domain: &Domain, travels: bool) -> Result<Told, NoMemory>
-    ensures { IfOk result (λ told. IsAudited domain.now travels told.yes (string_bytes told.text)) }
+fn audit_all(alloc: Global, domain: &Domain, travels: bool) -> Result<Said, NoMemory>
+    ensures { IfOk result (λ said. IsAudited domain.now travels said.yes (string_bytes said.text)) }
 {
     let mut text = String::new(alloc);
     let mut yes = true;
@@ -174,25 +167,25 @@ fn audit_all(alloc: Global, domain: &Domain, travels: bool) -> Result<Told, NoMe
     }
     let last = if yes { "verdict yes\n" } else { "verdict no\n" };
     text.push_str(last).map_err(|_| NoMemory)?;
-    Ok(Told { text, yes })
+    Ok(Said { text, yes })
 }
 
 /// What is written of the domain that a folder's files tell.
-fn audit_of<F: FileSource>(alloc: Global, files: &mut F, travels: bool) -> Result<Told, RunFault>
+fn audit_of<F: FileSource>(alloc: Global, files: &mut F, travels: bool) -> Result<Said, RunFault>
     requires { F.failed files.old < u64.MAX }
     ensures same { F.names files.new ≡ F.names files.old }
-    ensures text { IfOk result (λ told. IfSome (F.told files.old) (λ files.
-        IsAuditText files travels told.yes (string_bytes told.text))) }
+    ensures text { IfOk result (λ said. IfSome (F.told files.old) (λ files.
+        IsAuditText travels files said.yes (string_bytes said.text))) }
     ensures refused { IfErr result (λ fault.
         IfSome (F.told files.old) (λ files. AreRefusedFor files fault)) }
-    ensures no_write { IfErr result (λ fault. fault ≢ RunFault.Write) }
-    ensures failures { F.failed files.new ≡ failed_by result (F.failed files.old) }
+    ensures no_write { IfErr result (λ fault. is_write fault ≡ false) }
+    ensures failures { F.failed files.new ≡ counted is_read result (F.failed files.old) }
 {
     let domain = domain_of(alloc, files)?;
-    let told = audit_all(alloc, &domain, travels);
+    let said = audit_all(alloc, &domain, travels);
     drop(domain);
-    match told {
-        Ok(told) => Ok(told),
+    match said {
+        Ok(said) => Ok(said),
         Err(_) => Err(RunFault::Memory),
     }
 }
@@ -214,31 +207,30 @@ pub fn run_audit<F: FileSource, W: Output>(
     ensures files_same { F.names files.new ≡ F.names files.old }
     ensures output_same { W.names output.new ≡ W.names output.old }
     // The answer is that of the definition, or the first fault of the files.
-    ensures answer { IfSome (F.told files.old) (λ told. Answers told travels result) }
+    ensures answer { IfSome (F.told files.old) (λ told.
+        Answers (IsAuditText travels) AreRefusedFor told result) }
     // The text is written whole, or a part of it where the output failed, or else nothing.
     ensures written { IfOk result (λ all. IfSome (F.told files.old) (λ told.
-        WritesAudit told travels all (W.took output.old) (W.took output.new))) }
+        Writes (IsAuditText travels) told all (W.took output.old) (W.took output.new))) }
     // Its lines say of a flow that it has no certificate exactly where the flow isn't right, and it
     // ends with yes exactly where every listed flow is right.
     ensures right { IfOk result (λ all. IfSome (F.told files.old) (λ told.
-        WritesWhichAreRight told all (W.took output.old) (W.took output.new))) }
+        Writes SaysWhichAreRight told all (W.took output.old) (W.took output.new))) }
     ensures part { result ≡ Err RunFault.Write → IfSome (F.told files.old) (λ told.
-        WritesPartOfAudit told travels (W.took output.old) (W.took output.new)) }
+        WritesPart (IsAuditText travels) told (W.took output.old) (W.took output.new)) }
     // Of each flow whose lines were written, in the whole or in the part, they are so: a yes of the
     // checker, for which the headline holds, or what a run of its net finds.
     ensures each { IfOk result (λ all. IfSome (F.told files.old) (λ told.
-        WritesOfEach told travels (W.took output.old) (W.took output.new))) }
+        Writes (SaysOfEach travels) told all (W.took output.old) (W.took output.new))) }
     ensures each_in_part { result ≡ Err RunFault.Write → IfSome (F.told files.old) (λ told.
-        WritesPartOfEach told travels (W.took output.old) (W.took output.new)) }
+        WritesPart (SaysOfEach travels) told (W.took output.old) (W.took output.new)) }
     ensures unwritten { IfErr result (λ fault. fault ≢ RunFault.Write → output.new ≡ output.old) }
     // Read and Write come only where the device's failures rose in the call.
-    ensures read_failures { F.failed files.new ≡ failed_reads result (F.failed files.old) }
-    ensures write_failures { W.failed output.new ≡ failed_writes result (W.failed output.old) }
+    ensures read_failures { F.failed files.new ≡ counted is_read result (F.failed files.old) }
+    ensures write_failures { W.failed output.new ≡ counted is_write result (W.failed output.old) }
     // Where the run says yes, the headline holds of what it read.
     ensures headline { SaysYes result (W.took output.old) (W.took output.new)
         → IfSome (F.told files.old) HeadlineOf }
 {
-    let told = audit_of(alloc, files, travels)?;
-    write_all(output, told.text.as_bytes()).map_err(|_| RunFault::Write)?;
-    Ok(told.yes)
+    say(audit_of(alloc, files, travels), output)
 }

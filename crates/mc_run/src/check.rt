@@ -1,25 +1,26 @@
 //! `mcaudit check`: whether a certificate proves that a domain forwards every listed flow as it
 //! should.
 
-ghost use Rattle.std.specs.Prelude.{◌≡◌, ◌≢◌, ◌<◌, IfErr, IfOk, IfSome, IsTrue, Err, true};
+ghost use Rattle.std.specs.Prelude.{◌≡◌, ◌≢◌, ◌<◌, IfErr, IfOk, IfSome, IsTrue, Err, false, true};
 ghost use Rattle.std.specs.String.{string_bytes};
 ghost use Rattle.mc_text.specs.Bundle.{max_input};
 ghost use Rattle.mc_text.specs.ReadFault.{ConsumesUpTo};
 ghost use Rattle.mc_cert.specs.Certificate.{BelongsTo};
 ghost use Rattle.mc_forward.specs.Domains.{IsDomain};
 ghost use Rattle.mc_run.specs.BundleMeaning.{IsRefusedFor, MeansCertified};
-ghost use Rattle.mc_run.specs.CheckRun.{Answers, HeadlineOf, IsTextOfVerdicts, IsVerdictText};
-ghost use Rattle.mc_run.specs.CheckRun.{KeepsHeadline, SaysYes, WritesPartOfVerdicts};
-ghost use Rattle.mc_run.specs.CheckRun.{WritesVerdicts};
-ghost use Rattle.mc_run.specs.Failures.{IsNoDeviceFault, failed_reads, failed_writes};
+ghost use Rattle.mc_run.specs.CheckRun.{HeadlineOf, IsTextOfVerdicts, IsVerdictText};
+ghost use Rattle.mc_run.specs.CheckRun.{KeepsHeadline, SaysYes};
+ghost use Rattle.mc_run.specs.Failures.{IsNoDeviceFault, counted, is_read, is_write};
+ghost use Rattle.mc_run.specs.Said.{Answers, Writes, WritesPart};
 
 use crate::domain_input::{MAX_INPUT, domain_in};
 use crate::fault::RunFault;
+use crate::said::{Said, say};
 use crate::verdict_text::{are_yes, check_text};
 use mc_cert::Certificate;
 use mc_check::check_all;
 use mc_forward::Domain;
-use mc_text::{Input, Output, read_to_limit, write_all};
+use mc_text::{Input, Memory as NoMemory, Output, read_to_limit};
 use std::alloc::Global;
 
 /// A domain, and a certificate of its topology.
@@ -46,37 +47,58 @@ fn certified_in(alloc: Global, text: &[u8]) -> Result<Certified, RunFault>
     })
 }
 
-/// The text of the verdicts, and whether all are yes.
-#[derive(Drop)]
-struct Verdicts {
-    text: String,
-    yes: bool,
+/// The domain and the certificate that an input's bundle tells.
+fn read_certified<R: Input>(alloc: Global, input: &mut R) -> Result<Certified, RunFault>
+    requires { R.failed input.old < u64.MAX }
+    ensures same { R.names input.new ≡ R.names input.old }
+    ensures means { IfOk result (λ read. IfSome (R.told input.old) (λ text.
+        MeansCertified text read.domain read.certificate)) }
+    ensures belongs { IfOk result (λ read. BelongsTo read.domain.topology read.certificate) }
+    ensures refused { IfErr result (λ fault.
+        IfSome (R.told input.old) (λ text. IsRefusedFor true text fault)) }
+    ensures consumed { ConsumesUpTo max_input (R.told input.old) (R.told input.new) }
+    ensures no_write { IfErr result (λ fault. is_write fault ≡ false) }
+    ensures failures { R.failed input.new ≡ counted is_read result (R.failed input.old) }
+{
+    let text = read_to_limit(alloc, input, MAX_INPUT)?;
+    certified_in(alloc, &text)
 }
 
-/// The verdicts on the flows of a domain, by its certificate.
-fn verdicts_of(alloc: Global, read: &Certified) -> Result<Verdicts, RunFault>
+/// The text of the verdicts on the flows of a domain, by its certificate, and whether all are yes.
+fn verdicts_of(alloc: Global, read: &Certified) -> Result<Said, NoMemory>
     requires { BelongsTo read.now.domain.topology read.now.certificate }
-    ensures text { IfOk result (λ told. IsTextOfVerdicts read.now.domain read.now.certificate
-        told.yes (string_bytes told.text)) }
-    ensures headline { IfOk result (λ told.
-        IsTrue told.yes → KeepsHeadline read.now.domain read.now.certificate) }
-    ensures memory { IfErr result (λ fault. fault ≡ RunFault.Memory) }
+    ensures text { IfOk result (λ said. IsTextOfVerdicts read.now.domain read.now.certificate
+        said.yes (string_bytes said.text)) }
+    ensures headline { IfOk result (λ said.
+        IsTrue said.yes → KeepsHeadline read.now.domain read.now.certificate) }
 {
     let verdicts = check_all(alloc, &read.domain, &read.certificate)?;
     let text = check_text(alloc, read.domain.topology(), &verdicts)?;
     let yes = are_yes(&verdicts);
-    Ok(Verdicts { text, yes })
+    Ok(Said { text, yes })
 }
 
-/// The verdicts on the flows of the domain that a bundle tells, by its certificate.
-fn verdicts_on(alloc: Global, text: &[u8]) -> Result<Verdicts, RunFault>
-    ensures text { IfOk result (λ told. IsVerdictText text.now told.yes (string_bytes told.text)) }
-    ensures headline { IfOk result (λ told. IsTrue told.yes → HeadlineOf text.now) }
-    ensures refused { IfErr result (IsRefusedFor true text.now) }
-    ensures no_device { IfErr result IsNoDeviceFault }
+/// The verdicts on the flows of the domain that an input's bundle tells, by its certificate.
+fn verdicts_on<R: Input>(alloc: Global, input: &mut R) -> Result<Said, RunFault>
+    requires { R.failed input.old < u64.MAX }
+    ensures same { R.names input.new ≡ R.names input.old }
+    ensures text { IfOk result (λ said. IfSome (R.told input.old) (λ text.
+        IsVerdictText text said.yes (string_bytes said.text))) }
+    ensures headline { IfOk result (λ said.
+        IsTrue said.yes → IfSome (R.told input.old) HeadlineOf) }
+    ensures refused { IfErr result (λ fault.
+        IfSome (R.told input.old) (λ text. IsRefusedFor true text fault)) }
+    ensures consumed { ConsumesUpTo max_input (R.told input.old) (R.told input.new) }
+    ensures no_write { IfErr result (λ fault. is_write fault ≡ false) }
+    ensures failures { R.failed input.new ≡ counted is_read result (R.failed input.old) }
 {
-    let read = certified_in(alloc, text)?;
-    verdicts_of(alloc, &read)
+    let read = read_certified(alloc, input)?;
+    let said = verdicts_of(alloc, &read);
+    drop(read);
+    match said {
+        Ok(said) => Ok(said),
+        Err(_) => Err(RunFault::Memory),
+    }
 }
 
 /// Reads a bundle with a certificate from the input, at most 268,435,552 bytes, and writes for each
@@ -92,24 +114,22 @@ pub fn run_check<R: Input, W: Output>(
     ensures input_same { R.names input.new ≡ R.names input.old }
     ensures output_same { W.names output.new ≡ W.names output.old }
     // The answer is that of the definition, or the bundle's first fault.
-    ensures answer { IfSome (R.told input.old) (λ text. Answers text result) }
+    ensures answer { IfSome (R.told input.old) (λ text.
+        Answers IsVerdictText (IsRefusedFor true) text result) }
     // No more is read than the greatest bundle and a line, whatever the answer.
     ensures consumed { ConsumesUpTo max_input (R.told input.old) (R.told input.new) }
     // The verdict text is written whole, or a part of it where the output failed, or else nothing.
     ensures written { IfOk result (λ all. IfSome (R.told input.old) (λ text.
-        WritesVerdicts text all (W.took output.old) (W.took output.new))) }
+        Writes IsVerdictText text all (W.took output.old) (W.took output.new))) }
     ensures part { result ≡ Err RunFault.Write → IfSome (R.told input.old) (λ text.
-        WritesPartOfVerdicts text (W.took output.old) (W.took output.new)) }
+        WritesPart IsVerdictText text (W.took output.old) (W.took output.new)) }
     ensures unwritten { IfErr result (λ fault. fault ≢ RunFault.Write → output.new ≡ output.old) }
     // Read and Write come only where the device's failures rose in the call.
-    ensures read_failures { R.failed input.new ≡ failed_reads result (R.failed input.old) }
-    ensures write_failures { W.failed output.new ≡ failed_writes result (W.failed output.old) }
+    ensures read_failures { R.failed input.new ≡ counted is_read result (R.failed input.old) }
+    ensures write_failures { W.failed output.new ≡ counted is_write result (W.failed output.old) }
     // Where the run says yes, the headline holds of what it read.
     ensures headline { SaysYes result (W.took output.old) (W.took output.new)
         → IfSome (R.told input.old) HeadlineOf }
 {
-    let text = read_to_limit(alloc, input, MAX_INPUT)?;
-    let verdicts = verdicts_on(alloc, &text)?;
-    write_all(output, verdicts.text.as_bytes()).map_err(|_| RunFault::Write)?;
-    Ok(verdicts.yes)
+    say(verdicts_on(alloc, input), output)
 }

@@ -1,17 +1,18 @@
 //! What a bundle in memory tells a run: a domain put together, and the text of a certificate.
 
-ghost use Rattle.std.specs.Prelude.{◌≡◌, IfErr, IfOk, is_some};
+ghost use Rattle.std.specs.Prelude.{◌≡◌, ◌<◌, IfErr, IfOk, IfSome, false, is_some};
 ghost use Rattle.mc_forward.specs.Assembling.{AreCounted, IsAssembled};
 ghost use Rattle.mc_forward.specs.Domains.{IsDomain};
 ghost use Rattle.mc_input.specs.InputView.{certificate_seen};
-ghost use Rattle.mc_run.specs.BundleMeaning.{IsRefusedFor, MeansDomain};
-ghost use Rattle.mc_run.specs.Failures.{IsNoDeviceFault};
+ghost use Rattle.mc_text.specs.ReadFault.{ConsumesUpTo};
+ghost use Rattle.mc_run.specs.BundleMeaning.{IsRefusedFor, MeansDomain, MeansUncertified, max_input};
+ghost use Rattle.mc_run.specs.Failures.{IsNoDeviceFault, counted, is_read, is_write};
 
 use crate::fault::RunFault;
 use mc_forward::{Domain, DomainFault, Tables};
 use mc_igmp::ReportList;
 use mc_input::{BundleInput, read_input};
-use mc_text::Memory as NoMemory;
+use mc_text::{Input, Memory as NoMemory, read_to_limit};
 use mc_topology::Topology;
 use std::alloc::Global;
 
@@ -78,4 +79,21 @@ pub(crate) fn domain_in<'a>(
         }),
         Err(_) => Err(RunFault::Memory),
     }
+}
+
+/// The domain that an input's bundle tells, which has no certificate.
+pub(crate) fn read_domain<R: Input>(alloc: Global, input: &mut R) -> Result<Domain, RunFault>
+    requires { R.failed input.old < u64.MAX }
+    ensures same { R.names input.new ≡ R.names input.old }
+    ensures means { IfOk result (λ domain.
+        IfSome (R.told input.old) (λ text. MeansUncertified text domain)) }
+    ensures refused { IfErr result (λ fault.
+        IfSome (R.told input.old) (λ text. IsRefusedFor false text fault)) }
+    ensures consumed { ConsumesUpTo max_input (R.told input.old) (R.told input.new) }
+    ensures no_write { IfErr result (λ fault. is_write fault ≡ false) }
+    ensures failures { R.failed input.new ≡ counted is_read result (R.failed input.old) }
+{
+    let text = read_to_limit(alloc, input, MAX_INPUT)?;
+    let read = domain_in(alloc, &text, false)?;
+    Ok(read.domain)
 }

@@ -20,10 +20,10 @@ pub fn made_certificates_are_accepted()
     // all,
     ensures read { (text written : List ℕ) (made : IsMadeText text true written) →
         length written ≤ 16777216 →
-        reading_of made.domain.topology written ≡ Ok (lists_of made.examined) }
+        reading_of made.domain.topology written ≡ Ok (lists_of made.holds.examined) }
     // and each of them is accepted.
     ensures accepted { (text written : List ℕ) (made : IsMadeText text true written)
-        (flow : ℕ) (es : Tree) → slice_get (lists_of made.examined) flow ≡ Some es →
+        (flow : ℕ) (es : Tree) → slice_get (lists_of made.holds.examined) flow ≡ Some es →
         IsAccepted (net_of made.domain flow) es }
     // So the bundle that has the certificate as one part more has a verdict text that says yes,
     ensures yes { (text written bundle : List ℕ) (parts : List PartText)
@@ -64,10 +64,10 @@ pub fn the_line_that_says_yes()
         → (all ≡ true) × (rest ≡ codes "\n") }
     // The same holds of `audit`.
     ensures audit_says { (files : List FileText) (travels : Bool) (written old : List ℕ)
-        → IsAuditText files travels true written → WroteYes (Some old) (Some (old ++ written)) }
+        → IsAuditText travels files true written → WroteYes (Some old) (Some (old ++ written)) }
     ensures audit_last { (files : List FileText) (travels all : Bool)
         (written front rest : List ℕ)
-        → IsAuditText files travels all written → IsLineStart front
+        → IsAuditText travels files all written → IsLineStart front
         → written ≡ front ++ (codes "verdict yes" ++ rest)
         → (all ≡ true) × (rest ≡ codes "\n") }
 {}

@@ -10,6 +10,7 @@ mod laws;
 mod make;
 mod pack;
 mod replay;
+mod said;
 mod travel_text;
 mod verdict_text;
 mod wants;

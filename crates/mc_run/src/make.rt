@@ -8,17 +8,18 @@ ghost use Rattle.mc_text.specs.ReadFault.{ConsumesUpTo};
 ghost use Rattle.mc_cert.specs.Certificate.{BelongsTo};
 ghost use Rattle.mc_cert.specs.CertificateText.{certificate_text as text_of_certificate};
 ghost use Rattle.mc_run.specs.BundleMeaning.{IsRefusedFor};
-ghost use Rattle.mc_run.specs.Failures.{IsNoDeviceFault, failed_reads, failed_writes};
-ghost use Rattle.mc_run.specs.MakeRun.{Answers, AreMade, IsMadeText, IsTextOfMade, SaysIfRight};
-ghost use Rattle.mc_run.specs.MakeRun.{WritesMade, WritesPartOfMade};
+ghost use Rattle.mc_run.specs.Failures.{counted, is_read, is_write};
+ghost use Rattle.mc_run.specs.MakeRun.{AreMade, IsMadeText, IsTextOfMade, SaysAllRight};
+ghost use Rattle.mc_run.specs.Said.{Answers, Writes, WritesPart};
 
-use crate::domain_input::{MAX_INPUT, domain_in};
+use crate::domain_input::read_domain;
 use crate::fault::RunFault;
 use crate::found_text::push_found;
+use crate::said::{Said, say};
 use mc_cert::Trees;
 use mc_forward::Domain;
 use mc_maker::{Examined, examine};
-use mc_text::{Input, Memory as NoMemory, Output, read_to_limit, write_all};
+use mc_text::{Input, Memory as NoMemory, Output};
 use mc_topology::Topology;
 use std::alloc::Global;
 
@@ -65,42 +66,39 @@ fn certificate_text(alloc: Global, topology: &Topology, lists: Trees) -> Result<
 }
 
 /// What is written of a domain, and whether it is a certificate.
-#[derive(Drop)]
-struct Told {
-    text: String,
-    certified: bool,
-}
-
-/// What is written of a domain.
-fn told_of(alloc: Global, domain: &Domain) -> Result<Told, RunFault>
-    ensures text { IfOk result (λ told.
-        IsTextOfMade domain.now told.certified (string_bytes told.text)) }
-    ensures memory { IfErr result (λ fault. fault ≡ RunFault.Memory) }
+fn made_for(alloc: Global, domain: &Domain) -> Result<Said, NoMemory>
+    ensures { IfOk result (λ said. IsTextOfMade domain.now said.yes (string_bytes said.text)) }
 {
     let made = make_all(alloc, domain)?;
     if !made.lines.is_empty() {
-        return Ok(Told {
+        return Ok(Said {
             text: made.lines,
-            certified: false,
+            yes: false,
         });
     }
     let text = certificate_text(alloc, domain.topology(), made.lists)?;
-    Ok(Told {
-        text,
-        certified: true,
-    })
+    Ok(Said { text, yes: true })
 }
 
-/// What is written of the domain that a bundle tells.
-fn made_of(alloc: Global, text: &[u8]) -> Result<Told, RunFault>
-    ensures text { IfOk result (λ told.
-        IsMadeText text.now told.certified (string_bytes told.text)) }
-    ensures right { IfOk result (λ told. SaysIfRight text.now told.certified) }
-    ensures refused { IfErr result (IsRefusedFor false text.now) }
-    ensures no_device { IfErr result IsNoDeviceFault }
+/// What is written of the domain that an input's bundle tells.
+fn made_of<R: Input>(alloc: Global, input: &mut R) -> Result<Said, RunFault>
+    requires { R.failed input.old < u64.MAX }
+    ensures same { R.names input.new ≡ R.names input.old }
+    ensures text { IfOk result (λ said. IfSome (R.told input.old) (λ text.
+        IsMadeText text said.yes (string_bytes said.text))) }
+    ensures refused { IfErr result (λ fault.
+        IfSome (R.told input.old) (λ text. IsRefusedFor false text fault)) }
+    ensures consumed { ConsumesUpTo max_input (R.told input.old) (R.told input.new) }
+    ensures no_write { IfErr result (λ fault. is_write fault ≡ false) }
+    ensures failures { R.failed input.new ≡ counted is_read result (R.failed input.old) }
 {
-    let input = domain_in(alloc, text, false)?;
-    told_of(alloc, &input.domain)
+    let domain = read_domain(alloc, input)?;
+    let said = made_for(alloc, &domain);
+    drop(domain);
+    match said {
+        Ok(said) => Ok(said),
+        Err(_) => Err(RunFault::Memory),
+    }
 }
 
 /// Reads a bundle without a certificate from the input, at most 268,435,552 bytes, and examines
@@ -118,25 +116,23 @@ pub fn run_make<R: Input, W: Output>(
     ensures input_same { R.names input.new ≡ R.names input.old }
     ensures output_same { W.names output.new ≡ W.names output.old }
     // The answer is that of the definition, or the bundle's first fault.
-    ensures answer { IfSome (R.told input.old) (λ text. Answers text result) }
+    ensures answer { IfSome (R.told input.old) (λ text.
+        Answers IsMadeText (IsRefusedFor false) text result) }
     // It is true exactly where every listed flow is right.
     ensures right { IfOk result (λ certified.
-        IfSome (R.told input.old) (λ text. SaysIfRight text certified)) }
+        IfSome (R.told input.old) (λ text. SaysAllRight text certified)) }
     // No more is read than the greatest bundle and a line, whatever the answer.
     ensures consumed { ConsumesUpTo max_input (R.told input.old) (R.told input.new) }
     // The certificate or the lines are written whole, or a part where the output failed, or else
     // nothing.
     ensures written { IfOk result (λ certified. IfSome (R.told input.old) (λ text.
-        WritesMade text certified (W.took output.old) (W.took output.new))) }
+        Writes IsMadeText text certified (W.took output.old) (W.took output.new))) }
     ensures part { result ≡ Err RunFault.Write → IfSome (R.told input.old) (λ text.
-        WritesPartOfMade text (W.took output.old) (W.took output.new)) }
+        WritesPart IsMadeText text (W.took output.old) (W.took output.new)) }
     ensures unwritten { IfErr result (λ fault. fault ≢ RunFault.Write → output.new ≡ output.old) }
     // Read and Write come only where the device's failures rose in the call.
-    ensures read_failures { R.failed input.new ≡ failed_reads result (R.failed input.old) }
-    ensures write_failures { W.failed output.new ≡ failed_writes result (W.failed output.old) }
+    ensures read_failures { R.failed input.new ≡ counted is_read result (R.failed input.old) }
+    ensures write_failures { W.failed output.new ≡ counted is_write result (W.failed output.old) }
 {
-    let text = read_to_limit(alloc, input, MAX_INPUT)?;
-    let told = made_of(alloc, &text)?;
-    write_all(output, told.text.as_bytes()).map_err(|_| RunFault::Write)?;
-    Ok(told.certified)
+    say(made_of(alloc, input), output)
 }

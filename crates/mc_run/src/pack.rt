@@ -5,8 +5,8 @@ ghost use Rattle.mc_text.specs.Bundle.{PartText};
 ghost use Rattle.mc_files.specs.Files.{FileText};
 ghost use Rattle.mc_files.specs.Packing.{IsPacked};
 ghost use Rattle.mc_files.specs.PackRun.{WritesPacked, WritesPartOfPacked};
-ghost use Rattle.mc_run.specs.PackingRun.{AnswersPack, IsOfDevices, failed_file_reads};
-ghost use Rattle.mc_run.specs.PackingRun.{failed_pack_writes};
+ghost use Rattle.mc_run.specs.Failures.{counted, is_read, is_write};
+ghost use Rattle.mc_run.specs.PackingRun.{AnswersPack, IsOfDevices};
 
 use crate::fault::RunFault;
 use mc_files::FileSource;
@@ -39,8 +39,8 @@ pub fn run_pack<F: FileSource, W: Output>(
         WritesPartOfPacked certificate told (W.took output.old) (W.took output.new)) }
     ensures unwritten { IfErr result (λ fault. fault ≢ RunFault.Write → output.new ≡ output.old) }
     // Read and Write come only where the device's failures rose in the call.
-    ensures read_failures { F.failed files.new ≡ failed_file_reads result (F.failed files.old) }
-    ensures write_failures { W.failed output.new ≡ failed_pack_writes result (W.failed output.old) }
+    ensures read_failures { F.failed files.new ≡ counted is_read result (F.failed files.old) }
+    ensures write_failures { W.failed output.new ≡ counted is_write result (W.failed output.old) }
 {
     mc_files::pack(alloc, files, certificate, output)?;
     Ok(())

@@ -1,19 +1,22 @@
 //! `mcaudit replay`: the travel of one packet through a domain, event by event, and what it shows.
 
-ghost use Rattle.std.specs.Prelude.{◌≡◌, ◌≢◌, ◌+◌, ◌<◌, ◌⊎◌, IfErr, IfOk, IfSome, Err, length};
+ghost use Rattle.std.specs.Prelude.{◌≡◌, ◌≢◌, ◌+◌, ◌<◌, ◌⊎◌, IfErr, IfOk, IfSome, Err, false};
+ghost use Rattle.std.specs.Prelude.{length};
 ghost use Rattle.std.specs.String.{string_bytes};
 ghost use Rattle.mc_text.specs.Bundle.{max_input};
 ghost use Rattle.mc_text.specs.ReadFault.{ConsumesUpTo};
-ghost use Rattle.mc_run.specs.Failures.{IsNoDeviceFault, failed_reads, failed_writes};
-ghost use Rattle.mc_run.specs.ReplayRun.{Answers, HasNoTravel, IsReplayRefused, IsTextOfTravel};
-ghost use Rattle.mc_run.specs.ReplayRun.{IsTravelText, WritesPartOfTravel, WritesTravel};
+ghost use Rattle.mc_run.specs.Failures.{counted, is_read, is_write};
+ghost use Rattle.mc_run.specs.ReplayRun.{HasNoTravel, IsReplayRefused, IsTextOfTravel};
+ghost use Rattle.mc_run.specs.ReplayRun.{IsTravelText};
+ghost use Rattle.mc_run.specs.Said.{Answers, Writes, WritesPart};
 
-use crate::domain_input::{MAX_INPUT, domain_in};
+use crate::domain_input::read_domain;
 use crate::fault::RunFault;
+use crate::said::{Said, say};
 use crate::travel_text::{is_clean, travel_text};
 use mc_forward::Domain;
 use mc_replay::{Picker, replay};
-use mc_text::{Input, Output, read_to_limit, write_all};
+use mc_text::{Input, Output};
 use std::alloc::Global;
 
 /// The place, from 0, of the flow with this number, counted from 1.
@@ -29,24 +32,17 @@ fn place_of(domain: &Domain, flow: u32) -> Result<u32, RunFault>
     Ok(flow - 1)
 }
 
-/// The text of a travel, and whether it is clean.
-#[derive(Drop)]
-struct Told {
-    text: String,
-    clean: bool,
-}
-
-/// The travel of a packet through a domain.
+/// The text of the travel of a packet through a domain, and whether it is clean.
 fn travel_of<P: Picker>(
     alloc: Global,
     domain: &Domain,
     flow: u32,
     ttl: u8,
     picker: &mut P,
-) -> Result<Told, RunFault>
+) -> Result<Said, RunFault>
     requires { 0 < ttl }
-    ensures text { IfOk result (λ told. IsTextOfTravel domain.now flow ttl (P.choices picker.old)
-        told.clean (string_bytes told.text)) }
+    ensures text { IfOk result (λ said. IsTextOfTravel domain.now flow ttl (P.choices picker.old)
+        said.yes (string_bytes said.text)) }
     ensures none { IfErr result (HasNoTravel domain.now flow) }
 {
     let place = place_of(domain, flow)?;
@@ -54,25 +50,30 @@ fn travel_of<P: Picker>(
     let topology = domain.topology();
     let text = travel_text(alloc, topology, topology.flow(place), ttl, &travel)?;
     let clean = is_clean(travel.finding);
-    Ok(Told { text, clean })
+    Ok(Said { text, yes: clean })
 }
 
-/// The travel of a packet through the domain that a bundle tells.
-fn travel_in<P: Picker>(
+/// The travel of a packet through the domain that an input's bundle tells.
+fn travel_in<P: Picker, R: Input>(
     alloc: Global,
     flow: u32,
     ttl: u8,
     picker: &mut P,
-    text: &[u8],
-) -> Result<Told, RunFault>
-    requires { 0 < ttl }
-    ensures text { IfOk result (λ told. IsTravelText text.now flow ttl (P.choices picker.old)
-        told.clean (string_bytes told.text)) }
-    ensures refused { IfErr result (IsReplayRefused text.now flow) }
-    ensures no_device { IfErr result IsNoDeviceFault }
+    input: &mut R,
+) -> Result<Said, RunFault>
+    requires ttl { 0 < ttl }
+    requires reads { R.failed input.old < u64.MAX }
+    ensures same { R.names input.new ≡ R.names input.old }
+    ensures text { IfOk result (λ said. IfSome (R.told input.old) (λ text. IsTravelText flow ttl
+        (P.choices picker.old) text said.yes (string_bytes said.text))) }
+    ensures refused { IfErr result (λ fault.
+        IfSome (R.told input.old) (λ text. IsReplayRefused flow text fault)) }
+    ensures consumed { ConsumesUpTo max_input (R.told input.old) (R.told input.new) }
+    ensures no_write { IfErr result (λ fault. is_write fault ≡ false) }
+    ensures failures { R.failed input.new ≡ counted is_read result (R.failed input.old) }
 {
-    let input = domain_in(alloc, text, false)?;
-    travel_of(alloc, &input.domain, flow, ttl, picker)
+    let domain = read_domain(alloc, input)?;
+    travel_of(alloc, &domain, flow, ttl, picker)
 }
 
 /// Reads a bundle without a certificate from the input, at most 268,435,552 bytes, and writes the
@@ -95,23 +96,20 @@ pub fn run_replay<P: Picker, R: Input, W: Output>(
     // The answer is that of the definition, or the bundle's first fault, or that it lists no such
     // flow.
     ensures answer { IfSome (R.told input.old) (λ text.
-        Answers text flow ttl (P.choices picker.old) result) }
+        Answers (IsTravelText flow ttl (P.choices picker.old)) (IsReplayRefused flow) text result) }
     // No more is read than the greatest bundle and a line, whatever the answer.
     ensures consumed { ConsumesUpTo max_input (R.told input.old) (R.told input.new) }
     // The travel's text is written whole, or a part of it where the output failed, or else nothing.
     ensures written { IfOk result
-        (λ clean. IfSome (R.told input.old) (λ text. WritesTravel text flow ttl
-        (P.choices picker.old) clean (W.took output.old) (W.took output.new))) }
+        (λ clean. IfSome (R.told input.old) (λ text. Writes (IsTravelText flow ttl
+        (P.choices picker.old)) text clean (W.took output.old) (W.took output.new))) }
     ensures part { result ≡ Err RunFault.Write → IfSome (R.told input.old) (λ text.
-        WritesPartOfTravel text flow ttl (P.choices picker.old)
+        WritesPart (IsTravelText flow ttl (P.choices picker.old)) text
         (W.took output.old) (W.took output.new)) }
     ensures unwritten { IfErr result (λ fault. fault ≢ RunFault.Write → output.new ≡ output.old) }
     // Read and Write come only where the device's failures rose in the call.
-    ensures read_failures { R.failed input.new ≡ failed_reads result (R.failed input.old) }
-    ensures write_failures { W.failed output.new ≡ failed_writes result (W.failed output.old) }
+    ensures read_failures { R.failed input.new ≡ counted is_read result (R.failed input.old) }
+    ensures write_failures { W.failed output.new ≡ counted is_write result (W.failed output.old) }
 {
-    let text = read_to_limit(alloc, input, MAX_INPUT)?;
-    let told = travel_in(alloc, flow, ttl, picker, &text)?;
-    write_all(output, told.text.as_bytes()).map_err(|_| RunFault::Write)?;
-    Ok(told.clean)
+    say(travel_in(alloc, flow, ttl, picker, input), output)
 }

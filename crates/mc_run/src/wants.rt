@@ -5,7 +5,7 @@ ghost use Rattle.std.specs.Io.KnownBytes.{Appends};
 ghost use Rattle.mc_igmp.specs.Wants.{Wants};
 ghost use Rattle.mc_text.specs.Lines.{max_text};
 ghost use Rattle.mc_text.specs.ReadFault.{ConsumesUpTo};
-ghost use Rattle.mc_run.specs.Failures.{failed_reads, failed_writes};
+ghost use Rattle.mc_run.specs.Failures.{counted, is_read, is_write};
 ghost use Rattle.mc_run.specs.WantsRun.{answer_line, Answers, WritesPart};
 
 use crate::fault::RunFault;
@@ -25,6 +25,13 @@ fn is_wanted(
 {
     let filter = wants_of(alloc, reports, group)?;
     Ok(filter.admits(source))
+}
+
+/// The line that tells the answer.
+fn line_of(wanted: bool) -> &'static str
+    ensures { result.now ≡ answer_line wanted }
+{
+    if wanted { "wanted\n" } else { "not wanted\n" }
 }
 
 /// Reads a report list of one LAN from the input, at most 16,777,216 bytes, and writes `wanted` or
@@ -52,13 +59,14 @@ pub fn run_wants<R: Input, W: Output>(
         → WritesPart (R.told input.old) group source (W.took output.old) (W.took output.new) }
     ensures unwritten { IfErr result (λ fault. fault ≢ RunFault.Write → output.new ≡ output.old) }
     // Read and Write come only where the device's failures rose in the call.
-    ensures read_failures { R.failed input.new ≡ failed_reads result (R.failed input.old) }
-    ensures write_failures { W.failed output.new ≡ failed_writes result (W.failed output.old) }
+    ensures read_failures { R.failed input.new ≡ counted is_read result (R.failed input.old) }
+    ensures write_failures { W.failed output.new ≡ counted is_write result (W.failed output.old) }
 {
     let text = read_to_limit(alloc, input, MAX_TEXT + 1)?;
     let reports = ReportList::read(alloc, &text)?;
     let wanted = is_wanted(alloc, &reports, group, source)?;
-    let line = if wanted { "wanted\n" } else { "not wanted\n" };
-    write_all(output, line.as_bytes()).map_err(|_| RunFault::Write)?;
-    Ok(wanted)
+    match write_all(output, line_of(wanted).as_bytes()) {
+        Ok(()) => Ok(wanted),
+        Err(_) => Err(RunFault::Write),
+    }
 }

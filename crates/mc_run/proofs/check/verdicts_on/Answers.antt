@@ -1,27 +1,20 @@
-use Rattle.std.proofs.Common.{true}
-use Rattle.mc_run.proofs.CheckLemmas.{bundle_keeps, bundle_told}
-use Rattle.mc_run.proofs.RunLemmas.{memory_no_device, memory_refused}
+use Rattle.std.specs.String.{string_bytes}
+use Rattle.mc_run.specs.BundleMeaning.{CertifiedDomain, MeansWithLists}
+use Rattle.mc_run.specs.CheckRun.{IsTextOfVerdicts, KeepsHeadline}
+use Rattle.mc_run.proofs.RunLemmas.{of_meant}
 use Rattle.mc_run.proofs.check.verdicts_on.Goals as goal
 
-pub verdicts_of-requires : goal.verdicts_of-requires
-verdicts_of-requires c = c.in_ok-read.ensures.belongs
-
-pub returns-clause-text : goal.returns-clause-text
-returns-clause-text c =
+pub returns-in-Ok-clause-text : goal.returns-in-Ok-clause-text
+returns-in-Ok-clause-text g c =
     let read = c.in_ok-read.read in
-    bundle_told c.args.text.now read.domain read.certificate c.verdicts_of.result
-    c.in_ok-read.ensures.means c.verdicts_of.ensures.text
+    let d : CertifiedDomain = record { domain = read.domain; lists = read.certificate } in
+    of_meant MeansWithLists (λ v. IsTextOfVerdicts v.domain v.lists c.in-Ok.said.yes
+    (string_bytes c.in-Ok.said.text)) (g.R.Input.told c.args.input.now) d
+    c.in_ok-read.ensures.means c.in-Ok.ensures.text
 
-pub returns-clause-headline : goal.returns-clause-headline
-returns-clause-headline c =
+pub returns-in-Ok-clause-headline : goal.returns-in-Ok-clause-headline
+returns-in-Ok-clause-headline g c = λ all.
     let read = c.in_ok-read.read in
-    bundle_keeps c.args.text.now read.domain read.certificate c.verdicts_of.result
-    c.in_ok-read.ensures.means c.verdicts_of.ensures.headline
-
-pub returns-clause-refused : goal.returns-clause-refused
-returns-clause-refused c =
-    memory_refused true c.args.text.now c.verdicts_of.result c.verdicts_of.ensures.memory
-
-pub returns-clause-no_device : goal.returns-clause-no_device
-returns-clause-no_device c =
-    memory_no_device c.verdicts_of.result c.verdicts_of.ensures.memory
+    let d : CertifiedDomain = record { domain = read.domain; lists = read.certificate } in
+    of_meant MeansWithLists (λ v. KeepsHeadline v.domain v.lists)
+    (g.R.Input.told c.args.input.now) d c.in_ok-read.ensures.means (c.in-Ok.ensures.headline all)

@@ -1,41 +1,33 @@
-use Rattle.std.proofs.Common.{ap, ◌∙◌, Err}
-use Rattle.std.proofs.lemmas.Result.{err_from_is_err_and}
 use Rattle.mc_run.proofs.PackingLemmas.{answer_told, only_told, part_told, reads_told}
 use Rattle.mc_run.proofs.PackingLemmas.{unwritten_told, writes_told}
 use Rattle.mc_run.proofs.pack.run_pack.Goals as goal
 
 pub returns-in_err-pack-clause-answer : goal.returns-in_err-pack-clause-answer
 returns-in_err-pack-clause-answer g c =
-    let p = err_from_is_err_and c.from_residual.result c.from_residual.ensures.1 in
     answer_told (g.F.FileSource.told c.args.files.now) c.args.certificate c.in_err-pack.field-0.0
-    c.from_residual.result c.in_err-pack.ensures.answer (p.1 ∙ ap (λ f. Err f) p.2)
+    c.from_residual.result c.from_residual.ensures.1 c.in_err-pack.ensures.answer
 
 pub returns-in_err-pack-clause-only : goal.returns-in_err-pack-clause-only
 returns-in_err-pack-clause-only g c =
-    let p = err_from_is_err_and c.from_residual.result c.from_residual.ensures.1 in
     λ told parts is packed. only_told c.in_err-pack.field-0.0 c.from_residual.result
-    (c.in_err-pack.ensures.only told parts is packed) (p.1 ∙ ap (λ f. Err f) p.2)
+    c.from_residual.ensures.1 (c.in_err-pack.ensures.only told parts is packed)
 
 pub returns-in_err-pack-clause-unwritten : goal.returns-in_err-pack-clause-unwritten
 returns-in_err-pack-clause-unwritten g c =
-    let p = err_from_is_err_and c.from_residual.result c.from_residual.ensures.1 in
-    unwritten_told c.in_err-pack.field-0.0 c.from_residual.result _ c.in_err-pack.ensures.unwritten
-    (p.1 ∙ ap (λ f. Err f) p.2)
+    unwritten_told c.in_err-pack.field-0.0 c.from_residual.result _ c.from_residual.ensures.1
+    c.in_err-pack.ensures.unwritten
 
 pub returns-in_err-pack-clause-read_failures : goal.returns-in_err-pack-clause-read_failures
 returns-in_err-pack-clause-read_failures g c =
-    let p = err_from_is_err_and c.from_residual.result c.from_residual.ensures.1 in
-    reads_told c.in_err-pack.field-0.0 c.from_residual.result _ _
-    c.in_err-pack.ensures.read_failures (p.1 ∙ ap (λ f. Err f) p.2)
+    reads_told c.in_err-pack.field-0.0 c.from_residual.result _ _ c.from_residual.ensures.1
+    c.in_err-pack.ensures.read_failures
 
 pub returns-in_err-pack-clause-write_failures : goal.returns-in_err-pack-clause-write_failures
 returns-in_err-pack-clause-write_failures g c =
-    let p = err_from_is_err_and c.from_residual.result c.from_residual.ensures.1 in
-    writes_told c.in_err-pack.field-0.0 c.from_residual.result _ _
-    c.in_err-pack.ensures.write_failures (p.1 ∙ ap (λ f. Err f) p.2)
+    writes_told c.in_err-pack.field-0.0 c.from_residual.result _ _ c.from_residual.ensures.1
+    c.in_err-pack.ensures.write_failures
 
 pub returns-in_err-pack-clause-part : goal.returns-in_err-pack-clause-part
 returns-in_err-pack-clause-part g c =
-    let p = err_from_is_err_and c.from_residual.result c.from_residual.ensures.1 in
-    part_told c.in_err-pack.field-0.0 c.from_residual.result _ c.in_err-pack.ensures.part
-    (p.1 ∙ ap (λ f. Err f) p.2)
+    part_told c.in_err-pack.field-0.0 c.from_residual.result _ c.from_residual.ensures.1
+    c.in_err-pack.ensures.part

@@ -203,12 +203,12 @@ means_with : (text bundle : List ℕ) (parts : List PartText) (certificate : Lis
     → MeansDomain bundle (Some certificate) d
 means_with text bundle parts certificate d means is more = record {
   input = means.input;
-  parts = record {
+  stands = record {
     parts = with_certificate parts certificate;
     bundle = more;
     stand = parts_with parts means.input certificate
         (subst (λ (ps : List PartText). PartsStand ps means.input None)
-        (same_parts text means.parts.parts parts means.parts.bundle is) means.parts.stand);
+        (same_parts text means.stands.parts parts means.stands.bundle is) means.stands.stand);
   };
   assembled = means.assembled;
   rules = means.rules;

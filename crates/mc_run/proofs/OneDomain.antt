@@ -97,8 +97,8 @@ same_of v w c parts d e same stand ok_d ok_e is_d is_e =
 pub one_of_bundle : (text : List ℕ) (a b : Option (List ℕ)) (d e : DomainValue)
     → is_some b ≡ is_some a → MeansDomain text a d → MeansDomain text b e → (d ≡ e) × (a ≡ b)
 one_of_bundle text a b d e is m n =
-    let one = one_input text m.input n.input a b is m.parts n.parts in (
-      same_of m.input n.input a m.parts.parts d e one.0 m.parts.stand m.rules n.rules m.assembled
+    let one = one_input text m.input n.input a b is m.stands n.stands in (
+      same_of m.input n.input a m.stands.parts d e one.0 m.stands.stand m.rules n.rules m.assembled
           n.assembled,
       one.1,
     )
@@ -106,8 +106,8 @@ one_of_bundle text a b d e is m n =
 pub one_of_files : (files : List FileText) (d e : DomainValue) → MeansFiles files d
     → MeansFiles files e → d ≡ e
 one_of_files files d e m n =
-    same_of m.input n.input None m.stand.parts d e
-    (one_input_of_files files m.input n.input m.stand n.stand) m.stand.stand m.rules n.rules
+    same_of m.input n.input None m.stands.parts d e
+    (one_input_of_files files m.input n.input m.stands n.stands) m.stands.stand m.rules n.rules
     m.assembled n.assembled
 
 pub some_is : {A : Type 0} {x y : A} → (let o : Option A = Some x in o) ≡ Some y → x ≡ y

@@ -36,13 +36,13 @@ read_whole text v c stands =
 pub means_whole : (text : List ℕ) (c : Option (List ℕ)) (d : DomainValue)
     → MeansDomain (take 268435552 text) c d → MeansDomain text c d
 means_whole text c d m =
-    subst (λ (t : List ℕ). MeansDomain t c d) (read_whole text m.input c m.parts) m
+    subst (λ (t : List ℕ). MeansDomain t c d) (read_whole text m.input c m.stands) m
 
 pub certified_whole : (text : List ℕ) (d : DomainValue) (lists : List Tree)
     → MeansCertified (take 268435552 text) d lists → MeansCertified text d lists
 certified_whole text d lists m =
     subst (λ (t : List ℕ). MeansCertified t d lists)
-    (read_whole text m.domain.input (Some m.certificate) m.domain.parts) m
+    (read_whole text m.domain.input (Some m.certificate) m.domain.stands) m
 
 pub input_of-front : (with : Bool) (text : List ℕ)
     → input_of with (take 268435552 text) ≡ input_of with text
@@ -64,7 +64,7 @@ refused_whole with text (PartReports part f) is = sym (input_of-front with text)
 refused_whole with text (Reports f) is = is
 refused_whole with text (Certificate f) is =
     let m = is.1.2 in
-    let whole = read_whole text m.input (Some is.1.0) m.parts in
+    let whole = read_whole text m.input (Some is.1.0) m.stands in
     subst (λ (t : List ℕ). IsRefusedFor with t (Certificate f)) whole is
 refused_whole with text (NoSuchFlow number) is = is
 refused_whole with text Read is = tt

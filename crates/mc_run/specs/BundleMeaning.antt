@@ -1,15 +1,15 @@
 -- What a bundle means to a run: a domain, and the lists of a certificate for its flows; or why it
 -- is refused.
 use Rattle.std.specs.Prelude.{◌≡◌, ℕ, Bool, IsTrue, List, Option, Some, None, Err, ⊤}
-use Rattle.mc_forward.specs.Domains.{DomainValue, IsDomain}
-use Rattle.mc_forward.specs.Assembling.{IsAssembled}
+use Rattle.mc_forward.specs.Domains.{DomainValue}
 use Rattle.mc_cert.specs.Certificate.{Tree}
 use Rattle.mc_cert.specs.Stands.{CertificateStands}
 use Rattle.mc_cert.specs.Reading.{reading_of}
 use Rattle.mc_cert.specs.declared.fault.CertFault.{CertFault}
-use Rattle.mc_input.specs.Input.{InputValue, InputStands}
+use Rattle.mc_input.specs.Input.{InputStands}
 use Rattle.mc_input.specs.InputReading.{input_of}
 use Rattle.mc_input.specs.declared.fault.InputFault.TheVariants as input
+use Rattle.mc_run.specs.OfDomain.{Means}
 use Rattle.mc_run.specs.declared.fault.RunFault.{RunFault}
 use Rattle.mc_run.specs.declared.fault.RunFault.TheVariants.{Bundle, Parts, Topology, Vif, Cache}
 use Rattle.mc_run.specs.declared.fault.RunFault.TheVariants.{PartReports, Reports, Certificate}
@@ -17,14 +17,10 @@ use Rattle.mc_run.specs.declared.fault.RunFault.TheVariants.{NoSuchFlow, Read, W
 
 -- ---- what it means
 
--- The bundle's parts tell the domain, and this is the text of its certificate, where one is to be
--- there.
-pub record MeansDomain (text : List ℕ) (certificate : Option (List ℕ)) (d : DomainValue)
-    : Type 0 where
-  pub input : InputValue
-  pub parts : InputStands text input certificate
-  pub assembled : IsAssembled input.topology input.tables input.reports d
-  pub rules : IsDomain d
+-- the bundle's parts tell the domain, and this is the text of its certificate, where one is to be
+-- there
+abbrev pub MeansDomain : List ℕ → (certificate : Option (List ℕ)) → DomainValue → Type 0
+MeansDomain text certificate d = Means (λ t input. InputStands t input certificate) text d
 
 -- the same, where there is to be none
 abbrev pub MeansUncertified : List ℕ → DomainValue → Type 0

@@ -1,22 +1,18 @@
 -- What a folder's files mean to a run: a domain; or why they are refused.
 use Rattle.std.specs.Prelude.{◌≡◌, List, Err, ⊤}
 use Rattle.mc_files.specs.Files.{FileText}
-use Rattle.mc_forward.specs.Domains.{DomainValue, IsDomain}
-use Rattle.mc_forward.specs.Assembling.{IsAssembled}
-use Rattle.mc_input.specs.Input.{InputValue}
+use Rattle.mc_forward.specs.Domains.{DomainValue}
 use Rattle.mc_input.specs.FilesInput.{FilesStand}
 use Rattle.mc_input.specs.FilesReading.{files_of}
 use Rattle.mc_input.specs.declared.files_fault.FilesFault.{FilesFault}
+use Rattle.mc_run.specs.OfDomain.{Means}
 use Rattle.mc_run.specs.declared.fault.RunFault.{RunFault}
 use Rattle.mc_run.specs.declared.fault.RunFault.TheVariants.{Read, Write, Memory}
 use Rattle.mc_run.specs.RunFault.{of_files}
 
--- The files tell the domain.
-pub record MeansFiles (files : List FileText) (d : DomainValue) : Type 0 where
-  pub input : InputValue
-  pub stand : FilesStand files input
-  pub assembled : IsAssembled input.topology input.tables input.reports d
-  pub rules : IsDomain d
+-- the files tell the domain
+abbrev pub MeansFiles : List FileText → DomainValue → Type 0
+MeansFiles = Means FilesStand
 
 -- A run on the files answers this of them: their first fault, in the order in which they are read.
 -- What devices do and want of memory say nothing of the files.

@@ -5,7 +5,8 @@ ghost use Rattle.mc_forward.specs.Assembling.{AreCounted, IsAssembled};
 ghost use Rattle.mc_forward.specs.Domains.{IsDomain};
 ghost use Rattle.mc_input.specs.InputView.{certificate_seen};
 ghost use Rattle.mc_text.specs.ReadFault.{ConsumesUpTo};
-ghost use Rattle.mc_run.specs.BundleMeaning.{IsRefusedFor, MeansDomain, MeansUncertified, max_input};
+ghost use Rattle.mc_text.specs.Bundle.{max_input};
+ghost use Rattle.mc_run.specs.BundleMeaning.{IsRefusedFor, MeansDomain, MeansUncertified};
 ghost use Rattle.mc_run.specs.Failures.{IsNoDeviceFault, counted, is_read, is_write};
 
 use crate::fault::RunFault;

@@ -21,7 +21,7 @@ use Rattle.std.proofs.lemmas.Map.Keys.{sorted_from_strictly_increasing, non_decr
 use Rattle.std.proofs.lemmas.Map.Lookups.{btree_set_from_contains, exact_unsigned}
 use Rattle.std.proofs.lemmas.Map.Views.{any-filter_same}
 use Rattle.std.proofs.lemmas.Result.{MatchResult-weaker}
-use Rattle.mc_filter.specs.Addresses.{has}
+use Rattle.mc_filter.specs.SourceFilter.{has}
 
 -- the test tells what is in a list
 pub Decides-has : (xs : List ℕ) (s : ℕ) → Decides (has xs s) (Contains xs s)

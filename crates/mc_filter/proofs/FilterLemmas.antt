@@ -7,7 +7,7 @@ use Rattle.mc_igmp.specs.declared.record.Kind.TheVariants as kind
 use Rattle.mc_igmp.specs.Wants.{Admits}
 use Rattle.mc_filter.specs.declared.filter.Mode.{Mode}
 use Rattle.mc_filter.specs.declared.filter.Mode.TheVariants.{Exclude}
-use Rattle.mc_filter.specs.Addresses.{has}
+use Rattle.mc_filter.specs.SourceFilter.{has}
 use Rattle.mc_filter.specs.SourceFilter.{SourceFilter, FilterAdmits, admits}
 use Rattle.mc_filter.specs.Gathering.{kind_admits, is_exclude, is_exclude_mode}
 use Rattle.mc_filter.proofs.AscendingLemmas.{Decides-has}

@@ -4,7 +4,12 @@ use Rattle.mc_igmp.specs.declared.record.Kind.{Kind}
 use Rattle.mc_igmp.specs.declared.record.Kind.TheVariants as kind
 use Rattle.mc_filter.specs.declared.filter.Mode.{Mode}
 use Rattle.mc_filter.specs.declared.filter.Mode.TheVariants.{Include, Exclude}
-use Rattle.mc_filter.specs.Addresses.{has}
+use Rattle.std.specs.Prelude.{ℕ, ◌==◌, Bool, List}
+use Rattle.std.specs.List.{list_any}
+
+-- whether the list has the address
+abbrev pub has : List ℕ → ℕ → Bool
+has addresses address = list_any (λ a. a == address) addresses
 
 -- a filter mode, and the addresses of the source list
 pub record SourceFilter : Type 0 where

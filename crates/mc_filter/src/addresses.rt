@@ -2,7 +2,7 @@
 
 ghost use Rattle.std.specs.Prelude.{◌≡◌, ◌++◌, ◌&&◌, ℕ, not, OnOk};
 ghost use Rattle.std.specs.List.Sorted.{IsStrictlyIncreasing};
-ghost use Rattle.mc_filter.specs.Addresses.{has};
+ghost use Rattle.mc_filter.specs.SourceFilter.{has};
 
 use mc_igmp::Sources;
 use mc_text::Addr;

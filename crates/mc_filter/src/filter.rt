@@ -4,7 +4,7 @@ ghost use Rattle.std.specs.Prelude.{◌≡◌, ◌⊎◌, ◌↔◌, ◌||◌, �
 ghost use Rattle.std.specs.List.Sorted.{IsStrictlyIncreasing};
 ghost use Rattle.mc_igmp.specs.declared.record.Kind.TheVariants as kind;
 ghost use Rattle.mc_igmp.specs.Wants.{Admits};
-ghost use Rattle.mc_filter.specs.Addresses.{has};
+ghost use Rattle.mc_filter.specs.SourceFilter.{has};
 ghost use Rattle.mc_filter.specs.SourceFilter.{FilterAdmits, TellsNoFilter, include_nothing};
 ghost use Rattle.mc_filter.specs.SourceFilter.{admits, admits_by};
 

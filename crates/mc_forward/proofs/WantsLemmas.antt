@@ -6,7 +6,7 @@ use Rattle.std.specs.Prelude.{◌↔◌, IsTrue, slice_index_or}
 use Rattle.std.proofs.lemmas.Bool.{eq-eqb}
 use Rattle.std.proofs.lemmas.Map.Keys.{any_passes_from_place}
 use Rattle.std.proofs.lemmas.Option.{slice_get-map, slice_get_within, get_or_from_slice_get}
-use Rattle.mc_filter.specs.Addresses.{has}
+use Rattle.mc_filter.specs.SourceFilter.{has}
 use Rattle.mc_filter.specs.SourceFilter.{SourceFilter, FilterAdmits}
 use Rattle.mc_igmp.specs.declared.record.Record.{Record}
 use Rattle.mc_igmp.specs.Wants.{Wants}

@@ -6,7 +6,7 @@ pub mod Journeys
 pub mod Outcomes
 pub mod PerLan
 pub use Rattle.mc_igmp.specs.Wants
-pub use Rattle.mc_filter.specs.Addresses
+pub use Rattle.mc_filter.specs.SourceFilter
 pub use Rattle.mc_theory.specs.Lists
 pub use Rattle.mc_theory.specs.Nets
 pub use Rattle.mc_theory.specs.Flights

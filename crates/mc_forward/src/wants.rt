@@ -2,7 +2,7 @@
 
 ghost use Rattle.std.specs.Prelude.{◌≡◌, ℕ, true, IfOk, Some, length, map, slice_get, vec_len};
 ghost use Rattle.std.specs.List.Sorted.{IsStrictlyIncreasing};
-ghost use Rattle.mc_filter.specs.Addresses.{has};
+ghost use Rattle.mc_filter.specs.SourceFilter.{has};
 ghost use Rattle.mc_forward.specs.Assembling.{EachAt, ArePlaces, AreWanted};
 
 use crate::items::Items;

@@ -20,7 +20,7 @@ use Rattle.mc_igmp.specs.declared.message.MessageFault.{MessageFault}
 use Rattle.mc_igmp.specs.declared.fault.ListFault.{ListFault}
 use Rattle.mc_igmp.specs.declared.fault.ListFaultKind.TheVariants.{BadHex, TooLarge}
 use Rattle.mc_igmp.specs.Kind.{is_change}
-use Rattle.mc_igmp.specs.Memory.{IsMemory, no_memory}
+use Rattle.mc_igmp.specs.ReadingList.{IsMemory, no_memory}
 use Rattle.mc_igmp.specs.Message.{records_of}
 use Rattle.mc_igmp.specs.ReadingMessage.{read_message}
 use Rattle.mc_igmp.specs.ReportList.{IsTaken, IsMessageLine, AreMessageLines, IsReportList}

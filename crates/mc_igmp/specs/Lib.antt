@@ -6,7 +6,6 @@ pub mod Records
 pub mod OlderReport
 pub mod Message
 pub mod ReadingMessage
-pub mod Memory
 pub mod ReportList
 pub mod ReadingList
 pub mod Wants

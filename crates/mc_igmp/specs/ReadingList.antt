@@ -17,6 +17,8 @@ use Rattle.mc_igmp.specs.declared.fault.ListFaultKind.TheVariants.{Truncated, St
 use Rattle.mc_igmp.specs.declared.fault.ListFaultKind.TheVariants.{Unended}
 use Rattle.mc_igmp.specs.Kind.{is_change}
 use Rattle.mc_igmp.specs.ReadingMessage.{read_message}
+use Rattle.std.specs.Prelude.{◌≡◌}
+use Rattle.mc_igmp.specs.declared.fault.ListFaultKind.TheVariants.{Memory}
 
 -- a fault of this line and record
 abbrev pub fault_at : ℕ → ℕ → ListFaultKind → ListFault
@@ -73,3 +75,9 @@ unfoldable pub read_list : List ℕ → Result (List Record) ListFault
 read_list text =
     if nat_lt 16777216 (length text) then Err (fault_at 0 0 TooLarge)
     else read_lines (lines_of text)
+
+abbrev pub no_memory : ListFault
+no_memory = record { line = 0; record_no = 0; kind = Memory }
+
+abbrev pub IsMemory : ListFault → Type 0
+IsMemory fault = fault ≡ no_memory

@@ -1,7 +1,7 @@
 //! Why a text is no report list.
 
 ghost use Rattle.std.specs.Prelude.{◌≡◌};
-ghost use Rattle.mc_igmp.specs.Memory.{IsMemory};
+ghost use Rattle.mc_igmp.specs.ReadingList.{IsMemory};
 
 use std::alloc::{AllocError, AllocFailed};
 use std::fmt;

@@ -7,7 +7,7 @@ ghost use Rattle.mc_text.specs.LineView.{line_text};
 ghost use Rattle.mc_igmp.specs.declared.record.Record.{Record};
 ghost use Rattle.mc_igmp.specs.declared.fault.ListFaultKind.TheVariants.{BadHex};
 ghost use Rattle.hex.specs.declared.error.FromHexError.TheVariants as FromHexError;
-ghost use Rattle.mc_igmp.specs.Memory.{IsMemory, no_memory};
+ghost use Rattle.mc_igmp.specs.ReadingList.{IsMemory, no_memory};
 ghost use Rattle.mc_igmp.specs.OlderReport.{older_record};
 ghost use Rattle.mc_igmp.specs.Records.{records_in, IsWhole};
 ghost use Rattle.mc_igmp.specs.ReadingMessage.{read_message};

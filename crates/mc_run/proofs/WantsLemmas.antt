@@ -11,7 +11,7 @@ use Rattle.mc_igmp.specs.declared.record.Record.{Record}
 use Rattle.mc_igmp.specs.declared.fault.ListFault.{ListFault}
 use Rattle.mc_igmp.specs.declared.fault.ListFaultKind.{ListFaultKind}
 use Rattle.mc_igmp.specs.declared.fault.ListFaultKind.TheVariants as list
-use Rattle.mc_igmp.specs.Memory.{no_memory}
+use Rattle.mc_igmp.specs.ReadingList.{no_memory}
 use Rattle.mc_igmp.specs.ReadingList.{read_list, fault_at}
 use Rattle.mc_igmp.specs.ReportList.{IsReportList}
 use Rattle.mc_igmp.specs.Wants.{Wants}

@@ -21,7 +21,7 @@ use Rattle.mc_tables.specs.declared.fault.TableFault.{TableFault}
 use Rattle.mc_tables.specs.declared.fault.TableFaultKind.TheVariants.{Unended, BadCounter}
 use Rattle.mc_tables.specs.declared.fault.TableFaultKind.TheVariants.{BadAddress, RepeatedEntry}
 use Rattle.mc_tables.specs.declared.fault.TableFaultKind.TheVariants.{TooLarge}
-use Rattle.mc_tables.specs.Memory.{out_of_memory}
+use Rattle.mc_tables.specs.Steps.{out_of_memory}
 use Rattle.mc_tables.specs.TableWords.{is_counter, number_in, address_in, WritesNumber}
 use Rattle.mc_tables.specs.TableLines.{EachTells, lines_in, rows_after}
 use Rattle.mc_tables.specs.CacheTable.{RowText, WriteEntry, WordsTellRow, LineTellsRow, key_cmp}

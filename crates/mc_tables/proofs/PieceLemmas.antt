@@ -15,7 +15,7 @@ use Rattle.mc_text.specs.Lines.{LineText, numbered, lines_from}
 use Rattle.mc_tables.specs.declared.fault.TableFault.{TableFault}
 use Rattle.mc_tables.specs.declared.fault.TableFaultKind.{TableFaultKind}
 use Rattle.mc_tables.specs.declared.fault.TableFaultKind.TheVariants.{NoHeader, Unended, Memory}
-use Rattle.mc_tables.specs.Memory.{out_of_memory, fault_at}
+use Rattle.mc_tables.specs.Steps.{out_of_memory, fault_at}
 use Rattle.mc_text.specs.Steps.{◌>>=◌}
 use Rattle.mc_tables.specs.Steps.{at_line}
 use Rattle.mc_tables.specs.TableLines.{header_in}

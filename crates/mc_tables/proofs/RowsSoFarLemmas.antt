@@ -22,7 +22,7 @@ use Rattle.mc_tables.specs.declared.fault.TableFaultKind.TheVariants.{Unended, R
 use Rattle.mc_tables.specs.declared.fault.TableFaultKind.TheVariants.{TooLarge}
 use Rattle.mc_text.specs.Steps.{◌>>=◌}
 use Rattle.mc_tables.specs.Steps.{demand, at_line, unless_fault}
-use Rattle.mc_tables.specs.Memory.{fault_at}
+use Rattle.mc_tables.specs.Steps.{fault_at}
 use Rattle.mc_tables.specs.TableLines.{is_among, header_in, rows_after}
 use Rattle.mc_tables.specs.CacheTable.{RowText, CacheText, IsEntry, IsCache, key_cmp, same_key}
 use Rattle.mc_tables.specs.CacheTable.{exact_entry, key_of, wildcard_of, table_of}

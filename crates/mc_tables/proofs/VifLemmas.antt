@@ -21,7 +21,7 @@ use Rattle.mc_tables.specs.declared.fault.TableFaultKind.TheVariants.{BadDevice,
 use Rattle.mc_tables.specs.declared.fault.TableFaultKind.TheVariants.{BadFlags, BadAddress}
 use Rattle.mc_tables.specs.declared.fault.TableFaultKind.TheVariants.{RepeatedIndex, RepeatedDevice}
 use Rattle.mc_tables.specs.declared.fault.TableFault.{TableFault}
-use Rattle.mc_tables.specs.Memory.{out_of_memory}
+use Rattle.mc_tables.specs.Steps.{out_of_memory}
 use Rattle.mc_tables.specs.TableWords.{is_counter, is_hexadecimal, number_in}
 use Rattle.mc_tables.specs.TableLines.{EachTells, lines_in, rows_after}
 use Rattle.mc_tables.specs.VifTable.{VifText, is_tunnel, is_register, device_of, WordsTellVif}

@@ -10,7 +10,7 @@ use Rattle.mc_text.specs.Lines.{LineText}
 use Rattle.mc_tables.specs.declared.fault.TableFault.{TableFault}
 use Rattle.mc_tables.specs.declared.fault.TableFaultKind.{TableFaultKind}
 use Rattle.mc_tables.specs.declared.fault.TableFaultKind.TheVariants.{Unended, TooLarge}
-use Rattle.mc_tables.specs.Memory.{fault_at}
+use Rattle.mc_tables.specs.Steps.{fault_at}
 use Rattle.mc_text.specs.Steps.{◌>>=◌}
 use Rattle.mc_tables.specs.Steps.{at_line, unless_fault}
 use Rattle.mc_tables.specs.TableLines.{rows_after}

@@ -1,11 +1,10 @@
-pub mod Memory
 pub mod Steps
 pub mod TableWords
 pub mod TableLines
 pub mod LinesSoFar
 pub mod VifTable
 pub mod VifReading
-pub mod VifWords
+pub mod RowWords
 pub mod VifLookups
 pub mod VifsSoFar
 pub mod CacheTable
@@ -14,7 +13,6 @@ pub mod OutgoingSteps
 pub mod CacheSteps
 pub mod ListedRows
 pub mod RowsSoFar
-pub mod CacheWords
 pub use Rattle.mc_text.specs.Addr
 pub use Rattle.mc_text.specs.AddressReading
 pub use Rattle.mc_text.specs.DeviceName

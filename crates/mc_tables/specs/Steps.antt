@@ -2,6 +2,8 @@
 use Rattle.std.specs.Prelude.{ℕ, Bool, Option, Some, None, Result, Ok, Err, if◌then◌else◌}
 use Rattle.mc_tables.specs.declared.fault.TableFault.{TableFault}
 use Rattle.mc_tables.specs.declared.fault.TableFaultKind.{TableFaultKind}
+use Rattle.std.specs.Prelude.{ℕ}
+use Rattle.mc_tables.specs.declared.fault.TableFaultKind.TheVariants.{Memory}
 
 -- a test that has to be met
 abbrev pub demand : {E : Type 0} → Bool → E → Result (Unit {0}) E
@@ -17,3 +19,11 @@ abbrev pub unless_fault : {A : Type 0} → Option TableFault → Result A TableF
     → Result A TableFault
 unless_fault None read = read
 unless_fault (Some fault) read = Err fault
+
+abbrev pub out_of_memory : TableFault
+out_of_memory = record { line = 0; kind = Memory }
+
+-- a fault of this kind at a line, of which want of memory has none
+abbrev pub fault_at : ℕ → TableFaultKind → TableFault
+fault_at line Memory = out_of_memory
+fault_at line kind = record { line = line; kind = kind }

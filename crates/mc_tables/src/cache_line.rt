@@ -6,7 +6,7 @@ ghost use Rattle.mc_text.specs.Words.{words_of};
 ghost use Rattle.mc_tables.specs.declared.fault.TableFaultKind.TheVariants.{Memory, BadAddress};
 ghost use Rattle.mc_tables.specs.TableWords.{address_in};
 ghost use Rattle.mc_tables.specs.CacheReading.{incoming_in, entry_in, row_in_words};
-ghost use Rattle.mc_tables.specs.CacheWords.{words_before};
+ghost use Rattle.mc_tables.specs.RowWords.{words_before};
 
 use crate::cache_row::CacheRow;
 use crate::entry::Entry;

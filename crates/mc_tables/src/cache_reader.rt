@@ -4,7 +4,7 @@ ghost use Rattle.std.specs.Prelude.{◌≡◌, ◌≢◌, ◌+◌, ◌<◌, ◌�
 ghost use Rattle.std.specs.Prelude.{Ok, Err, OnOk, IfErr, IfSome};
 ghost use Rattle.mc_text.specs.Lines.{max_text};
 ghost use Rattle.mc_tables.specs.declared.fault.TableFaultKind.TheVariants.{TooLarge};
-ghost use Rattle.mc_tables.specs.Memory.{out_of_memory, fault_at};
+ghost use Rattle.mc_tables.specs.Steps.{out_of_memory, fault_at};
 ghost use Rattle.mc_tables.specs.ListedRows.{listed_in};
 ghost use Rattle.mc_tables.specs.RowsSoFar.{no_cache, cache_if};
 

@@ -6,7 +6,7 @@ ghost use Rattle.std.specs.FinMap as map;
 ghost use Rattle.std.specs.FinSet as set;
 ghost use Rattle.mc_text.specs.LineView.{line_text};
 ghost use Rattle.mc_tables.specs.declared.fault.TableFaultKind.TheVariants.{Memory};
-ghost use Rattle.mc_tables.specs.Memory.{out_of_memory};
+ghost use Rattle.mc_tables.specs.Steps.{out_of_memory};
 ghost use Rattle.mc_tables.specs.CacheTable.{CacheText, IsEntry, IsCache, StandsForCache};
 ghost use Rattle.mc_tables.specs.CacheReading.{cache_in};
 ghost use Rattle.mc_tables.specs.CacheSteps.{row_with_room};

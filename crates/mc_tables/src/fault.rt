@@ -2,7 +2,7 @@
 
 ghost use Rattle.std.specs.Prelude.{◌≡◌};
 ghost use Rattle.mc_tables.specs.declared.fault.TableFaultKind.TheVariants.{Memory};
-ghost use Rattle.mc_tables.specs.Memory.{out_of_memory, fault_at};
+ghost use Rattle.mc_tables.specs.Steps.{out_of_memory, fault_at};
 
 use std::alloc::{AllocError, AllocFailed};
 use std::fmt;

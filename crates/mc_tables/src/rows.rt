@@ -7,7 +7,7 @@ ghost use Rattle.mc_text.specs.Lines.{LineText, max_text};
 ghost use Rattle.mc_tables.specs.declared.fault.TableFault.{TableFault};
 ghost use Rattle.mc_tables.specs.declared.fault.TableFaultKind.{TableFaultKind};
 ghost use Rattle.mc_tables.specs.declared.fault.TableFaultKind.TheVariants.{Memory, TooLarge};
-ghost use Rattle.mc_tables.specs.Memory.{out_of_memory, fault_at};
+ghost use Rattle.mc_tables.specs.Steps.{out_of_memory, fault_at};
 ghost use Rattle.mc_tables.specs.LinesSoFar.{read_after, line_after, ReadsInSteps};
 
 use crate::fault::{TableFault, TableFaultKind};

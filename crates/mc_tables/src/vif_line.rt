@@ -9,7 +9,7 @@ ghost use Rattle.mc_tables.specs.declared.fault.TableFaultKind.TheVariants.{BadA
 ghost use Rattle.mc_tables.specs.Steps.{demand};
 ghost use Rattle.mc_tables.specs.TableWords.{is_hexadecimal};
 ghost use Rattle.mc_tables.specs.VifReading.{device_in, flags_in, vif_in_words};
-ghost use Rattle.mc_tables.specs.VifWords.{word_list};
+ghost use Rattle.mc_tables.specs.RowWords.{word_list};
 
 use crate::fault::TableFaultKind;
 use crate::table_words::{MAX_VIF, check_counter, is_hexadecimal_word, number, three_words};

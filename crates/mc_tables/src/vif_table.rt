@@ -8,7 +8,7 @@ ghost use Rattle.std.specs.Ordering.{nat_cmp};
 ghost use Rattle.std.specs.Str.{bytes_eq};
 ghost use Rattle.std.specs.FinMap as map;
 ghost use Rattle.mc_text.specs.LineView.{line_text};
-ghost use Rattle.mc_tables.specs.Memory.{out_of_memory};
+ghost use Rattle.mc_tables.specs.Steps.{out_of_memory};
 ghost use Rattle.mc_tables.specs.TableLines.{rows_after};
 ghost use Rattle.mc_tables.specs.VifTable.{VifText, no_device, AreVifs, StandsForVifs};
 ghost use Rattle.mc_tables.specs.VifReading.{index_repeats, device_repeats, vif_in_line};

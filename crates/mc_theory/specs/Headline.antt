@@ -6,7 +6,7 @@ use Rattle.mc_theory.specs.Nets.{Net}
 use Rattle.mc_theory.specs.Flights.{Flight, Pick, copies_on, IsLossless, EveryRun}
 
 -- It is kept by the flight f that the picks ps end with, where the certificate names so many LANs.
-pub record IsKept (n : Net) (named : ℕ) (ps : List Pick) (f : Flight) : Type 0 where
+pub record PromiseHolds (n : Net) (named : ℕ) (ps : List Pick) (f : Flight) : Type 0 where
   -- no LAN carries two copies (the source's copy is one)
   pub no_two_copies : (l : ℕ) → copies_on f.carried l ≤ 1
   -- none leaves the known domain
@@ -20,4 +20,4 @@ pub record IsKept (n : Net) (named : ℕ) (ps : List Pick) (f : Flight) : Type 0
 -- It is kept for every packet sent with at least the flow's TTL, and every order in which routers
 -- handle copies.
 abbrev pub HeadlineHolds : Net → ℕ → Type 0
-HeadlineHolds n named = EveryRun n n.ttl (λ t ps f. IsKept n named ps f)
+HeadlineHolds n named = EveryRun n n.ttl (λ t ps f. PromiseHolds n named ps f)

@@ -1,5 +1,9 @@
 -- Steps that may be refused, and how a call answers them.
 use Rattle.std.specs.Prelude.{◌≡◌, ℕ, ◌+◌, List, [], ◌∷◌, ◌++◌, length, Result, Ok, Err}
+use Rattle.std.specs.Prelude.{ℕ, List, codes}
+use Rattle.mc_topology.specs.declared.fault.Section.{Section}
+use Rattle.mc_topology.specs.declared.fault.Section.TheVariants.{Top, Lans, Router, Interface}
+use Rattle.mc_topology.specs.declared.fault.Section.TheVariants.{Source, Flow}
 pub use Rattle.mc_text.specs.Steps.{◌>>=◌}
 use Rattle.mc_topology.specs.declared.fault.Section.{Section}
 use Rattle.mc_topology.specs.declared.fault.Section.TheVariants.{Top}
@@ -28,3 +32,11 @@ each section one earlier [] = Ok earlier
 each section one earlier (d ∷ ds) =
     place section (length earlier + 1) (one earlier d) >>= λ x.
     each section one (earlier ++ x ∷ []) ds
+
+abbrev pub section_text : Section → List ℕ
+section_text Top = codes "top"
+section_text Lans = codes "lans"
+section_text Router = codes "router"
+section_text Interface = codes "interface"
+section_text Source = codes "source"
+section_text Flow = codes "flow"

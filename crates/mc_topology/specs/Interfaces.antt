@@ -14,6 +14,10 @@ use Rattle.mc_topology.specs.Answer.{◌>>=◌, place, each}
 use Rattle.mc_topology.specs.Document.{known_table, text_at, rows_at}
 use Rattle.mc_topology.specs.Names.{is_device, index_of}
 use Rattle.mc_topology.specs.Routers.{router_no_of}
+use Rattle.std.specs.Prelude.{ℕ, ◌≤◌, List, length}
+use Rattle.std.specs.List.{All}
+use Rattle.mc_topology.specs.Rows.{InterfaceRow}
+use Rattle.mc_topology.specs.declared.interfaces.InterfaceKey.{InterfaceKey}
 
 -- the keys of an interface
 abbrev pub interface_keys : List (List ℕ)
@@ -57,3 +61,11 @@ unfoldable pub interfaces_in : List (List ℕ) → List RouterRow → Members
 interfaces_in lans routers ms = do
   rows ← place section.Interface 0 (rows_at (codes "interface") 8192 ms)
   each section.Interface (interface_of lans routers) [] rows
+
+-- the row of a key and a LAN
+abbrev pub interface_row : InterfaceKey × ℕ → InterfaceRow
+interface_row e = record { router = e.0.router; device = e.0.device.items; lan = e.1 }
+
+-- no device's name is longer than 15 bytes
+abbrev pub HaveShortDevices : List InterfaceRow → Type 0
+HaveShortDevices interfaces = All (λ i. length i.device ≤ 15) interfaces

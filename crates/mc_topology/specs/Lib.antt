@@ -3,13 +3,11 @@ pub mod Answer
 pub mod Document
 pub mod Flows
 pub mod Interfaces
-pub mod Kept
 pub mod Lans
 pub mod Names
 pub mod Routers
 pub mod Reading
 pub mod Rows
-pub mod SectionText
 pub mod Sources
 pub mod Stands
 pub mod Topology

@@ -2,7 +2,7 @@
 
 ghost use Rattle.std.specs.Prelude.{◌≡◌, Some};
 ghost use Rattle.mc_topology.specs.Answer.{out_of_memory, place};
-ghost use Rattle.mc_topology.specs.SectionText.{section_text};
+ghost use Rattle.mc_topology.specs.Answer.{section_text};
 
 use std::alloc::{AllocError, AllocFailed};
 use std::fmt;

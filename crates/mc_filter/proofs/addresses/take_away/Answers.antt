@@ -1,6 +1,6 @@
 use Rattle.std.proofs.Common.{not, rules}
 use Rattle.std.proofs.lemmas.Fn.{filter_same}
-use Rattle.mc_filter.specs.Addresses.{has}
+use Rattle.mc_filter.specs.SourceFilter.{has}
 use Rattle.mc_filter.proofs.AscendingLemmas.{filtered}
 use Rattle.mc_filter.proofs.addresses.take_away.Goals as goal
 

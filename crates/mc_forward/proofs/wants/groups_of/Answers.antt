@@ -2,7 +2,7 @@ use Rattle.std.proofs.Common.{List, ℕ, sym, subst, eqb, ap, ◌∙◌}
 use Rattle.std.specs.List.Sorted.{IsStrictlyIncreasing}
 use Rattle.std.proofs.lemmas.List.Filters.{dedup_is}
 use Rattle.std.proofs.lemmas.Map.Keys.{IsStrictlyIncreasing-dedup}
-use Rattle.mc_filter.specs.Addresses.{has}
+use Rattle.mc_filter.specs.SourceFilter.{has}
 use Rattle.mc_filter.proofs.AscendingLemmas.{has-sorted}
 use Rattle.mc_forward.proofs.wants.groups_of.Goals as goal
 

@@ -1,7 +1,7 @@
 use Rattle.std.proofs.Common.{◌≡◌, ◌+◌, ◌++◌, take, drop, sym, ◌∙◌, ap}
 use Rattle.std.specs.Prelude.{Err}
 use Rattle.mc_text.specs.LineView.{line_text}
-use Rattle.mc_tables.specs.Memory.{fault_at}
+use Rattle.mc_tables.specs.Steps.{fault_at}
 use Rattle.mc_tables.specs.LinesSoFar.{LinesSoFar, with_begun, with_ended, read_after, line_after}
 use Rattle.mc_tables.proofs.PieceLemmas.{read_taken, read_refused, judged_as}
 use Rattle.mc_tables.proofs.rows.read_up_to_end.Goals as goal

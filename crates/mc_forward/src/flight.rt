@@ -81,6 +81,13 @@ impl<'d> Flight<'d> {
         Ok(Flight { view, copies })
     }
 
+    /// The flow whose packet it is.
+    pub fn flow_view(&self) -> &FlowView<'d>
+        ensures { result.now ≡ record { domain = self.now.domain; flow = self.now.flow } }
+    {
+        &self.view
+    }
+
     /// How many copies wait.
     pub fn waiting(&self) -> usize
         ensures { result ≡ length self.now.flight.waiting }

@@ -16,6 +16,7 @@ use Rattle.mc_theory.proofs.Delivery.{right}
 use Rattle.mc_theory.proofs.Travels.{certified, needs_tell, shows}
 use Rattle.mc_forward.specs.Domains.{DomainValue, IsDomain, net_of, ttl_of}
 use Rattle.mc_forward.proofs.DomainLemmas.{net-of_domain, wanting-within, ttl-from, ttl-to}
+use Rattle.mc_forward.specs.Journeys.{FlowIn, IsFlowIn, Journey, net_in}
 use Rattle.mc_replay.specs.declared.travel.Travel.{Travel}
 use Rattle.mc_replay.specs.declared.finding.Finding.{Finding as Found}
 use Rattle.mc_replay.specs.FindingValues.{finding_value}
@@ -165,59 +166,47 @@ ttl-at d flow t f same at =
     0) (sym same) ∙ ap (λ (o : Option Flow). unwrap_or (option_map (λ (f : Flow). f.ttl) o) 0)
     at
 
--- ---- over the flow that is followed
+-- ---- by the view of the flight's flow
 
-pub net-same : (a d : DomainValue) (v w : ℕ) → a ≡ d → v ≡ w → net_of a v ≡ net_of d w
-net-same a d v w e q = ap (λ (x : DomainValue). net_of x v) e ∙ ap (net_of d) q
+pub view-same : (d : DomainValue) (flow : ℕ) (j : Journey) (f : FlowIn) → j.domain ≡ d
+    → j.flow ≡ flow → f ≡ record { domain = j.domain; flow = j.flow }
+    → f ≡ record { domain = d; flow = flow }
+view-same d flow j f same number is =
+    let by_domain : DomainValue → FlowIn = λ x. record { domain = x; flow = j.flow } in
+    let by_flow : ℕ → FlowIn = λ x. record { domain = d; flow = x } in
+    is ∙ (ap by_domain same ∙ ap by_flow number)
 
--- the entries that are held at the places of their LANs are those of the copies
-by-lan : (d a : DomainValue) (flow v : ℕ) (cs : List Copy) (by_lan : List (Option Entry))
-    → a ≡ d → v ≡ flow → IsByLan by_lan (entries_of (net_of a v) cs)
-    → IsByLan by_lan (entries_of (net_of d flow) cs)
-by-lan d a flow v cs by_lan same number is =
-    subst (λ (n : Net). IsByLan by_lan (entries_of n cs)) (net-same a d v flow same number) is
+pub reordered-by_lan : (f : FlowIn) (cs : List Copy) (by_lan : List (Option Entry))
+    (es : List Entry) → AreClean f.domain f.flow cs → IsByLan by_lan (entries_of (net_in f) cs)
+    → es ≡ held_entries by_lan → IsReordering (entries_of (net_in f) cs) es
+reordered-by_lan f cs by_lan es clean is held =
+    subst (IsReordering (entries_of (net_in f) cs)) (sym held)
+    (same-entries by_lan (entries_of (net_in f) cs) is clean.tree.one_entry)
 
-pub reordered-by_lan : (d a : DomainValue) (flow v : ℕ) (cs : List Copy)
-    (by_lan : List (Option Entry)) (es : List Entry) → a ≡ d → v ≡ flow → AreClean d flow cs
-    → IsByLan by_lan (entries_of (net_of a v) cs) → es ≡ held_entries by_lan
-    → IsReordering (entries_of (net_of d flow) cs) es
-reordered-by_lan d a flow v cs by_lan es same number clean is held =
-    subst (IsReordering (entries_of (net_of d flow) cs)) (sym held)
-    (same-entries by_lan (entries_of (net_of d flow) cs)
-    (by-lan d a flow v cs by_lan same number is) clean.tree.one_entry)
-
-pub ascends-by_lan : (d a : DomainValue) (flow v : ℕ) (cs : List Copy)
-    (by_lan : List (Option Entry)) (es : List Entry) → a ≡ d → v ≡ flow
-    → IsByLan by_lan (entries_of (net_of a v) cs) → es ≡ held_entries by_lan
+pub ascends-by_lan : (f : FlowIn) (cs : List Copy) (by_lan : List (Option Entry)) (es : List Entry)
+    → IsByLan by_lan (entries_of (net_in f) cs) → es ≡ held_entries by_lan
     → IsStrictlyIncreasing (map (λ (e : Entry). e.lan) es)
-ascends-by_lan d a flow v cs by_lan es same number is held =
+ascends-by_lan f cs by_lan es is held =
     subst (λ xs. IsStrictlyIncreasing (map (λ (e : Entry). e.lan) xs)) (sym held)
-    (ascending by_lan (entries_of (net_of d flow) cs) (by-lan d a flow v cs by_lan same number is))
+    (ascending by_lan (entries_of (net_in f) cs) is)
 
 -- where each wanting LAN is served, they are accepted
-pub accepted-by_lan : (d a : DomainValue) (flow v : ℕ) (cs : List Copy)
-    (by_lan : List (Option Entry)) (es : List Entry) → a ≡ d → v ≡ flow → IsDomain a
-    → AreClean d flow cs → IsByLan by_lan (entries_of (net_of a v) cs) → es ≡ held_entries by_lan
-    → ((l : ℕ) → l < length a.topology.lans → serves (net_of a v) by_lan l ≡ true)
-    → IsAccepted (net_of d flow) es
-accepted-by_lan d a flow v cs by_lan es same number ok clean is held each =
-    let served : IsServed (net_of a v) (entries_of (net_of a v) cs) =
-    served-each (net_of a v) (length a.topology.lans) by_lan (entries_of (net_of a v) cs) is
-    (λ l w. wanting-within a v l ok w) each in
-    made-accepted d flow cs es clean (reordered-by_lan d a flow v cs by_lan es same number clean is
-    held)
-    (subst (λ (n : Net). IsServed n (entries_of n cs)) (net-same a d v flow same number) served)
+pub accepted-by_lan : (f : FlowIn) (cs : List Copy) (by_lan : List (Option Entry))
+    (es : List Entry) → IsDomain f.domain → AreClean f.domain f.flow cs
+    → IsByLan by_lan (entries_of (net_in f) cs) → es ≡ held_entries by_lan
+    → ((l : ℕ) → l < length f.domain.topology.lans → serves (net_in f) by_lan l ≡ true)
+    → IsAccepted (net_in f) es
+accepted-by_lan f cs by_lan es ok clean is held each =
+    made-accepted f.domain f.flow cs es clean (reordered-by_lan f cs by_lan es clean is held)
+    (served-each (net_in f) (length f.domain.topology.lans) by_lan (entries_of (net_in f) cs) is
+    (λ l w. wanting-within f.domain f.flow l ok w) each)
 
 -- and where one isn't, the travel at the flow's TTL finds a fault
-pub fault-by_lan : (d a : DomainValue) (flow v : ℕ) (cs : List Copy)
-    (by_lan : List (Option Entry)) → a ≡ d → v ≡ flow → flow < length d.topology.flows
-    → IsDomain a → AreClean d flow cs → IsByLan by_lan (entries_of (net_of a v) cs)
-    → (l : ℕ) × (serves (net_of a v) by_lan l ≡ false)
-    → (t : Travel) → IsTravelOfFirst d flow (ttl_of d flow) t → FindsFault t
-fault-by_lan d a flow v cs by_lan same number lt ok clean is low t travel =
-    let n = net_of d flow in
-    let now : serves n by_lan low.0 ≡ false = subst (λ (n : Net). serves n by_lan low.0 ≡ false)
-    (net-same a d v flow same number) low.1 in
-    fault-at_least d flow cs t (subst IsDomain same ok) lt clean
-    (served-not n by_lan (entries_of n cs) low.0 (by-lan d a flow v cs by_lan same number is)
-    clean.tree.one_entry now) travel
+pub fault-by_lan : (f : FlowIn) (cs : List Copy) (by_lan : List (Option Entry)) → IsFlowIn f
+    → AreClean f.domain f.flow cs → IsByLan by_lan (entries_of (net_in f) cs)
+    → (l : ℕ) × (serves (net_in f) by_lan l ≡ false)
+    → (t : Travel) → IsTravelOfFirst f.domain f.flow (net_in f).ttl t → FindsFault t
+fault-by_lan f cs by_lan rules clean is low t travel =
+    fault-at_least f.domain f.flow cs t rules.domain rules.flow clean
+    (served-not (net_in f) by_lan (entries_of (net_in f) cs) low.0 is clean.tree.one_entry low.1)
+    travel

@@ -6,6 +6,7 @@ ghost use Rattle.std.specs.List.Sorted.{IsStrictlyIncreasing};
 ghost use Rattle.mc_theory.specs.Certificates.{IsAccepted, IsReordering, IsRight};
 ghost use Rattle.mc_theory.specs.Made.{entries_of};
 ghost use Rattle.mc_forward.specs.Domains.{net_of, ttl_of};
+ghost use Rattle.mc_forward.specs.Journeys.{net_in};
 ghost use Rattle.mc_cert.specs.Certificate.{IsEntryOf, IsList};
 ghost use Rattle.mc_maker.specs.Examined.{FindsFault, FindsNothing, IfCertified, IfFound};
 ghost use Rattle.mc_maker.specs.Examined.{IsOfTravel, IsTravelOfFirst, IsTtlOfFault, is_certified};
@@ -37,28 +38,25 @@ pub enum Examined {
 /// LANs, if they reach each LAN that wants the flow.
 fn certificate_of(
     alloc: Global,
-    domain: &Domain,
-    flow: u32,
+    view: &FlowView<'_>,
     copies: &[Carried],
 ) -> Result<Option<Vec<Reached>>, Memory>
-    requires flow { flow < length domain.now.topology.flows }
-    requires clean { AreClean domain.now flow copies.now }
+    requires { AreClean view.now.domain view.now.flow copies.now }
     ensures accepted { IfOk result (λ made. IfSome made (λ es.
-        IsAccepted (net_of domain.now flow) es.items)) }
+        IsAccepted (net_in view.now) es.items)) }
     ensures ascending { IfOk result (λ made. IfSome made (λ es.
         IsStrictlyIncreasing (map (λ e. e.lan) es.items))) }
     ensures listed { IfOk result (λ made. IfSome made (λ es.
-        All (IsEntryOf domain.now.topology) es.items)) }
+        All (IsEntryOf view.now.domain.topology) es.items)) }
     ensures list { IfOk result (λ made. IfSome made (λ es. IsList es.items)) }
     ensures entries { IfOk result (λ made. IfSome made (λ es.
-        IsReordering (entries_of (net_of domain.now flow) copies.now) es.items)) }
+        IsReordering (entries_of (net_in view.now) copies.now) es.items)) }
     // Else the travel at the flow's TTL finds a fault.
     ensures none { IfOk result (λ made. IfNone made ((travel : Travel) →
-        IsTravelOfFirst domain.now flow (ttl_of domain.now flow) travel → FindsFault travel)) }
+        IsTravelOfFirst view.now.domain view.now.flow (net_in view.now).ttl travel → FindsFault travel)) }
 {
-    let view = FlowView::new(domain, flow);
-    let by_lan = entries_by_lan(alloc, &view, copies)?;
-    if !serves_all(&view, &by_lan) {
+    let by_lan = entries_by_lan(alloc, view, copies)?;
+    if !serves_all(view, &by_lan) {
         return Ok(None);
     }
     let entries = listed(alloc, &by_lan)?;
@@ -102,7 +100,7 @@ pub fn examine(alloc: Global, domain: &Domain, flow: u32) -> Result<Examined, Me
             travel: ended.travel,
         });
     };
-    if let Some(entries) = certificate_of(alloc, domain, flow, ended.flight.copies())? {
+    if let Some(entries) = certificate_of(alloc, ended.flight.flow_view(), ended.flight.copies())? {
         return Ok(Examined::Certified(entries));
     }
     let ttl = topology.flow(flow).ttl;

@@ -1,9 +1,8 @@
 //! Whether the entries reach each LAN that wants the flow.
 
 ghost use Rattle.std.specs.Prelude.{◌≡◌, ◌<◌, IsFalse, IsTrue, ℕ, false, length, true};
-ghost use Rattle.mc_forward.specs.Domains.{IsDomain};
 ghost use Rattle.mc_maker.specs.ByLan.{serves};
-ghost use Rattle.mc_forward.specs.Journeys.{net_in};
+ghost use Rattle.mc_forward.specs.Journeys.{IsFlowIn, net_in};
 
 use crate::entries::entry_at;
 use mc_cert::Reached;
@@ -26,7 +25,7 @@ fn serves(view: &FlowView<'_>, by_lan: &PerLan<Reached>, lan: LanNo) -> bool
 
 /// Whether each LAN that wants the flow is.
 pub(crate) fn serves_all(view: &FlowView<'_>, by_lan: &PerLan<Reached>) -> bool
-    ensures rules { IsDomain view.now.domain }
+    ensures rules { IsFlowIn view.now }
     ensures each { IsTrue result → (lan : ℕ) → lan < length view.now.domain.topology.lans →
         serves (net_in view.now) by_lan.now lan ≡ true }
     ensures some { IsFalse result →

@@ -1,5 +1,6 @@
 -- By the travels that were made.
-use Rattle.std.proofs.Common.{ap, subst, refl, arith}
+use Rattle.std.proofs.Common.{All, ap, subst, refl, arith}
+use Rattle.mc_cert.specs.Certificate.{IsEntryOf}
 use Rattle.std.specs.Prelude.{IfSome}
 use Rattle.mc_theory.specs.Certificates.{IsAccepted, IsReordering}
 use Rattle.mc_theory.specs.Made.{entries_of}
@@ -9,16 +10,20 @@ use Rattle.mc_replay.specs.FindingValues.{finding_value}
 use Rattle.mc_maker.specs.Examined.{FindsFault, IsTravelOfFirst, IsTtlOfFault}
 use Rattle.mc_maker.proofs.CleanLemmas.{clean-copies}
 use Rattle.mc_maker.proofs.ExaminedLemmas.{accepted-right, fault-value, of-travel, ttl-at}
+use Rattle.mc_maker.proofs.ExaminedLemmas.{view-same}
 use Rattle.mc_maker.proofs.ExaminedLemmas.{ttl-greatest, ttl-least, wrong}
 use Rattle.mc_maker.proofs.examination.examine.Goals as goal
 
-pub certificate_of-requires-clause-clean : goal.certificate_of-requires-clause-clean
-certificate_of-requires-clause-clean c =
-    clean-copies c.args.domain.now c.in_ok-ended.ended.flight.domain c.args.flow
+pub certificate_of-requires : goal.certificate_of-requires
+certificate_of-requires c =
+    let d = c.args.domain.now in
+    let view = view-same d c.args.flow c.in_ok-ended.ended.flight c.flow_view.result.now
+    c.in_ok-ended.ensures.domain c.in_ok-ended.ensures.flow c.flow_view.ensures in
+    rw view (clean-copies c.args.domain.now c.in_ok-ended.ended.flight.domain c.args.flow
     c.in_ok-ended.ended.travel c.in_ok-ended.ended.flight.flight c.copies.result.now
     c.topology-topology.ensures.rules c.in_ok-ended.ensures.domain c.in_ok-ended.ensures.run
     (ap finding_value c.in-Clean.is) c.copies.ensures.copies c.copies.ensures.lans
-    c.copies.ensures.senders
+    c.copies.ensures.senders)
 
 pub returns-in_default : goal.returns-in_default
 returns-in_default c =
@@ -44,22 +49,40 @@ returns-in_default c =
       );
     }
 
+pub returns-in-Some-clause-accepted : goal.returns-in-Some-clause-accepted
+returns-in-Some-clause-accepted c =
+    let d = c.args.domain.now in
+    let view = view-same d c.args.flow c.in_ok-ended.ended.flight c.flow_view.result.now
+    c.in_ok-ended.ensures.domain c.in_ok-ended.ensures.flow c.flow_view.ensures in
+    let made = rw view at c.in_ok-entries.ensures in
+    subst (λ o. IfSome o (λ es. IsAccepted (net_of d c.args.flow) es.items)) c.in-Some.is
+    made.accepted
+
+pub returns-in-Some-clause-listed : goal.returns-in-Some-clause-listed
+returns-in-Some-clause-listed c =
+    let d = c.args.domain.now in
+    let view = view-same d c.args.flow c.in_ok-ended.ended.flight c.flow_view.result.now
+    c.in_ok-ended.ensures.domain c.in_ok-ended.ensures.flow c.flow_view.ensures in
+    let made = rw view at c.in_ok-entries.ensures in
+    subst (λ o. IfSome o (λ es. All (IsEntryOf d.topology) es.items)) c.in-Some.is made.listed
+
 pub returns-in-Some-clause-made : goal.returns-in-Some-clause-made
 returns-in-Some-clause-made c =
     let d = c.args.domain.now in
+    let view = view-same d c.args.flow c.in_ok-ended.ended.flight c.flow_view.result.now
+    c.in_ok-ended.ensures.domain c.in_ok-ended.ensures.flow c.flow_view.ensures in
+    let made = rw view at c.in_ok-entries.ensures in
     let cs = c.copies.result.now in
     of-travel d c.args.flow c.in_ok-ended.ended.travel c.in_ok-ended.ended.flight.flight cs
     c.in-Some.entries.items c.in_ok-ended.ensures.run (ap finding_value c.in-Clean.is)
     (subst (λ o. IfSome o (λ es. IsReordering (entries_of (net_of d c.args.flow) cs) es.items))
-    c.in-Some.is c.in_ok-entries.ensures.entries) c.copies.ensures.copies
+    c.in-Some.is made.entries) c.copies.ensures.copies
 
 pub returns-in-Some-clause-right : goal.returns-in-Some-clause-right
 returns-in-Some-clause-right c =
     let d = c.args.domain.now in (
       (λ _. accepted-right d c.args.flow c.in-Some.entries.items c.topology-topology.ensures.rules
-          c.requires
-          (subst (λ o. IfSome o (λ es. IsAccepted (net_of d c.args.flow) es.items)) c.in-Some.is
-          c.in_ok-entries.ensures.accepted)),
+          c.requires (returns-in-Some-clause-accepted c)),
       (λ _. refl),
     )
 

@@ -6,8 +6,8 @@ use Rattle.std.specs.Prelude.{unwrap_or}
 use Rattle.std.specs.Cmp.Lexicographic.{slice_cmp, lists_ties}
 use Rattle.std.specs.declared.cmp.Ordering.{Ordering}
 use Rattle.std.specs.Ordering.{is_eq}
-use Rattle.std.specs.BTreeMap.{BTreeMap, get, Updates}
-use Rattle.std.proofs.lemmas.List.{map-append}
+use Rattle.std.specs.BTreeMap.{BTreeMap, get, get_by, Updates}
+use Rattle.std.proofs.lemmas.List.{length-map, map-append}
 use Rattle.std.proofs.lemmas.List.Elements.{All-push}
 use Rattle.std.proofs.lemmas.List.Sums.{fold-append}
 use Rattle.mc_topology.specs.Topology.{TopologyValue}
@@ -31,7 +31,7 @@ module _ {K : Type 0} (tree : K → Tree) where
   tree_order x y = slice_cmp by_order.cmp (tree x) (tree y)
 
   -- a new tree is put behind the others, and into the map with its number
-  pub numbered_pushed : (numbers now : BTreeMap K ℕ) (key : K) (n : ℕ) (trees : List Tree)
+  numbered_pushed : (numbers now : BTreeMap K ℕ) (key : K) (n : ℕ) (trees : List Tree)
       → AreNumbered by_order.cmp tree numbers trees → place_in trees (tree key) ≡ None
       → n ≡ length trees → Updates tree_order numbers now key (Some n)
       → AreNumbered by_order.cmp tree now (trees ++ tree key ∷ [])
@@ -47,6 +47,27 @@ module _ {K : Type 0} (tree : K → Tree) where
       here false differs = are k
           ∙ sym (position_past (same_tree (tree k)) trees (tree key)
           (unlike_trees (tree key) (tree k) differs))
+
+  -- a tree that the map has no number for, put behind the others and into the map
+  pub put : (numbers now : BTreeMap K ℕ) (old new : List K) (x key : K) (n : ℕ)
+      → AreNumbered by_order.cmp tree numbers (map tree old)
+      → get_by (λ k. slice_cmp by_order.cmp (tree x) (tree k)) numbers ≡ None
+      → new ≡ old ++ x ∷ [] → tree key ≡ tree x → n ≡ length old
+      → Updates tree_order numbers now key (Some n)
+      → AreNumbered by_order.cmp tree now (map tree new) × (place_in (map tree new) (tree x) ≡ Some n)
+  put numbers now old new x key n are absent made same last updates =
+      let trees = map tree old in
+      let none : place_in trees (tree key) ≡ None =
+      ap (place_in trees) same ∙ sym (are x) ∙ absent in
+      let grown : trees ++ tree key ∷ [] ≡ map tree new =
+      ap (λ t. trees ++ t ∷ []) same ∙ sym (map-append tree old (x ∷ []))
+      ∙ ap (map tree) (sym made) in
+      let long : n ≡ length trees = omega (arith, last, length-map old tree) in (
+        subst (λ (ts : List Tree). AreNumbered by_order.cmp tree now ts) grown
+            (numbered_pushed numbers now key n trees are none long updates),
+        ap₂ place_in (sym grown) (sym same) ∙ place_of_new trees (tree key) none
+            ∙ ap Some (sym long),
+      )
 
 -- ---- one tree more
 

@@ -1,4 +1,4 @@
-use Rattle.std.proofs.Common.{◌≡◌, ◌<◌, ◌∙◌, ◌++◌, ◌∷◌, [], List, ℕ, length, sym, ap, subst, arith}
+use Rattle.std.proofs.Common.{◌<◌, ◌∙◌, ◌++◌, ◌∷◌, [], List, ℕ, length, sym, ap, subst, arith}
 use Rattle.std.proofs.lemmas.List.{length-map}
 use Rattle.mc_cert.specs.Certificate.{Tree, tree_at}
 use Rattle.mc_cert.specs.Trees.{AreShared, trees_of}
@@ -14,16 +14,12 @@ number_of-requires c =
       ap (λ (ts : List Tree). length ts) c.self.view_is,
     )
 
--- the numbers are those of before and this tree's
-grown : (c : goal.In_ok-push) → c.push.new.self.items
-    ≡ c.self.inside.numbers.items ++ c.in_ok-number.number ∷ []
-grown c = c.in_ok-push.ensures.items
-    ∙ ap (λ ns. ns ++ c.in_ok-number.number ∷ []) c.in_ok-reserve.ensures.items
-
 pub invariant_of-self-2 : goal.invariant_of-self-2
 invariant_of-self-2 c =
     let different = c.self.inside.different in
     let numbers = c.self.inside.numbers.items in
+    let grown = c.in_ok-push.ensures.items
+    ∙ ap (λ ns. ns ++ c.in_ok-number.number ∷ []) c.in_ok-reserve.ensures.items in
     let few : length numbers < 4096 =
     omega (
       arith,
@@ -31,14 +27,16 @@ invariant_of-self-2 c =
       length-map numbers (tree_at different),
       ap (λ (ts : List Tree). length ts) c.self.view_is,
     ) in
-    subst (λ (ns : List ℕ). AreShared c.number_of.new.self ns) (sym (grown c))
+    subst (λ (ns : List ℕ). AreShared c.number_of.new.self ns) (sym grown)
     (shared_pushed different c.number_of.new.self c.args.tree.items c.in_ok-number.number
     c.in_ok-number.ensures.trees c.in_ok-number.ensures.number numbers c.self.invariant few
     c.requires.list)
 
 pub returns-clause-pushed : goal.returns-clause-pushed
 returns-clause-pushed c =
-    ap (trees_of c.number_of.new.self) (grown c)
+    let grown = c.in_ok-push.ensures.items
+    ∙ ap (λ ns. ns ++ c.in_ok-number.number ∷ []) c.in_ok-reserve.ensures.items in
+    ap (trees_of c.number_of.new.self) grown
     ∙ trees_pushed c.self.inside.different c.number_of.new.self c.args.tree.items
     c.in_ok-number.number c.in_ok-number.ensures.trees c.in_ok-number.ensures.number
     c.self.inside.numbers.items c.self.invariant

@@ -1,9 +1,8 @@
 -- What a text stands for belongs to the topology.
-use Rattle.std.proofs.Common.{◌≡◌, ℕ, zero, suc, ◌<◌, All, IfSome, List, [], ◌∷◌, length, Option}
-use Rattle.std.proofs.Common.{Some, None, option_map, sym, ◌∙◌, arith}
+use Rattle.std.proofs.Common.{◌≡◌, ℕ, zero, suc, ◌<◌, All, List, [], ◌∷◌, length}
+use Rattle.std.proofs.Common.{Some, option_map, sym, ◌∙◌, arith}
 use Rattle.std.specs.Prelude.{slice_get}
 use Rattle.serde_json.specs.Data.{Data, Members}
-use Rattle.mc_theory.specs.Nets.{Interface}
 use Rattle.mc_theory.specs.Certificates.{Entry}
 use Rattle.mc_topology.specs.Rows.{RouterRow}
 use Rattle.mc_topology.specs.Topology.{TopologyValue}
@@ -11,10 +10,10 @@ use Rattle.mc_topology.proofs.NameLemmas.{lan_within, name_of_router}
 use Rattle.mc_cert.specs.declared.version.Version.{Version}
 use Rattle.mc_cert.specs.declared.version.Version.TheVariants.{One, Two}
 use Rattle.mc_cert.specs.Certificate.{Tree, IsEntryOf, BelongsTo}
-use Rattle.mc_cert.specs.Stands.{IsForwarder, IsEntry, AreEntries, IsFlow, IsTree, IsSharedFlow}
+use Rattle.mc_cert.specs.Stands.{IsEntry, AreEntries, IsFlow, IsTree, IsSharedFlow}
 use Rattle.mc_cert.specs.Stands.{IsVersion, CertificateStands}
 use Rattle.mc_cert.proofs.Kept.{all_at}
-use Rattle.mc_cert.proofs.Parts.{each_length, each_all}
+use Rattle.mc_cert.proofs.Parts.{each_length, each_all, forwarder_gives}
 
 -- a router that has a name is one of the routers
 named_within : (routers : List RouterRow) (router : ℕ) (name : List ℕ)
@@ -23,20 +22,12 @@ named_within [] router name e = absurd cc
 named_within (r ∷ routers) zero name e = omega arith
 named_within (r ∷ routers) (suc router) name e = omega (arith, named_within routers router name e)
 
-forwarder_belongs : (routers : List RouterRow) (router vif : Option Data)
-    (forwarder : Option Interface) → IsForwarder routers router vif forwarder
-    → IfSome forwarder (λ i. i.0 < length routers)
-forwarder_belongs routers None None forwarder is = rw is tt
-forwarder_belongs routers None (Some v) forwarder is = absurd is
-forwarder_belongs routers (Some d) None forwarder is = absurd is
-forwarder_belongs routers (Some d) (Some v) forwarder (i, same, is) =
-    rw same (named_within routers i.0 is.name (name_of_router routers i.0 is.name is.router))
-
 entry_belongs : (t : TopologyValue) (d : Data) (e : Entry) → IsEntry t d e → IsEntryOf t e
 entry_belongs t d e is = record {
   lan = lan_within t.lans e.lan is.lan_name is.lan;
-  router =
-      forwarder_belongs t.routers _ _ e.forwarder is.forwarder;
+  router = forwarder_gives (λ i. i.0 < length t.routers) t.routers
+      (λ d v i at. named_within t.routers i.0 at.name
+      (name_of_router t.routers i.0 at.name at.router)) _ _ e.forwarder is.forwarder;
 }
 
 entries_belong : (t : TopologyValue) (rows : List Data) (es : Tree) → AreEntries t rows es

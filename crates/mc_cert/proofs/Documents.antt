@@ -6,6 +6,7 @@ use Rattle.std.proofs.Common.{subst, ◌∙◌, arith, append_assoc, lit<}
 use Rattle.std.specs.Prelude.{slice_get}
 use Rattle.std.specs.List.{AllByRecursion, zip}
 use Rattle.std.proofs.lemmas.Fmt.{decimal_digit}
+use Rattle.std.proofs.lemmas.Slice.Zip.{length-zip}
 use Rattle.json.specs.Print.{escape, escape_byte, quoted}
 use Rattle.json.proofs.Printed.Utf8.{IsUtf8-are_ascii}
 use Rattle.serde_json.specs.Data.{Data, unsigned, number, string, array, object, Items, Members}
@@ -30,6 +31,7 @@ use Rattle.mc_cert.specs.Entries.{entry_keys}
 use Rattle.mc_cert.specs.Object.{has_only, rows_in}
 use Rattle.mc_cert.specs.Stands.{EachStands, IsForwarder, IsEntry, IsTree}
 use Rattle.mc_cert.specs.Writable.{IsWritableFor, IsWritableTreeFor}
+use Rattle.mc_cert.proofs.Kept.{got}
 use Rattle.mc_cert.proofs.JsonValues.{IsPlain, escape_plain, name_plain, dotted_plain, IsGood}
 use Rattle.mc_cert.proofs.JsonValues.{good_string, good_number, good_array, items_from, good_items}
 use Rattle.mc_cert.proofs.JsonValues.{HasGood, good_none, good_member, good_object}
@@ -70,6 +72,15 @@ document t places trees =
 
 -- ---- its text
 
+-- what ends with a byte, and then the rest
+closed : (s x : List ℕ) (b : ℕ) (rest : List ℕ) → s ++ b ∷ [] ≡ x → s ++ b ∷ rest ≡ x ++ rest
+closed s x b rest e = sym (append_assoc s (b ∷ []) rest) ∙ ap (λ y. y ++ rest) e
+
+-- a text between quotation marks, and then the rest
+unquoted : (s escaped rest : List ℕ) → escaped ≡ s → s ++ 34 ∷ rest ≡ (escaped ++ 34 ∷ []) ++ rest
+unquoted s escaped rest e =
+    closed s (escaped ++ 34 ∷ []) 34 rest (ap (λ n. n ++ 34 ∷ []) (sym e))
+
 forwarder_spelled : (t : TopologyValue) (forwarder : Option Interface)
     → IfSome forwarder (λ i. escape (router_name t i.0) ≡ router_name t i.0)
     → forwarder_text t forwarder ++ codes "}" ≡ members_text true
@@ -87,8 +98,7 @@ forwarder_spelled t (Some i) plain = spelled (router_name t i.0) (escape (router
           let tail = 44 ∷ (quoted (codes "vif") ++ 58 ∷ (vif ++ 125 ∷ [])) in
           let flat : (start ++ name ++ codes "\",\"vif\":" ++ vif) ++ codes "}"
           ≡ start ++ (name ++ 34 ∷ tail) = simp append_assoc in
-          flat ∙ ap (λ s. start ++ s) (sym (append_assoc name (34 ∷ []) tail))
-          ∙ ap (λ n. start ++ ((n ++ 34 ∷ []) ++ tail)) (sym e)
+          flat ∙ ap (λ s. start ++ s) (unquoted name escaped tail e)
 
 entry_spelled : (t : TopologyValue) (e : Entry) → escape (lan_name t e.lan) ≡ lan_name t e.lan
     → IfSome e.forwarder (λ i. escape (router_name t i.0) ≡ router_name t i.0)
@@ -119,8 +129,7 @@ entry_spelled t e plain plain_router =
           let flat : start ++ name ++ codes "\",\"need\":" ++ need ++ codes
           ",\"rank\":" ++ rank ++ forwarder ++ codes "}" ≡ start ++ (name ++ 34 ∷ tail) =
           simp append_assoc in
-          flat ∙ ap (λ s. start ++ s) (sym (append_assoc name (34 ∷ []) tail))
-          ∙ ap (λ n. start ++ ((n ++ 34 ∷ []) ++ tail)) (sym e)
+          flat ∙ ap (λ s. start ++ s) (unquoted name escaped tail e)
 
 flow_spelled : (p : Flow × ℕ) → flow_text p.0 p.1 ≡ compact_text (flow_data p)
 unfolding escape_byte
@@ -145,11 +154,8 @@ flow_spelled p =
           ≡ start ++ (group ++ 34 ∷ (middle ++ (source ++ 34 ∷ tail))) =
           simp append_assoc in
           flat ∙ ap (λ s. start ++ (group ++ 34 ∷ (middle ++ s)))
-          (sym (append_assoc source (34 ∷ []) tail))
-          ∙ ap (λ s. start ++ s)
-          (sym (append_assoc group (34 ∷ []) (middle ++ ((source ++ 34 ∷ []) ++ tail))))
-          ∙ ap₂ (λ g s. start ++ ((g ++ 34 ∷ []) ++ (middle ++ ((s ++ 34 ∷ []) ++ tail)))) (sym e)
-          (sym f)
+          (unquoted source escaped_source tail f)
+          ∙ ap (λ s. start ++ s) (unquoted group escaped_group _ e)
 
 module _ {A : Type 0} (text : A → List ℕ) (f : A → Data) where
   list_spelled : (later : Bool) (xs : List A) → AllByRecursion (λ x. text x ≡ compact_text (f x)) xs
@@ -173,11 +179,8 @@ document_spelled flows trees flow_items tree_items e f =
     let tail = codes ",\"version\":2}" in
     let flat : start ++ flows ++ codes "],\"trees\":[" ++ trees ++ codes "],\"version\":2}"
     ≡ start ++ (flows ++ 93 ∷ (middle ++ (trees ++ 93 ∷ tail))) = simp append_assoc in
-    flat ∙ ap (λ s. start ++ (flows ++ 93 ∷ (middle ++ s)))
-    (sym (append_assoc trees (93 ∷ []) tail))
-    ∙ ap (λ s. start ++ s)
-    (sym (append_assoc flows (93 ∷ []) (middle ++ ((trees ++ 93 ∷ []) ++ tail))))
-    ∙ ap₂ (λ x y. start ++ (x ++ (middle ++ (y ++ tail)))) e f
+    flat ∙ ap (λ s. start ++ (flows ++ 93 ∷ (middle ++ s))) (closed trees tree_items 93 tail f)
+    ∙ ap (λ s. start ++ s) (closed flows flow_items 93 _ e)
     ∙ ap (λ two. start ++ (flow_items
     ++ (middle ++ (tree_items ++ (codes ",\"version\":" ++ (two ++ codes "}"))))))
     (sym (decimal_digit 2 (lit< tt)))
@@ -218,10 +221,7 @@ each_second P (x ∷ xs) (y ∷ ys) (here, all) = (here, each_second P xs ys all
 -- as many pairs as there are of each
 pub zip_length : {A B : Type 0} (xs : List A) (ys : List B) → length ys ≡ length xs
     → length (zip xs ys) ≡ length xs
-zip_length [] ys e = refl
-zip_length (x ∷ xs) [] e = absurd (omega (arith, e))
-zip_length (x ∷ xs) (y ∷ ys) e = let rest = zip_length xs ys (omega (arith, e)) in omega
-    (arith, rest)
+zip_length xs ys e = omega (arith, length-zip xs ys, e)
 
 -- a list has a row for each of what it is made of
 pub rows_length : {A : Type 0} (f : A → Data) (xs : List A)
@@ -230,12 +230,6 @@ rows_length f [] = refl
 rows_length f (x ∷ xs) = ap suc (rows_length f xs)
 
 -- ---- names
-
-known_at : (names : List (List ℕ)) (n : ℕ) → n < length names
-    → slice_get names n ≡ Some (unwrap_or (slice_get names n) [])
-known_at [] n lt = absurd (omega (arith, lt))
-known_at (x ∷ names) zero lt = refl
-known_at (x ∷ names) (suc n) lt = known_at names n (omega (arith, lt))
 
 row_at : (routers : List RouterRow) (n : ℕ) → n < length routers
     → (r : RouterRow) × (slice_get routers n ≡ Some r)
@@ -246,7 +240,7 @@ row_at (r ∷ routers) (suc n) lt = row_at routers n (omega (arith, lt))
 lan_plain : (t : TopologyValue) (lan : ℕ) → IsTopology t → lan < length t.lans
     → All IsPlain (lan_name t lan)
 lan_plain t lan rules lt = name_plain (lan_name t lan)
-    (rules.lans_named lan (lan_name t lan) (known_at t.lans lan lt))
+    (rules.lans_named lan (lan_name t lan) (got t.lans lan [] lt))
 
 router_is : (t : TopologyValue) (n : ℕ) (r : RouterRow) → slice_get t.routers n ≡ Some r
     → router_name t n ≡ r.name
@@ -367,7 +361,7 @@ entry_stands t e rules is =
       };
       lan_text = refl;
       lan = number_of_lan t.lans e.lan (lan_name t e.lan) rules.lan_names
-          (known_at t.lans e.lan is.among.lan);
+          (got t.lans e.lan [] is.among.lan);
       need = refl;
       need_from = is.writable.need;
       need_to = is.bytes.need;

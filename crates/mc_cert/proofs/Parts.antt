@@ -233,17 +233,22 @@ entries_again t list rows es are =
     rows_again (λ n d. place (entry_place list (n + 1)) (entry_of t d)) (λ _. IsEntry t)
     (λ n d x is. ap (place (entry_place list (n + 1))) (entry_again t d x is)) rows es are.each
 
-forwarder_listed : (routers : List RouterRow) (router vif : Option Data)
-    (forwarder : Option Interface) → IsForwarder routers router vif forwarder
-    → IfSome forwarder (λ i. i.1 ≤ 31)
-forwarder_listed routers None None forwarder is = rw is tt
-forwarder_listed routers None (Some v) forwarder is = absurd is
-forwarder_listed routers (Some d) None forwarder is = absurd is
-forwarder_listed routers (Some d) (Some v) forwarder (i, same, is) = rw same is.vif_to
+-- what holds of each interface that is read holds of a forwarder
+pub forwarder_gives : (P : Interface → Type 0) (routers : List RouterRow)
+    → ((d v : Data) (i : Interface) → IsInterface routers d v i → P i) → (router vif : Option Data)
+    (forwarder : Option Interface) → IsForwarder routers router vif forwarder → IfSome forwarder P
+forwarder_gives P routers gives None None forwarder is = rw is tt
+forwarder_gives P routers gives None (Some v) forwarder is = absurd is
+forwarder_gives P routers gives (Some d) None forwarder is = absurd is
+forwarder_gives P routers gives (Some d) (Some v) forwarder (i, same, is) = rw same (gives d v i is)
 
 entry_listed : (t : TopologyValue) (d : Data) (e : Entry) → IsEntry t d e → IsWritable e
 entry_listed t d e is =
-    record { need = is.need_from; vif = forwarder_listed t.routers _ _ e.forwarder is.forwarder }
+    record {
+      need = is.need_from;
+      vif = forwarder_gives (λ i. i.1 ≤ 31) t.routers (λ d v i at. at.vif_to) _ _ e.forwarder
+          is.forwarder;
+    }
 
 -- entries that are read can be named
 pub entries_listed : (t : TopologyValue) (rows : List Data) (es : Tree) → AreEntries t rows es

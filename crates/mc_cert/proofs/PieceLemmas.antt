@@ -47,34 +47,6 @@ router_read t router s name rest e is =
 
 -- ---- one piece behind another
 
--- one piece more behind those that are read
-then : {s u : List ℕ} (a b v : List ℕ) → s ≡ a ++ u → u ≡ b ++ v → s ≡ (a ++ b) ++ v
-then a b v e f = e ∙ ap (λ x. a ++ x) f ∙ sym (append_assoc a b v)
-
--- three pieces, each behind the one before
-three : (s x1 x2 x3 r1 r2 r3 : List ℕ)
-    → s ≡ x1 ++ r1 → r1 ≡ x2 ++ r2 → r2 ≡ x3 ++ r3
-    → s ≡ ((x1 ++ x2) ++ x3) ++ r3
-three s x1 x2 x3 r1 r2 r3 p1 p2 p3 =
-    then (x1 ++ x2) x3 r3 (then x1 x2 r2 p1 p2) p3
-
--- five pieces
-five : (s x1 x2 x3 x4 x5 r1 r2 r3 r4 r5 : List ℕ)
-    → s ≡ x1 ++ r1 → r1 ≡ x2 ++ r2 → r2 ≡ x3 ++ r3 → r3 ≡ x4 ++ r4 → r4 ≡ x5 ++ r5
-    → s ≡ ((((x1 ++ x2) ++ x3) ++ x4) ++ x5) ++ r5
-five s x1 x2 x3 x4 x5 r1 r2 r3 r4 r5 p1 p2 p3 p4 p5 =
-    then (x1 ++ x2 ++ x3 ++ x4) x5 r5 (then (x1 ++ x2 ++ x3) x4 r4
-    (three s x1 x2 x3 r1 r2 r3 p1 p2 p3) p4) p5
-
--- seven pieces
-seven : (s x1 x2 x3 x4 x5 x6 x7 r1 r2 r3 r4 r5 r6 r7 : List ℕ)
-    → s ≡ x1 ++ r1 → r1 ≡ x2 ++ r2 → r2 ≡ x3 ++ r3 → r3 ≡ x4 ++ r4 → r4 ≡ x5 ++ r5
-    → r5 ≡ x6 ++ r6 → r6 ≡ x7 ++ r7
-    → s ≡ ((((((x1 ++ x2) ++ x3) ++ x4) ++ x5) ++ x6) ++ x7) ++ r7
-seven s x1 x2 x3 x4 x5 x6 x7 r1 r2 r3 r4 r5 r6 r7 p1 p2 p3 p4 p5 p6 p7 =
-    then (x1 ++ x2 ++ x3 ++ x4 ++ x5 ++ x6) x7 r7 (then (x1 ++ x2 ++ x3 ++ x4 ++ x5) x6 r6
-    (five s x1 x2 x3 x4 x5 r1 r2 r3 r4 r5 p1 p2 p3 p4 p5) p6) p7
-
 -- the pieces of a flow
 pub flow_pieces : (f : Flow) (place : ℕ) (s a b c d e g h : List ℕ)
     → s ≡ codes "{\"group\":\"" ++ a → a ≡ dotted f.group ++ b
@@ -82,8 +54,12 @@ pub flow_pieces : (f : Flow) (place : ℕ) (s a b c d e g h : List ℕ)
     → d ≡ codes "\",\"tree\":" ++ e → e ≡ decimal place ++ g → g ≡ codes "}" ++ h
     → s ≡ flow_text f place ++ h
 flow_pieces f place s a b c d e g h p1 p2 p3 p4 p5 p6 p7 =
-    seven s (codes "{\"group\":\"") (dotted f.group) (codes "\",\"source\":\"") (dotted f.source)
-    (codes "\",\"tree\":") (decimal place) (codes "}") a b c d e g h p1 p2 p3 p4 p5 p6 p7
+    rw (p1, p2, p3, p4, p5, p6, p7) (simp append_assoc)
+
+-- five pieces, each behind the one before
+five : (s x1 x2 x3 x4 x5 a b c d e : List ℕ) → s ≡ x1 ++ a → a ≡ x2 ++ b → b ≡ x3 ++ c
+    → c ≡ x4 ++ d → d ≡ x5 ++ e → s ≡ (x1 ++ x2 ++ x3 ++ x4 ++ x5) ++ e
+five s x1 x2 x3 x4 x5 a b c d e p1 p2 p3 p4 p5 = rw (p1, p2, p3, p4, p5) (simp append_assoc)
 
 -- the pieces of the whole text
 pub text_pieces : (t : TopologyValue) (places : List ℕ) (trees : List Tree) (s a b c d e : List ℕ)

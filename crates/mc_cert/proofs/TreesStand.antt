@@ -4,7 +4,6 @@ use Rattle.std.proofs.Common.{length, map, Some, ◌⊎◌, inl, inr, IsUtf8, re
 use Rattle.std.proofs.Common.{arith, append-nil}
 use Rattle.std.specs.Prelude.{slice_get}
 use Rattle.std.specs.List.{AllByRecursion, zip}
-use Rattle.std.proofs.lemmas.Option.{slice_get-get_or, unwrap_or-slice_get}
 use Rattle.std.proofs.lemmas.Str.{IsUtf8-append}
 use Rattle.json.proofs.Printed.Utf8.{IsUtf8-are_ascii}
 use Rattle.serde_json.specs.Data.{array, object}
@@ -21,16 +20,11 @@ use Rattle.mc_cert.specs.Writable.{IsWritableTreeFor}
 use Rattle.mc_cert.proofs.Documents.{flow_members, flow_data, tree_data, document, good_document}
 use Rattle.mc_cert.proofs.Documents.{written_document, tree_stands, each_stands, each_of}
 use Rattle.mc_cert.proofs.Documents.{each_follows, rows_length, zip_length}
+use Rattle.mc_cert.proofs.Kept.{got}
 use Rattle.mc_cert.proofs.LineFeed.{read_fed}
 use Rattle.mc_cert.proofs.JsonValues.{items_from, good_reads}
 
 -- ---- flows
-
--- a number below the count is that of a tree
-tree_there : (trees : List Tree) (n : ℕ) → n < length trees
-    → slice_get trees n ≡ Some (tree_at trees n)
-tree_there trees n lt =
-    slice_get-get_or trees n [] lt ∙ ap Some (sym (unwrap_or-slice_get trees n []))
 
 -- a flow with the number of its tree
 flow_stands : (t : TopologyValue) (trees : List Tree) (n : ℕ) (f : Flow) (place : ℕ)
@@ -46,7 +40,7 @@ flow_stands t trees n f place listed lt =
       group = refl;
       source = refl;
       tree_number = refl;
-      tree = tree_there trees place lt;
+      tree = got trees place [] lt;
     }
 
 -- the flows from the front, each with the number of its tree

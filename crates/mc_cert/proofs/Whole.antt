@@ -1,12 +1,13 @@
 -- A text that is read stands for what is read, and a text that stands for a certificate is read as
 -- that.
-use Rattle.std.proofs.Common.{◌≡◌, ℕ, zero, suc, ◌+◌, ◌<◌, ◌≤◌, All, Bool, true, false, cond, List}
+use Rattle.std.proofs.Common.{◌≡◌, ℕ, ◌+◌, ◌<◌, ◌≤◌, All, Bool, true, false, cond, List}
 use Rattle.std.proofs.Common.{[], ◌∷◌, length, map, codes, Option, Some, None, Ok, Err, nat_le, eqb}
-use Rattle.std.proofs.Common.{le-leb, refl, ap, subst, ◌∙◌, arith}
-use Rattle.std.specs.Prelude.{slice_get}
+use Rattle.std.proofs.Common.{le-leb, refl, ap, subst, ◌∙◌}
+use Rattle.std.specs.Prelude.{slice_get, unwrap_or}
 use Rattle.std.specs.Option.{ok_or}
 use Rattle.std.specs.Str.{is_utf8}
 use Rattle.std.proofs.lemmas.Bool.{leb-true, eqb-true, eq-eqb}
+use Rattle.std.proofs.lemmas.Option.{slice_get_within}
 use Rattle.std.proofs.lemmas.Str.{IsUtf8-from_is_utf8, is_utf8-from_IsUtf8}
 use Rattle.serde_json.specs.Data.{Data, unsigned, number, Members}
 use Rattle.serde_json.specs.Find.{as_object, as_u64}
@@ -32,6 +33,7 @@ use Rattle.mc_cert.specs.VersionTwo.{shared_flows_in}
 use Rattle.mc_cert.proofs.Fields.{as_object-is, as_u64-is, number_at-takes, number_at-again}
 use Rattle.mc_cert.proofs.Fields.{list_at-takes, list_at-again, at_most-takes, at_most-again}
 use Rattle.mc_cert.proofs.Fields.{object_of-takes, object_of-again}
+use Rattle.mc_cert.proofs.Kept.{got}
 use Rattle.mc_cert.proofs.Parts.{place_ok, rows_take, rows_again, each_all}
 use Rattle.mc_cert.proofs.Parts.{entries_listed, flow_takes, flow_again, tree_takes, tree_again}
 use Rattle.mc_cert.proofs.Parts.{NamesTree, number_takes, number_again}
@@ -102,18 +104,9 @@ tree_rows-again ms rows has few = rw (list_at-again (codes "trees") ms rows has)
     (at_most-again 4096 rows few)
 
 -- a tree by its number
-got : (trees : List Tree) (n : ℕ) → n < length trees → slice_get trees n ≡ Some (tree_at trees n)
-got [] n lt = absurd (omega (arith, lt))
-got (es ∷ trees) zero lt = refl
-got (es ∷ trees) (suc n) lt = got trees n (omega (arith, lt))
-
 number_below : (trees : List Tree) (n : ℕ) (es : Tree) → slice_get trees n ≡ Some es
     → (n < length trees) × (tree_at trees n ≡ es)
-number_below [] n es e = absurd cc
-number_below (x ∷ trees) zero es e = (omega arith, cc)
-number_below (x ∷ trees) (suc n) es e =
-    let later = number_below trees n es e in
-    (omega (arith, later.0), later.1)
+number_below trees n es e = (slice_get_within trees n es e, ap (λ o. unwrap_or o []) e)
 
 named_stands : (t : TopologyValue) (trees : List Tree) (n : ℕ) (d : Data) (m : ℕ)
     → NamesTree t (length trees) n d m → IsSharedFlow t trees n d (tree_at trees m)
@@ -127,7 +120,7 @@ named_stands t trees n d m is =
       group = is.group;
       source = is.source;
       tree_number = is.tree_number;
-      tree = got trees m is.within;
+      tree = got trees m [] is.within;
     }
 
 stands_named : (t : TopologyValue) (trees : List Tree) (n : ℕ) (d : Data) (es : Tree)

@@ -19,8 +19,7 @@ returns-clause-written g c =
 pub returns-clause-right : goal.returns-clause-right
 returns-clause-right g c =
     written_whole (g.F.FileSource.told c.args.files.now) SaysWhichAreRight c.audit_of.result
-    c.say.result _ _ (right_said _ c.args.travels c.audit_of.result c.audit_of.ensures.text)
-    c.say.ensures.ended
+    c.say.result _ _ (right_said _ c.args.travels _ c.audit_of.ensures.text) c.say.ensures.ended
 
 pub returns-clause-part : goal.returns-clause-part
 returns-clause-part g c =

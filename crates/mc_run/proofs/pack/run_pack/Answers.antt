@@ -1,33 +1,32 @@
-use Rattle.mc_run.proofs.PackingLemmas.{answer_told, only_told, part_told, reads_told}
-use Rattle.mc_run.proofs.PackingLemmas.{unwritten_told, writes_told}
+use Rattle.mc_run.proofs.PackingLemmas as packing
 use Rattle.mc_run.proofs.pack.run_pack.Goals as goal
 
 pub returns-in_err-pack-clause-answer : goal.returns-in_err-pack-clause-answer
 returns-in_err-pack-clause-answer g c =
-    answer_told (g.F.FileSource.told c.args.files.now) c.args.certificate c.in_err-pack.field-0.0
+    packing.answer_told (g.F.FileSource.told c.args.files.now) c.args.certificate c.in_err-pack.field-0.0
     c.from_residual.result c.from_residual.ensures.1 c.in_err-pack.ensures.answer
 
 pub returns-in_err-pack-clause-only : goal.returns-in_err-pack-clause-only
 returns-in_err-pack-clause-only g c =
-    λ told parts is packed. only_told c.in_err-pack.field-0.0 c.from_residual.result
+    λ told parts is packed. packing.only_told c.in_err-pack.field-0.0 c.from_residual.result
     c.from_residual.ensures.1 (c.in_err-pack.ensures.only told parts is packed)
 
 pub returns-in_err-pack-clause-unwritten : goal.returns-in_err-pack-clause-unwritten
 returns-in_err-pack-clause-unwritten g c =
-    unwritten_told c.in_err-pack.field-0.0 c.from_residual.result _ c.from_residual.ensures.1
+    packing.unwritten_told c.in_err-pack.field-0.0 c.from_residual.result _ c.from_residual.ensures.1
     c.in_err-pack.ensures.unwritten
 
 pub returns-in_err-pack-clause-read_failures : goal.returns-in_err-pack-clause-read_failures
 returns-in_err-pack-clause-read_failures g c =
-    reads_told c.in_err-pack.field-0.0 c.from_residual.result _ _ c.from_residual.ensures.1
+    packing.reads_told c.in_err-pack.field-0.0 c.from_residual.result _ _ c.from_residual.ensures.1
     c.in_err-pack.ensures.read_failures
 
 pub returns-in_err-pack-clause-write_failures : goal.returns-in_err-pack-clause-write_failures
 returns-in_err-pack-clause-write_failures g c =
-    writes_told c.in_err-pack.field-0.0 c.from_residual.result _ _ c.from_residual.ensures.1
+    packing.writes_told c.in_err-pack.field-0.0 c.from_residual.result _ _ c.from_residual.ensures.1
     c.in_err-pack.ensures.write_failures
 
 pub returns-in_err-pack-clause-part : goal.returns-in_err-pack-clause-part
 returns-in_err-pack-clause-part g c =
-    part_told c.in_err-pack.field-0.0 c.from_residual.result _ c.from_residual.ensures.1
+    packing.part_told c.in_err-pack.field-0.0 c.from_residual.result _ c.from_residual.ensures.1
     c.in_err-pack.ensures.part

@@ -195,15 +195,3 @@ audit_next d k travels all certified old new to is =
           ∙ ap (λ ls. ls ++ flow_told travels d.topology is.listed x) to.spelled
           ∙ sym (flows_push travels d.topology d.topology.flows to.examined is.listed x here);
     }
-
-pub audit_end : (d : DomainValue) (k : ℕ) (travels all : Bool) (text last written : List ℕ)
-    → AreAuditedTo d k travels all text → k ≡ length d.topology.flows → last ≡ last_line all
-    → written ≡ text ++ last → IsAudited d travels all written
-audit_end d k travels all text last written to ended says puts = record {
-  examined = to.examined;
-  are_checked = record { count = to.count ∙ ended; each = to.each };
-  answer = to.answer;
-  spelled = puts ∙ ap (λ ls. ls ++ last) to.spelled
-      ∙ ap (λ ls. flows_told travels d.topology d.topology.flows to.examined ++ ls)
-      (says ∙ ap last_line to.answer);
-}

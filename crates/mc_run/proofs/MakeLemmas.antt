@@ -144,15 +144,6 @@ made_few d k lists lines made =
     ap (λ (ls : List Tree). length ls) made.lists_are in
     omega (arith, same, made.count, lists_few made.examined)
 
-pub made_end : (d : DomainValue) (k : ℕ) (lists : List Tree) (lines : List ℕ)
-    → AreMadeTo d k lists lines → k ≡ length d.topology.flows → AreMade d lists lines
-made_end d k lists lines made all = record {
-  examined = made.examined;
-  are_examined = record { count = made.count ∙ all; each = made.each };
-  lists_are = made.lists_are;
-  lines_are = made.lines_are;
-}
-
 -- ---- of all flows
 
 -- where every flow is certified, there is a list for each

@@ -18,24 +18,6 @@ use Rattle.mc_run.specs.Failures.{IsNoDeviceFault}
 use Rattle.mc_run.specs.ReplayRun.{HasNoTravel, IsReplayRefused, IsTextOfTravel, is_clean}
 use Rattle.mc_run.specs.ReplayRun.{replay_text}
 
--- ---- refusals
-
--- a bundle that is refused without a certificate is refused so here
-pub bundle_refused : (text : List ℕ) (flow : ℕ) (f : RunFault) → IsRefusedFor false text f
-    → IsReplayRefused flow text f
-bundle_refused text flow (Bundle f) is = is
-bundle_refused text flow (Parts place) is = is
-bundle_refused text flow (Topology f) is = is
-bundle_refused text flow (Vif part f) is = is
-bundle_refused text flow (Cache part f) is = is
-bundle_refused text flow (PartReports part f) is = is
-bundle_refused text flow (Reports f) is = absurd is
-bundle_refused text flow (Certificate f) is = is
-bundle_refused text flow (NoSuchFlow number) is = absurd is
-bundle_refused text flow Read is = tt
-bundle_refused text flow Write is = tt
-bundle_refused text flow Memory is = tt
-
 -- ---- the travel
 
 -- the text of a travel through a domain

@@ -19,9 +19,6 @@ use Rattle.mc_run.proofs.VerdictLines.{body, line-body, lines_say}
 
 -- ---- a line begins after whole lines
 
-fed : (xs : List ℕ) → IsLineStart (xs ++ codes "\n")
-fed xs = inr (xs, refl)
-
 -- after a line, and what a line begins after
 behind : (line rest xs : List ℕ) → line ≡ xs ++ codes "\n" → IsLineStart rest
     → IsLineStart (line ++ rest)

@@ -1,81 +1,28 @@
--- The names of the files that are packed.
-use Rattle.std.proofs.Common.{◌≡◌, ℕ, zero, suc, ◌+◌, Bool, true, false, List, [], ◌∷◌}
-use Rattle.std.proofs.Common.{◌++◌, codes, map, take, refl, ap, sym, ◌∙◌, add-one}
-use Rattle.std.specs.Prelude.{Option, Some, None, option_map, slice_get, flat_map, find}
+-- Names that are compared in two pieces, and files by name.
+use Rattle.std.specs.Prelude.{◌≡◌, ℕ, Bool, true, false, ◌&&◌, nat_eq, List, [], ◌∷◌}
+use Rattle.std.specs.Prelude.{◌++◌, length, take, drop, map, Option, Some, None, option_map, find}
+use Rattle.std.specs.Prelude.{refl}
+use Rattle.std.proofs.Common.{ap, sym, ◌∙◌}
 use Rattle.std.specs.Str.{bytes_eq}
-use Rattle.std.proofs.lemmas.List.{append_assoc}
 use denote.Ref.{Bor}
-use Rattle.mc_topology.specs.Rows.{RouterRow}
 use Rattle.mc_files.specs.Files.{file_named, file_text}
-use Rattle.mc_files.specs.Packing.{PackedName, router_packed, lan_packed}
 
--- ---- one more
+-- ---- names in two pieces
 
-routers_suc : (rs : List RouterRow) (i : ℕ) (name : List ℕ)
-    → option_map (λ r. r.name) (slice_get rs i) ≡ Some name
-    → flat_map router_packed (take (suc i) rs)
-    ≡ flat_map router_packed (take i rs)
-    ++ (record { file = codes "vif-" ++ name; part = codes "vif/" ++ name })
-    ∷ (record { file = codes "cache-" ++ name; part = codes "cache/" ++ name }) ∷ []
-routers_suc [] i name e = absurd (cc)
-routers_suc (r ∷ rs) zero name e =
-    let same : r.name ≡ name = cc in
-    rw (same) refl
-routers_suc (r ∷ rs) (suc i) name e =
-    ap (λ (l : List PackedName). router_packed r ++ l) (routers_suc rs i name e)
+and_assoc : (a b c : Bool) → (a && (b && c)) ≡ ((a && b) && c)
+and_assoc true b c = refl
+and_assoc false b c = refl
 
--- the names of the tables of routers, and of one more
-pub routers_more : (rs : List RouterRow) (i : ℕ) (name : List ℕ)
-    → option_map (λ r. r.name) (slice_get rs i) ≡ Some name
-    → flat_map router_packed (take (i + 1) rs)
-    ≡ flat_map router_packed (take i rs)
-    ++ (record { file = codes "vif-" ++ name; part = codes "vif/" ++ name })
-    ∷ (record { file = codes "cache-" ++ name; part = codes "cache/" ++ name }) ∷ []
-routers_more rs i name e = rw (add-one) (routers_suc rs i name e)
-
-lans_suc : (lans : List (List ℕ)) (i : ℕ) (name : List ℕ) → slice_get lans i ≡ Some name
-    → flat_map lan_packed (take (suc i) lans)
-    ≡ flat_map lan_packed (take i lans)
-    ++ (record { file = codes "igmp-" ++ name; part = codes "igmp/" ++ name }) ∷ []
-lans_suc [] i name e = absurd (cc)
-lans_suc (lan ∷ lans) zero name e =
-    let same : lan ≡ name = cc in
-    rw (same) refl
-lans_suc (lan ∷ lans) (suc i) name e =
-    ap (λ (l : List PackedName). lan_packed lan ++ l) (lans_suc lans i name e)
-
--- the names of the reports of LANs, and of one more
-pub lans_more : (lans : List (List ℕ)) (i : ℕ) (name : List ℕ) → slice_get lans i ≡ Some name
-    → flat_map lan_packed (take (i + 1) lans)
-    ≡ flat_map lan_packed (take i lans)
-    ++ (record { file = codes "igmp-" ++ name; part = codes "igmp/" ++ name }) ∷ []
-lans_more lans i name e = rw (add-one) (lans_suc lans i name e)
-
--- a list to which the names of one more router's tables were added
-pub router_pushed : (old before between after : List PackedName) (rs : List RouterRow) (i : ℕ)
-    (name : List ℕ) (vif cache : PackedName) → before ≡ old ++ flat_map router_packed (take i rs)
-    → option_map (λ r. r.name) (slice_get rs i) ≡ Some name
-    → vif ≡ record { file = codes "vif-" ++ name; part = codes "vif/" ++ name }
-    → cache ≡ record { file = codes "cache-" ++ name; part = codes "cache/" ++ name }
-    → between ≡ before ++ vif ∷ [] → after ≡ between ++ cache ∷ []
-    → after ≡ old ++ flat_map router_packed (take (i + 1) rs)
-router_pushed old before between after rs i name vif cache start at is_vif is_cache first second =
-    let both : after ≡ before ++ vif ∷ cache ∷ [] =
-    second ∙ ap (λ (l : List PackedName). l ++ cache ∷ []) first
-    ∙ append_assoc before (vif ∷ []) (cache ∷ []) in
-    both ∙ rw (start, is_vif, is_cache, routers_more rs i name at)
-    (append_assoc old (flat_map router_packed (take i rs)) _)
-
--- a list to which the name of one more LAN's reports was added
-pub lan_pushed : (old before after : List PackedName) (lans : List (List ℕ)) (i : ℕ) (name : List ℕ)
-    (lan : PackedName) → before ≡ old ++ flat_map lan_packed (take i lans)
-    → slice_get lans i ≡ Some name
-    → lan ≡ record { file = codes "igmp-" ++ name; part = codes "igmp/" ++ name }
-    → after ≡ before ++ lan ∷ []
-    → after ≡ old ++ flat_map lan_packed (take (i + 1) lans)
-lan_pushed old before after lans i name lan start at is_lan pushed =
-    pushed ∙ rw (start, is_lan, lans_more lans i name at)
-    (append_assoc old (flat_map lan_packed (take i lans)) _)
+-- bytes are two texts, one after the other, if their front is the one and the rest the other
+pub bytes_eq-joined : (front bytes rest : List ℕ)
+    → bytes_eq bytes (front ++ rest)
+    ≡ (bytes_eq (take (length front) bytes) front && bytes_eq (drop (length front) bytes) rest)
+bytes_eq-joined [] bytes rest = refl
+bytes_eq-joined (y ∷ ys) [] rest = refl
+bytes_eq-joined (y ∷ ys) (x ∷ xs) rest =
+    ap (λ b. nat_eq x y && b) (bytes_eq-joined ys xs rest)
+    ∙ and_assoc (nat_eq x y) (bytes_eq (take (length ys) xs) ys)
+    (bytes_eq (drop (length ys) xs) rest)
 
 -- ---- files by name
 

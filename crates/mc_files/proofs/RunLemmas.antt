@@ -5,10 +5,11 @@ use Rattle.std.specs.Prelude.{IfErr, IfOk, IfSome, OnOk}
 use Rattle.mc_text.specs.Bundle.{PartText, AreWithinLimits, bundle_spelling}
 use Rattle.mc_text.specs.BundleWriting.{AppendsBundle}
 use Rattle.mc_text.specs.Device.{AppendsPart}
-use Rattle.mc_files.specs.Files.{FileText}
+use Rattle.mc_text.specs.Steps.{Gives}
+use Rattle.mc_files.specs.Files.{FileText, GivesOf}
 use Rattle.mc_files.specs.Packing.{IsPacked}
 use Rattle.mc_files.specs.PackReading.{pack_of, parts_read}
-use Rattle.mc_files.specs.PackRun.{Answers, Gives, GivesOf, SaysNothing, WritesPacked}
+use Rattle.mc_files.specs.PackRun.{Answers, SaysNothing, WritesPacked}
 use Rattle.mc_files.specs.PackRun.{WritesPartOfPacked}
 use Rattle.mc_files.specs.declared.fault.PackFault.{PackFault}
 use Rattle.mc_files.specs.declared.fault.PackFault.TheVariants.{Topology, TooLarge, Read, Write}
@@ -18,17 +19,17 @@ use Rattle.mc_files.proofs.PackLemmas.{packed_within, packed_beyond, packed_refu
 -- ---- the files are refused
 
 refused : {X : Type 0} (view : X → List PartText) (certified : Bool) (files : List FileText)
-    (f : PackFault) → Gives view (Err f) (parts_read certified files)
+    (f : PackFault) → Gives SaysNothing view (Err f) (parts_read certified files)
     → Answers certified files (Err f)
-refused view certified files (Topology f) given = packed_refused files certified (Topology f) given
-refused view certified files TooLarge given = packed_refused files certified TooLarge given
+refused view certified files (Topology f) given = packed_refused files certified (Topology f) (given (λ no. no))
+refused view certified files TooLarge given = packed_refused files certified TooLarge (given (λ no. no))
 refused view certified files Read given = tt
 refused view certified files Write given = tt
 refused view certified files Memory given = tt
 
 pub refused_answer : {X : Type 0} (view : X → List PartText) (told : Option (List FileText))
     (certified : Bool) (r : Result (Unit {0}) PackFault) (f : PackFault)
-    → GivesOf told view (Err f) (parts_read certified) → r ≡ Err f
+    → GivesOf SaysNothing told view (Err f) (parts_read certified) → r ≡ Err f
     → IfSome told (λ files. Answers certified files r)
 refused_answer view None certified r f given e = tt
 refused_answer view (Some files) certified r f given e =
@@ -36,13 +37,13 @@ refused_answer view (Some files) certified r f given e =
 
 -- a bundle of the files says that they aren't refused
 refused_not : {X : Type 0} (view : X → List PartText) (certified : Bool) (files : List FileText)
-    (parts : List PartText) (f : PackFault) → Gives view (Err f) (parts_read certified files)
+    (parts : List PartText) (f : PackFault) → Gives SaysNothing view (Err f) (parts_read certified files)
     → pack_of certified files ≡ Ok parts → SaysNothing f
 refused_not view certified files parts (Topology f) given is =
-    let bad = packed_refused files certified (Topology f) given in
+    let bad = packed_refused files certified (Topology f) (given (λ no. no)) in
     absurd cc
 refused_not view certified files parts TooLarge given is =
-    let bad = packed_refused files certified TooLarge given in
+    let bad = packed_refused files certified TooLarge (given (λ no. no)) in
     absurd cc
 refused_not view certified files parts Read given is = tt
 refused_not view certified files parts Write given is = tt
@@ -50,7 +51,7 @@ refused_not view certified files parts Memory given is = tt
 
 pub refused_only : {X : Type 0} (view : X → List PartText) (certified : Bool)
     (files : List FileText) (parts : List PartText) (r : Result (Unit {0}) PackFault)
-    (f : PackFault) → Gives view (Err f) (parts_read certified files) → r ≡ Err f
+    (f : PackFault) → Gives SaysNothing view (Err f) (parts_read certified files) → r ≡ Err f
     → IsPacked files certified parts → IfErr r SaysNothing
 refused_only view certified files parts r f given e is =
     rw (e) (refused_not view certified files parts f given (pack_again files certified parts is))

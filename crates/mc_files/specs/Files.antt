@@ -1,8 +1,9 @@
 -- The files of a folder, as a source of files tells them, and what a call of the source answers.
-use Rattle.std.specs.Prelude.{◌≡◌, ℕ, ◌+◌, ◌<◌, List, [], ◌++◌, codes, find, length, Option}
-use Rattle.std.specs.Prelude.{option_map, Some, None, Result, Ok, Err, ⊤}
+use Rattle.std.specs.Prelude.{◌≡◌, ℕ, ◌<◌, Bool, true, false, List, [], ◌++◌, codes, find, length}
+use Rattle.std.specs.Prelude.{Option, option_map, Some, None, Result, Ok, Err, ⊤}
 use denote.Ref.{Bor}
 use Rattle.std.specs.Str.{bytes_eq}
+use Rattle.mc_text.specs.Steps.{Gives}
 use Rattle.mc_text.specs.declared.input_bytes.ReadFault.{ReadFault}
 use Rattle.mc_text.specs.declared.input_bytes.ReadFault.TheVariants as reading
 use Rattle.mc_files.specs.declared.fault.FileFault.{FileFault}
@@ -28,10 +29,17 @@ IsRead items None limit (Err TooLarge) = ⊥
 IsRead items found limit (Err Failed) = ⊤
 IsRead items found limit (Err Memory) = ⊤
 
--- a call fails where it answers that it did
-abbrev pub failed_by_file : {X : Type 0} → Result X FileFault → ℕ → ℕ
-failed_by_file (Err Failed) before = before + 1
-failed_by_file _ before = before
+-- the fault of a call that failed, which the source counts
+abbrev pub is_failure : FileFault → Bool
+is_failure Failed = true
+is_failure fault = false
+
+-- What a call answers, seen by view, is what the definition gives of the files that a source tells,
+-- or a fault that is silent of them.
+abbrev pub GivesOf : {X Y E : Type 0} → (Silent : E → Type 0) → Option (List FileText) → (X → Y)
+    → Result X E → (List FileText → Result Y E) → Type 0
+GivesOf Silent told view result step =
+    (files : List FileText) → told ≡ Some files → Gives Silent view result (step files)
 
 -- what contracts see of a source of files in memory
 pub record FilesState : Type 0 where

@@ -1,4 +1,7 @@
+pub mod Belongs
+pub mod FilePart
 pub mod Files
+pub mod Layout
 pub mod Packing
 pub mod PackReading
 pub mod PackRun
@@ -6,6 +9,7 @@ pub use Rattle.mc_text.specs.Bundle
 pub use Rattle.mc_text.specs.BundleReading
 pub use Rattle.mc_text.specs.BundleWriting
 pub use Rattle.mc_text.specs.Device
+pub use Rattle.mc_text.specs.Steps
 pub use Rattle.mc_topology.specs.Names
 pub use Rattle.mc_topology.specs.Topology
 pub use Rattle.mc_topology.specs.Stands

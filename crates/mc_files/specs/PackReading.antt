@@ -1,50 +1,47 @@
 -- What is packed of files, or why nothing is. The topology is judged before another file is asked
 -- for, and the first file that isn't there or is too large is told. That the whole is too large is
 -- told last.
-use Rattle.std.specs.Prelude.{ℕ, nat_le, Bool, List, [], ◌∷◌, ◌++◌, length, Option, Some}
-use Rattle.std.specs.Prelude.{None, Result, Ok, Err, if◌then◌else◌}
-use Rattle.mc_text.specs.Steps.{◌>>=◌}
-use Rattle.mc_text.specs.Bundle.{PartText, bundle_spelling, max_part, max_bundle}
+use Rattle.std.specs.Prelude.{ℕ, nat_le, Bool, List, [], ◌∷◌, ◌++◌, length, Result, Ok, Err}
+use Rattle.std.specs.Prelude.{if◌then◌else◌}
+use Rattle.mc_text.specs.Steps.{◌>>=◌, refused_as}
+use Rattle.mc_text.specs.Bundle.{PartText, bundle_spelling, max_bundle}
 use Rattle.mc_topology.specs.Reading.{reading_of}
-use Rattle.mc_files.specs.Files.{FileText, file_named}
-use Rattle.mc_files.specs.Packing.{PackedName, topology_packed, others_packed}
+use Rattle.mc_topology.specs.Topology.{TopologyValue}
+use Rattle.mc_files.specs.FilePart.{file_part}
+use Rattle.mc_files.specs.Files.{FileText}
+use Rattle.mc_files.specs.Layout.{Slot, topology_slot, other_slots}
+use Rattle.mc_files.specs.declared.fault.FileFault.{FileFault}
+use Rattle.mc_files.specs.declared.fault.FileFault.TheVariants as file
 use Rattle.mc_files.specs.declared.fault.PackFault.{PackFault}
-use Rattle.mc_files.specs.declared.fault.PackFault.TheVariants.{Topology, TooLarge, Read}
+use Rattle.mc_files.specs.declared.fault.PackFault.TheVariants.{Topology, TooLarge, Read, Memory}
 
--- the bytes of a file, as those of a part
-abbrev pub part_bytes : Option (List ℕ) → Result (List ℕ) PackFault
-part_bytes None = Err Read
-part_bytes (Some bytes) = if nat_le (length bytes) max_part then Ok bytes else Err TooLarge
+-- a file's fault, as the reason why nothing is packed
+abbrev pub of_file : FileFault → PackFault
+of_file file.Failed = Read
+of_file file.TooLarge = TooLarge
+of_file file.Memory = Memory
 
--- the part that is made of a file
-abbrev pub part_packed : List FileText → PackedName → Result PartText PackFault
-part_packed files name =
-    part_bytes (file_named files name.file)
-    >>= λ bytes. Ok (record { name = name.part; bytes = bytes })
+-- the part of a slot, as it is packed
+abbrev pub part_packed : List FileText → Slot → Result PartText PackFault
+part_packed files slot = refused_as of_file (file_part files slot)
 
--- the parts before, and after them those of the files with these names
-unfoldable pub parts_after : List FileText → List PartText → List PackedName
+-- the parts before, and after them those of these slots
+unfoldable pub parts_after : List FileText → List PartText → List Slot
     → Result (List PartText) PackFault
 parts_after files before [] = Ok before
-parts_after files before (name ∷ names) =
-    part_packed files name >>= λ part. parts_after files (before ++ part ∷ []) names
+parts_after files before (slot ∷ slots) =
+    part_packed files slot >>= λ part. parts_after files (before ++ part ∷ []) slots
 
--- a refused topology, as what is packed is refused for it
-abbrev pub judged : {X E : Type 0} → (E → PackFault) → Result X E → Result X PackFault
-judged fault (Ok x) = Ok x
-judged fault (Err e) = Err (fault e)
-
--- the names of the files after the topology, which the topology's text tells
-unfoldable pub names_told : Bool → List ℕ → Result (List PackedName) PackFault
-names_told certified text =
-    judged Topology (reading_of text) >>= λ topology. Ok (others_packed certified topology)
+-- the topology of a text
+abbrev pub topology_told : List ℕ → Result TopologyValue PackFault
+topology_told text = refused_as Topology (reading_of text)
 
 -- the parts before the whole is judged
 unfoldable pub parts_read : Bool → List FileText → Result (List PartText) PackFault
 parts_read certified files =
-    part_packed files topology_packed
-    >>= λ first. names_told certified first.bytes
-    >>= λ names. parts_after files (first ∷ []) names
+    part_packed files topology_slot
+    >>= λ first. topology_told first.bytes
+    >>= λ topology. parts_after files (first ∷ []) (other_slots certified topology)
 
 -- the parts, if they are not too large together
 unfoldable pub within_limits : List PartText → Result (List PartText) PackFault

@@ -2,7 +2,7 @@
 
 ghost use Rattle.std.specs.Prelude.{◌≡◌};
 ghost use Rattle.mc_files.specs.Files.{of_reading};
-ghost use Rattle.mc_files.specs.PackRun.{of_file};
+ghost use Rattle.mc_files.specs.PackReading.{of_file};
 ghost use Rattle.mc_files.specs.declared.fault.FileFault.TheVariants as file;
 ghost use Rattle.mc_files.specs.declared.fault.PackFault.TheVariants as packing;
 

@@ -1,22 +1,31 @@
-//! The files of a domain's folder, and the bundle that is packed of them. A source of files may be
+//! The layout of a domain: which parts it has, in the one order, and their names in a bundle and in
+//! a folder. The files of a domain's folder, and the bundle that is packed of them. A source of files may be
 //! a folder of the file system or files in memory. Only the topology is judged: of the other files
 //! nothing is known here but their names.
 #![tactic(auto)]
 
+mod belongs;
 mod fault;
 mod faulty;
+mod file_part;
 mod folder;
 mod laws;
 mod map_files;
-mod packed_name;
 mod packed_part;
 mod packing;
+mod slot;
 mod source;
 
+pub use belongs::first_other;
 pub use fault::{FileFault, PackFault};
 pub use faulty::FaultyFiles;
+pub use file_part::{FilePart, part_of_file};
 pub use folder::Folder;
-pub use laws::{packed_files_are_read_back, packed_names_are_plain, packs_are_made_as_they_stand};
+pub use laws::{
+    packed_files_are_read_back, packed_names_are_plain, packs_are_made_as_they_stand,
+    parts_belong_by_their_names, slots_have_names_of_parts,
+};
 pub use map_files::MapFiles;
 pub use packing::pack;
+pub use slot::{Slot, slot_at, slot_count};
 pub use source::FileSource;

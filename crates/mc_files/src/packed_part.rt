@@ -1,98 +1,52 @@
 //! The parts that are made of files.
 
-ghost use Rattle.std.specs.Prelude.{◌≡◌, ◌≢◌, ◌<◌, [], ◌∷◌, IfErr, IfOk, Ok};
-ghost use Rattle.mc_text.specs.PartView.{part_text, part_texts};
-ghost use Rattle.mc_files.specs.PackReading.{judged, names_told as names_of_others, part_packed};
-ghost use Rattle.mc_files.specs.PackReading.{parts_after as parts_read_after, parts_read};
-ghost use Rattle.mc_files.specs.PackRun.{Gives, GivesOf, failed_files};
-ghost use Rattle.mc_files.specs.Packing.{others_packed};
-ghost use Rattle.mc_topology.specs.Reading.{reading_of};
+ghost use Rattle.std.specs.Prelude.{◌≡◌, ◌≢◌, ◌<◌, [], ◌∷◌, IfErr, IfOk};
+ghost use Rattle.mc_text.specs.Device.{counted};
+ghost use Rattle.mc_text.specs.PartView.{part_texts};
+ghost use Rattle.mc_text.specs.Steps.{Gives};
+ghost use Rattle.mc_files.specs.Files.{GivesOf};
+ghost use Rattle.mc_files.specs.Layout.{other_slots};
+ghost use Rattle.mc_files.specs.PackReading.{parts_after as parts_read_after};
+ghost use Rattle.mc_files.specs.PackReading.{parts_read, topology_told};
+ghost use Rattle.mc_files.specs.PackRun.{SaysNothing, is_read};
 
 use crate::fault::PackFault;
-use crate::packed_name::{FileName, other_names, topology_name};
+use crate::file_part::{FilePart, part_of_file};
+use crate::slot::{Slot, slot_at, slot_count};
 use crate::source::FileSource;
-use mc_text::{Part, PartName};
+use mc_text::Part;
 use mc_topology::{Topology, TopologyFault, TopologyFaultKind};
 use std::alloc::{AllocError, Global};
-use std::marker::Model;
 
-/// The greatest length of a part, in bytes.
-const MAX_PART: usize = 16_777_216;
-
-/// A part, with its bytes.
-#[derive(Debug, Drop)]
-pub(crate) struct FilePart {
-    pub(crate) name: PartName,
-    pub(crate) bytes: Vec<u8>,
-}
-
-impl Model for FilePart {
-    ghost use Rattle.mc_text.specs.Bundle.{PartText};
-
-    ghost Value = { PartText };
-
-    ghost view = { λ part. record { name = part.name; bytes = part.bytes.items } };
-}
-
-impl FilePart {
-    /// The part, with its bytes where they lie.
-    fn as_part(&self) -> Part<'_>
-        ensures { part_text result ≡ self.now }
-    {
-        Part {
-            name: self.name,
-            bytes: &self.bytes,
-        }
-    }
-}
-
-/// The part that is made of a file.
-fn part_of<F: FileSource>(
-    alloc: Global,
-    files: &mut F,
-    name: &FileName,
-) -> Result<FilePart, PackFault>
-    requires { F.failed files.old < u64.MAX }
-    ensures same { F.names files.new ≡ F.names files.old }
-    ensures kept { F.told files.new ≡ F.told files.old }
-    ensures part { GivesOf (F.told files.old) (λ part. part) result
-        (λ told. part_packed told name.now) }
-    ensures no_write { IfErr result (λ fault. fault ≢ PackFault.Write) }
-    ensures failures { F.failed files.new ≡ failed_files result (F.failed files.old) }
-{
-    let bytes = files.read(alloc, &name.file, MAX_PART)?;
-    Ok(FilePart {
-        name: name.part,
-        bytes,
-    })
-}
-
-/// The first part, and those that are made of the files with these names.
+/// The first part, and after it those of the other slots.
 fn parts_after<F: FileSource>(
     alloc: Global,
     files: &mut F,
     first: FilePart,
-    names: &[FileName],
+    topology: &Topology,
+    certified: bool,
 ) -> Result<Vec<FilePart>, PackFault>
     requires { F.failed files.old < u64.MAX }
     ensures same { F.names files.new ≡ F.names files.old }
     ensures kept { F.told files.new ≡ F.told files.old }
-    ensures parts { GivesOf (F.told files.old) (λ parts. parts.items) result
-        (λ told. parts_read_after told (first ∷ []) names.now) }
+    ensures parts { GivesOf SaysNothing (F.told files.old) (λ parts. parts.items) result
+        (λ told. parts_read_after told (first ∷ []) (other_slots certified topology.now)) }
     ensures no_write { IfErr result (λ fault. fault ≢ PackFault.Write) }
-    ensures failures { F.failed files.new ≡ failed_files result (F.failed files.old) }
+    ensures failures { F.failed files.new ≡ counted is_read result (F.failed files.old) }
 {
     let mut parts = vec![in alloc; first]?;
-    for name in names {
-        parts.push(part_of(alloc, files, name)?)?;
+    for number in 1..slot_count(topology, certified) {
+        let Some(slot) = slot_at(topology, certified, number) else {
+            unreachable!()
+        };
+        parts.push(part_of_file(alloc, files, &slot)?)?;
     }
     Ok(parts)
 }
 
 /// The topology of a text.
 fn topology_of(alloc: Global, text: &[u8]) -> Result<Topology, PackFault>
-    ensures topology { Gives (λ topology. topology) result
-        (judged PackFault.Topology (reading_of text.now)) }
+    ensures topology { Gives SaysNothing (λ topology. topology) result (topology_told text.now) }
     ensures no_device { IfErr result (λ fault. (fault ≢ PackFault.Write)
         × (fault ≢ PackFault.Read)) }
 {
@@ -108,31 +62,6 @@ fn topology_of(alloc: Global, text: &[u8]) -> Result<Topology, PackFault>
     }
 }
 
-/// The names of the files after the topology.
-fn names_after(
-    alloc: Global,
-    topology: &Topology,
-    certified: bool,
-) -> Result<Vec<FileName>, PackFault>
-    ensures names { Gives (λ names. names.items) result
-        (Ok (others_packed certified topology.now)) }
-    ensures no_device { IfErr result (λ fault. (fault ≢ PackFault.Write)
-        × (fault ≢ PackFault.Read)) }
-{
-    Ok(other_names(alloc, topology, certified)?)
-}
-
-/// The names of the files after the topology, which the topology's text tells.
-#[tactic(auto, unfolding(crate::specs::PackReading::names_told))]
-fn names_told(alloc: Global, text: &[u8], certified: bool) -> Result<Vec<FileName>, PackFault>
-    ensures names { Gives (λ names. names.items) result (names_of_others certified text.now) }
-    ensures no_device { IfErr result (λ fault. (fault ≢ PackFault.Write)
-        × (fault ≢ PackFault.Read)) }
-{
-    let topology = topology_of(alloc, text)?;
-    names_after(alloc, &topology, certified)
-}
-
 /// The parts of the bundle that is packed of the files.
 #[tactic(auto, unfolding(crate::specs::PackReading::parts_read))]
 pub(crate) fn parts_of<F: FileSource>(
@@ -143,14 +72,13 @@ pub(crate) fn parts_of<F: FileSource>(
     requires { F.failed files.old < u64.MAX }
     ensures same { F.names files.new ≡ F.names files.old }
     ensures kept { F.told files.new ≡ F.told files.old }
-    ensures parts { GivesOf (F.told files.old) (λ parts. parts.items) result (parts_read certified) }
+    ensures parts { GivesOf SaysNothing (F.told files.old) (λ parts. parts.items) result (parts_read certified) }
     ensures no_write { IfErr result (λ fault. fault ≢ PackFault.Write) }
-    ensures failures { F.failed files.new ≡ failed_files result (F.failed files.old) }
+    ensures failures { F.failed files.new ≡ counted is_read result (F.failed files.old) }
 {
-    let name = topology_name(alloc)?;
-    let first = part_of(alloc, files, &name)?;
-    let names = names_told(alloc, &first.bytes, certified)?;
-    parts_after(alloc, files, first, &names)
+    let first = part_of_file(alloc, files, &Slot::topology())?;
+    let topology = topology_of(alloc, first.as_part().bytes)?;
+    parts_after(alloc, files, first, &topology, certified)
 }
 
 /// The parts, with their bytes where they lie.

@@ -3,12 +3,12 @@
 ghost use Rattle.std.specs.Prelude.{◌≡◌, ◌≢◌, ◌<◌, ◌⊎◌, List, OnOk, Some, IfErr, IfOk, IfSome, Err};
 ghost use Rattle.mc_text.specs.Bundle.{AreWithinLimits, PartText, bundle_spelling};
 ghost use Rattle.mc_text.specs.BundleWriting.{AppendsBundle};
-ghost use Rattle.mc_text.specs.Device.{AppendsPart};
+ghost use Rattle.mc_text.specs.Device.{AppendsPart, counted};
 ghost use Rattle.mc_text.specs.PartView.{part_texts};
 ghost use Rattle.mc_files.specs.Files.{FileText};
 ghost use Rattle.mc_files.specs.Packing.{IsPacked};
 ghost use Rattle.mc_files.specs.PackRun.{Answers, SaysNothing, WritesPacked, WritesPartOfPacked};
-ghost use Rattle.mc_files.specs.PackRun.{failed_files, failed_writes, of_writing};
+ghost use Rattle.mc_files.specs.PackRun.{is_read, is_write, of_writing};
 
 use crate::fault::PackFault;
 use crate::packed_part::{borrowed, parts_of};
@@ -40,7 +40,7 @@ fn write_parts<W: Output>(parts: &[Part<'_>], output: &mut W) -> Result<(), Pack
         → AppendsPart (W.took output.old) (W.took output.new)
         (bundle_spelling (part_texts parts.now)) }
     ensures unwritten { IfErr result (λ fault. fault ≢ PackFault.Write → output.new ≡ output.old) }
-    ensures failures { W.failed output.new ≡ failed_writes result (W.failed output.old) }
+    ensures failures { W.failed output.new ≡ counted is_write result (W.failed output.old) }
 {
     match write_bundle(parts, output) {
         Ok(()) => Ok(()),
@@ -84,8 +84,8 @@ pub fn pack<F: FileSource, W: Output>(
         WritesPartOfPacked certified told (W.took output.old) (W.took output.new)) }
     ensures unwritten { IfErr result (λ fault. fault ≢ PackFault.Write → output.new ≡ output.old) }
     // Read and Write come only where the device's failures rose in the call.
-    ensures read_failures { F.failed files.new ≡ failed_files result (F.failed files.old) }
-    ensures write_failures { W.failed output.new ≡ failed_writes result (W.failed output.old) }
+    ensures read_failures { F.failed files.new ≡ counted is_read result (F.failed files.old) }
+    ensures write_failures { W.failed output.new ≡ counted is_write result (W.failed output.old) }
 {
     let files = parts_of(alloc, files, certified)?;
     let parts = borrowed(alloc, &files)?;

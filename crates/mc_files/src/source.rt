@@ -2,7 +2,8 @@
 
 ghost use Rattle.std.specs.Prelude.{◌≡◌, ◌<◌, ◌≤◌, ◌∷◌, ℕ, List, [], Option, IfOk, IfSome, vec_len};
 ghost use Rattle.std.specs.Borrow.{GName};
-ghost use Rattle.mc_files.specs.Files.{FileText, file_named, failed_by_file, IsRead};
+ghost use Rattle.mc_text.specs.Device.{counted};
+ghost use Rattle.mc_files.specs.Files.{FileText, file_named, is_failure, IsRead};
 
 use crate::fault::FileFault;
 use std::alloc::Global;
@@ -32,7 +33,7 @@ pub trait FileSource {
         ensures bound { IfOk result (λ bytes. vec_len bytes ≤ limit) }
         ensures bytes { IfSome (told self.old) (λ files.
             IsRead (λ bytes. bytes.items) (file_named files name.now) limit result) }
-        ensures failures { failed self.new ≡ failed_by_file result (failed self.old) };
+        ensures failures { failed self.new ≡ counted is_failure result (failed self.old) };
 
     /// How many calls of `read` answered `Failed`.
     fn failures(&self) -> u64

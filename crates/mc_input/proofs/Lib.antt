@@ -1,8 +1,8 @@
-mod NameLemmas
-mod ContentLemmas
+mod BundleStand
 pub mod Counted
 mod FilesLemmas
 mod FilesStand
-mod InputLemmas
-mod ReadLemmas
 pub mod OneInput
+mod ReadLemmas
+mod ReadingLemmas
+mod ServedLemmas

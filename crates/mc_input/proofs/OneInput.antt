@@ -8,11 +8,12 @@ use Rattle.mc_topology.specs.Topology.{TopologyValue}
 use Rattle.mc_topology.specs.Reading.{reading_of}
 use Rattle.mc_topology.proofs.Whole.{reading_again}
 use Rattle.mc_files.specs.Files.{FileText}
-use Rattle.mc_files.specs.Packing.{PackedName, ArePacked, IsPacked, topology_packed, others_packed}
+use Rattle.mc_files.specs.Layout.{Slot, part_name, slots, topology_slot}
+use Rattle.mc_files.specs.Packing.{ArePacked, IsPacked}
 use Rattle.mc_input.specs.Input.{InputValue, InputStands}
 use Rattle.mc_input.specs.InputReading.{input_in, certificate_in}
 use Rattle.mc_input.specs.FilesInput.{FilesStand}
-use Rattle.mc_input.proofs.InputLemmas.{parts_again}
+use Rattle.mc_input.proofs.BundleStand.{parts_again}
 use Rattle.mc_input.proofs.FilesStand.{files_again}
 use Rattle.mc_input.proofs.ReadLemmas.{one_value}
 
@@ -40,7 +41,7 @@ some_is : {A : Type 0} {x y : A} → (let o : Option A = Some x in o) ≡ Some y
 some_is e = cc
 
 -- the parts that are packed by these names
-packed_once : (files : List FileText) (names : List PackedName) (ps qs : List PartText)
+packed_once : (files : List FileText) (names : List Slot) (ps qs : List PartText)
     → ArePacked files names ps → ArePacked files names qs → ps ≡ qs
 packed_once files [] [] [] p q = refl
 packed_once files [] [] (b ∷ qs) p q = absurd q
@@ -64,19 +65,19 @@ pub packed_stands : (files : List FileText) (parts : List PartText) (text : List
     → FilesStand files v → IsPacked files false parts → IsBundle text parts
     → InputStands text v None
 packed_stands files parts text v h p bundle =
-    let top : PartText = record { name = topology_packed.part; bytes = h.stand.topology } in
-    let front : ArePacked files (topology_packed ∷ others_packed false v.topology)
+    let top : PartText = record { name = part_name topology_slot; bytes = h.stand.topology } in
+    let front : ArePacked files (slots false v.topology)
     (top ∷ h.stand.of_routers) = subst (λ ps. ArePacked files
-    (topology_packed ∷ others_packed false v.topology) ps) h.stand.in_order h.packed in
+    (slots false v.topology) ps) h.stand.in_order h.packed in
     let bytes : h.stand.topology ≡ p.text = some_is (sym front.1 ∙ p.first) in
     let ours = subst (λ bs. reading_of bs ≡ Ok v.topology) bytes
     (reading_again h.stand.topology v.topology h.stand.topology_stands) in
     let topology : p.topology ≡ v.topology =
     one_value (sym (reading_again p.text p.topology p.stands) ∙ ours) in
     let each = subst (λ (t : TopologyValue). ArePacked files
-    (topology_packed ∷ others_packed false t) parts) topology p.each in
+    (slots false t) parts) topology p.each in
     let same : parts ≡ h.parts = packed_once files
-    (topology_packed ∷ others_packed false v.topology) parts h.parts each h.packed in
+    (slots false v.topology) parts h.parts each h.packed in
     record {
       parts = h.parts;
       bundle = subst (IsBundle text) same bundle;

@@ -3,18 +3,16 @@ use Rattle.std.specs.Prelude.{◌≡◌, ◌≢◌, ℕ, Bool, List, Option, is_
 use Rattle.std.proofs.Common.{ap, ◌∙◌, sym, subst}
 use Rattle.mc_text.specs.Bundle.{PartText}
 use Rattle.mc_text.specs.BundleReading.{bundle_of}
+use Rattle.mc_text.specs.Steps.{refused_as}
 use Rattle.mc_text.proofs.BundleLaws.{bundle_takes, bundle_again}
 use Rattle.mc_input.specs.declared.fault.InputFault.{InputFault}
 use Rattle.mc_input.specs.declared.fault.InputFault.TheVariants.{Bundle, Memory}
 use Rattle.mc_input.specs.declared.input.BundleInput.{BundleInput}
 use Rattle.mc_input.specs.Input.{InputValue, InputStands, PartsStand}
-use Rattle.mc_topology.specs.Topology.{TopologyValue}
-use Rattle.mc_forward.specs.Domains.{TablesValue}
-use Rattle.mc_input.specs.InputReading.{Gives, refused_as, certificate_in, input_in}
-use Rattle.mc_input.specs.InputReading.{topology_in, names_in, tables_from, reports_from}
-use Rattle.mc_input.specs.InputReading.{lans_place}
+use Rattle.mc_input.specs.InputReading.{Gives, certificate_in, input_in}
 use Rattle.mc_input.specs.InputView.{input_value, input_seen, certificate_seen}
-use Rattle.mc_input.proofs.InputLemmas.{read_ok, parts_take, parts_again}
+use Rattle.mc_files.proofs.PartLemmas.{refused_ok}
+use Rattle.mc_input.proofs.BundleStand.{parts_take, parts_again}
 
 -- what was read of the parts, with the text of the last one as the certificate
 abbrev pub Certifies : Bool → List PartText → BundleInput → Type 0
@@ -27,7 +25,7 @@ pub read_found : (certified : Bool) (text : List ℕ) (parts : List PartText)
     → Gives input_value r (input_in certified parts) → IfOk r (Certifies certified parts)
     → IfOk r (λ i. InputStands text (input_value i) (certificate_seen i.certificate))
 read_found certified text parts (Ok i) whole given last =
-    let bundle = bundle_takes text parts (read_ok Bundle (bundle_of text) parts whole) in
+    let bundle = bundle_takes text parts (refused_ok Bundle (bundle_of text) parts whole) in
     let P : Option (List ℕ) → Type 0 = λ c. PartsStand parts (input_value i) c in
     record {
       parts = parts;
@@ -49,7 +47,7 @@ pub parts_refused : (certified : Bool) (text : List ℕ) (parts : List PartText)
     ≡ Err fault
 parts_refused certified text parts fault whole refused value certificate is h =
     let same : h.parts ≡ parts = one_value (sym (bundle_again text h.parts h.bundle)
-    ∙ read_ok Bundle (bundle_of text) parts whole) in
+    ∙ refused_ok Bundle (bundle_of text) parts whole) in
     let P : List PartText → Type 0 = λ ps. input_in certified ps ≡ Ok value in
     let here = subst P same (parts_again certified h.parts value certificate is h.stand).0 in
     let never : (let r : Result InputValue InputFault = Ok value in r) ≡ Err fault = sym here
@@ -64,7 +62,7 @@ pub read_only : (certified : Bool) (text : List ℕ) (parts : List PartText)
     → InputStands text value certificate → Gives input_seen r (Ok (value, certificate))
 read_only certified text parts (Ok i) whole given last value certificate is h =
     let same : h.parts ≡ parts = one_value (sym (bundle_again text h.parts h.bundle)
-    ∙ read_ok Bundle (bundle_of text) parts whole) in
+    ∙ refused_ok Bundle (bundle_of text) parts whole) in
     let again = parts_again certified h.parts value certificate is h.stand in
     let P : List PartText → Type 0 = λ ps. (input_in certified ps ≡ Ok value)
     × (certificate_in certified ps value.topology ≡ certificate) in
@@ -94,27 +92,3 @@ refused_only text fault given value certificate h other =
     let never : (let r : Result (List PartText) InputFault = Ok h.parts in r) ≡ Err fault =
     sym framed ∙ given other in
     absurd cc
-
--- where a step is refused, the input is refused for that
-pub names_refused : (certified : Bool) (parts : List PartText) (t : TopologyValue)
-    (fault : InputFault) → topology_in parts ≡ Ok t → names_in certified t parts ≡ Err fault
-    → input_in certified parts ≡ Err fault
-unfolding input_in
-names_refused certified parts t fault topology names = rw (topology, names) refl
-
-pub tables_refused : (certified : Bool) (parts : List PartText) (t : TopologyValue)
-    (x : Unit {0}) (fault : InputFault) → topology_in parts ≡ Ok t
-    → names_in certified t parts ≡ Ok x → tables_from parts 1 t.routers ≡ Err fault
-    → input_in certified parts ≡ Err fault
-unfolding input_in
-tables_refused certified parts t x fault topology names tables =
-    rw (topology, names, tables) refl
-
-pub reports_refused : (certified : Bool) (parts : List PartText) (t : TopologyValue)
-    (x : Unit {0}) (ts : List TablesValue) (fault : InputFault) → topology_in parts ≡ Ok t
-    → names_in certified t parts ≡ Ok x → tables_from parts 1 t.routers ≡ Ok ts
-    → reports_from parts (lans_place t) t.lans ≡ Err fault
-    → input_in certified parts ≡ Err fault
-unfolding input_in
-reports_refused certified parts t x ts fault topology names tables reports =
-    rw (topology, names, tables, reports) refl

@@ -9,9 +9,9 @@ use Rattle.mc_igmp.specs.ReportList.{IsReportList}
 use Rattle.mc_topology.specs.Rows.{RouterRow}
 use Rattle.mc_topology.specs.Topology.{TopologyValue}
 use Rattle.mc_topology.specs.Stands.{TopologyStands}
+use Rattle.mc_files.specs.Layout.{part_name, topology_slot, vif_slot, cache_slot, reports_slot}
+use Rattle.mc_files.specs.Layout.{certificate_slot}
 use Rattle.mc_forward.specs.Domains.{TablesValue}
-use Rattle.mc_input.specs.Names.{topology_name, certificate_name, vif_name, cache_name}
-use Rattle.mc_input.specs.Names.{reports_name}
 
 -- the topology, the tables of each router in the topology's order, and the records of the reports
 -- of each LAN in the topology's order
@@ -23,14 +23,14 @@ pub record InputValue : Type 0 where
 -- The parts `vif/<router>` and `cache/<router>` stand for the router's tables, its addresses in the
 -- byte order of the router.
 pub record TellsTables (r : RouterRow) (vif cache : PartText) (t : TablesValue) : Type 0 where
-  pub vif_named : vif.name ≡ vif_name r.name
+  pub vif_named : vif.name ≡ part_name (vif_slot r.name)
   pub vifs : StandsForVifs vif.bytes t.vifs
-  pub cache_named : cache.name ≡ cache_name r.name
+  pub cache_named : cache.name ≡ part_name (cache_slot r.name)
   pub entries : StandsForCache r.order cache.bytes t.cache
 
 -- The part `igmp/<lan>` stands for the records of the LAN's reports.
 pub record TellsReports (lan : List ℕ) (part : PartText) (records : List Record) : Type 0 where
-  pub named : part.name ≡ reports_name lan
+  pub named : part.name ≡ part_name (reports_slot lan)
   pub stands : IsReportList part.bytes records
 
 -- two parts for each router in order, and then the parts `rest`
@@ -51,7 +51,7 @@ TellReports _ _ _ _ = ⊥
 abbrev pub TellCertificate : List PartText → Option (List ℕ) → Type 0
 TellCertificate parts None = parts ≡ []
 TellCertificate parts (Some text) =
-    parts ≡ (record { name = certificate_name; bytes = text }) ∷ []
+    parts ≡ (record { name = part_name certificate_slot; bytes = text }) ∷ []
 
 -- The parts are `topology`, those of the routers, those of the LANs, and that of the certificate.
 pub record PartsStand (parts : List PartText) (input : InputValue)
@@ -60,7 +60,7 @@ pub record PartsStand (parts : List PartText) (input : InputValue)
   pub of_routers : List PartText
   pub of_lans : List PartText
   pub last : List PartText
-  pub in_order : parts ≡ (record { name = topology_name; bytes = topology }) ∷ of_routers
+  pub in_order : parts ≡ (record { name = part_name topology_slot; bytes = topology }) ∷ of_routers
   pub topology_stands : TopologyStands topology input.topology
   pub tables : TellTables input.topology.routers of_routers input.tables of_lans
   pub reports : TellReports input.topology.lans of_lans input.reports last

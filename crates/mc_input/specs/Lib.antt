@@ -1,7 +1,7 @@
-pub mod Names
 pub mod Input
 pub mod InputReading
 pub mod InputView
+pub mod PartsReading
 pub mod FilesFault
 pub mod FilesInput
 pub mod FilesReading
@@ -9,6 +9,9 @@ pub use Rattle.mc_text.specs.Bundle
 pub use Rattle.mc_text.specs.BundleReading
 pub use Rattle.mc_files.specs.Files
 pub use Rattle.mc_files.specs.Packing
+pub use Rattle.mc_files.specs.Layout
+pub use Rattle.mc_files.specs.Belongs
+pub use Rattle.mc_files.specs.FilePart
 pub use Rattle.mc_tables.specs.VifTable
 pub use Rattle.mc_tables.specs.VifReading
 pub use Rattle.mc_tables.specs.CacheTable

@@ -1,97 +1,23 @@
-//! One file of a folder, as the part that is packed of it, and what it tells.
+//! What one file of a folder tells, as the part that it makes.
 
-ghost use Rattle.std.specs.Prelude.{◌≡◌, ◌<◌, ◌++◌, IsTrue, codes};
-ghost use Rattle.mc_text.specs.Bundle.{IsPartName};
-ghost use Rattle.mc_text.specs.PartView.{part_text};
+ghost use Rattle.std.specs.Prelude.{◌≡◌, ◌<◌, ℕ, IsTrue};
+ghost use Rattle.mc_text.specs.Device.{counted};
 ghost use Rattle.mc_topology.specs.Names.{is_name};
-ghost use Rattle.mc_input.specs.FilesFault.{GivesOf, failed_files};
-ghost use Rattle.mc_input.specs.FilesReading.{lan_reports, packed_of, part_of as part_of_files};
-ghost use Rattle.mc_input.specs.FilesReading.{router_cache, router_vifs};
-ghost use Rattle.mc_input.specs.FilesReading.{topology_of as topology_of_files};
+ghost use Rattle.mc_files.specs.Layout.{cache_slot, reports_slot, topology_slot, vif_slot};
+ghost use Rattle.mc_input.specs.FilesFault.{GivesOf, is_read};
+ghost use Rattle.mc_input.specs.FilesReading.{part_filed};
+ghost use Rattle.mc_input.specs.PartsReading.{cache_of as told_cache, reports_of as told_reports, told_by};
+ghost use Rattle.mc_input.specs.PartsReading.{topology_of as told_topology, vifs_of as told_vifs};
+ghost use Rattle.mc_input.specs.declared.files_fault.FilesFault.TheVariants.{Input};
 
 use crate::files_fault::FilesFault;
-use crate::input::topology_of;
-use crate::reports::reports_of;
-use crate::tables::{cache_of, vifs_of};
-use mc_files::FileSource;
+use crate::told::{cache_of, reports_of, topology_of, vifs_of};
+use mc_files::{FileSource, Slot, part_of_file};
 use mc_igmp::ReportList;
 use mc_tables::{CacheTable, VifTable};
-use mc_text::{Order, Part, PartName};
+use mc_text::Order;
 use mc_topology::Topology;
 use std::alloc::Global;
-use std::marker::Model;
-
-/// The greatest length of a part, in bytes.
-const MAX_PART: usize = 16_777_216;
-
-/// The part that is packed of a file, with its bytes.
-#[derive(Debug, Drop)]
-struct FilePart {
-    name: PartName,
-    bytes: Vec<u8>,
-}
-
-impl Model for FilePart {
-    ghost use Rattle.mc_text.specs.Bundle.{PartText};
-
-    ghost Value = { PartText };
-
-    ghost view = { λ part. record { name = part.name; bytes = part.bytes.items } };
-}
-
-impl FilePart {
-    /// The part, with its bytes where they lie.
-    fn as_part(&self) -> Part<'_>
-        ensures { part_text result ≡ self.now }
-    {
-        Part {
-            name: self.name,
-            bytes: &self.bytes,
-        }
-    }
-}
-
-/// The part with the second name that is packed of the file with the first.
-fn part_of<F: FileSource>(
-    alloc: Global,
-    files: &mut F,
-    file: &str,
-    part: &str,
-) -> Result<FilePart, FilesFault>
-    requires name { IsPartName part.now }
-    requires reads { F.failed files.old < u64.MAX }
-    ensures same { F.names files.new ≡ F.names files.old }
-    ensures kept { F.told files.new ≡ F.told files.old }
-    ensures part { GivesOf (F.told files.old) (λ part. part) result
-        (part_of_files (record { file = file.now; part = part.now })) }
-    ensures failures { F.failed files.new ≡ failed_files result (F.failed files.old) }
-{
-    let bytes = files.read(alloc, file, MAX_PART)?;
-    let Some(name) = PartName::new(part.as_bytes()) else {
-        unreachable!()
-    };
-    Ok(FilePart { name, bytes })
-}
-
-/// The part that is packed of the file of this kind, of the router or the LAN with this name.
-fn part_named<F: FileSource>(
-    alloc: Global,
-    files: &mut F,
-    kind: &str,
-    name: &str,
-) -> Result<FilePart, FilesFault>
-    requires name { IsPartName (kind.now ++ (codes "/" ++ name.now)) }
-    requires reads { F.failed files.old < u64.MAX }
-    ensures same { F.names files.new ≡ F.names files.old }
-    ensures kept { F.told files.new ≡ F.told files.old }
-    ensures part { GivesOf (F.told files.old) (λ part. part) result
-        (part_of_files (packed_of kind.now name.now)) }
-    ensures failures { F.failed files.new ≡ failed_files result (F.failed files.old) }
-{
-    let file = format!(in alloc; "{kind}-{name}")?;
-    let part = format!(in alloc; "{kind}/{name}")?;
-    part_of(alloc, files, &file, &part)
-}
 
 /// The topology, in the file `topology`.
 pub(crate) fn topology_in<F: FileSource>(
@@ -101,11 +27,12 @@ pub(crate) fn topology_in<F: FileSource>(
     requires reads { F.failed files.old < u64.MAX }
     ensures same { F.names files.new ≡ F.names files.old }
     ensures kept { F.told files.new ≡ F.told files.old }
-    ensures topology { GivesOf (F.told files.old) (λ topology. topology) result topology_of_files }
-    ensures failures { F.failed files.new ≡ failed_files result (F.failed files.old) }
+    ensures topology { (n : ℕ) → GivesOf (F.told files.old) (λ topology. topology) result
+        (λ told. told_by Input (part_filed told n topology_slot) told_topology) }
+    ensures failures { F.failed files.new ≡ counted is_read result (F.failed files.old) }
 {
-    let part = part_of(alloc, files, "topology", "topology")?;
-    Ok(topology_of(alloc, &part.bytes)?)
+    let part = part_of_file(alloc, files, &Slot::topology())?;
+    Ok(topology_of(alloc, &part.as_part())?)
 }
 
 /// The vifs of a router, in the file `vif-<router>`.
@@ -118,10 +45,11 @@ pub(crate) fn vifs_in<F: FileSource>(
     requires reads { F.failed files.old < u64.MAX }
     ensures same { F.names files.new ≡ F.names files.old }
     ensures kept { F.told files.new ≡ F.told files.old }
-    ensures vifs { GivesOf (F.told files.old) (λ vifs. vifs) result (router_vifs router.now) }
-    ensures failures { F.failed files.new ≡ failed_files result (F.failed files.old) }
+    ensures vifs { (n : ℕ) → GivesOf (F.told files.old) (λ vifs. vifs) result
+        (λ told. told_by Input (part_filed told n (vif_slot router.now)) told_vifs) }
+    ensures failures { F.failed files.new ≡ counted is_read result (F.failed files.old) }
 {
-    let part = part_named(alloc, files, "vif", router)?;
+    let part = part_of_file(alloc, files, &Slot::vifs(router))?;
     Ok(vifs_of(alloc, &part.as_part())?)
 }
 
@@ -136,11 +64,11 @@ pub(crate) fn cache_in<F: FileSource>(
     requires reads { F.failed files.old < u64.MAX }
     ensures same { F.names files.new ≡ F.names files.old }
     ensures kept { F.told files.new ≡ F.told files.old }
-    ensures cache { GivesOf (F.told files.old) (λ cache. cache) result
-        (router_cache router.now order) }
-    ensures failures { F.failed files.new ≡ failed_files result (F.failed files.old) }
+    ensures cache { (n : ℕ) → GivesOf (F.told files.old) (λ cache. cache) result
+        (λ told. told_by Input (part_filed told n (cache_slot router.now)) (told_cache order)) }
+    ensures failures { F.failed files.new ≡ counted is_read result (F.failed files.old) }
 {
-    let part = part_named(alloc, files, "cache", router)?;
+    let part = part_of_file(alloc, files, &Slot::cache(router))?;
     Ok(cache_of(alloc, &part.as_part(), order)?)
 }
 
@@ -154,9 +82,10 @@ pub(crate) fn reports_in<F: FileSource>(
     requires reads { F.failed files.old < u64.MAX }
     ensures same { F.names files.new ≡ F.names files.old }
     ensures kept { F.told files.new ≡ F.told files.old }
-    ensures reports { GivesOf (F.told files.old) (λ reports. reports) result (lan_reports lan.now) }
-    ensures failures { F.failed files.new ≡ failed_files result (F.failed files.old) }
+    ensures reports { (n : ℕ) → GivesOf (F.told files.old) (λ reports. reports) result
+        (λ told. told_by Input (part_filed told n (reports_slot lan.now)) told_reports) }
+    ensures failures { F.failed files.new ≡ counted is_read result (F.failed files.old) }
 {
-    let part = part_named(alloc, files, "igmp", lan)?;
+    let part = part_of_file(alloc, files, &Slot::reports(lan))?;
     Ok(reports_of(alloc, &part.as_part())?)
 }

@@ -1,16 +1,19 @@
 //! What a folder's files tell of a domain. The files are read one after another: each is judged
 //! before the next one is asked for, and its text is let go.
 
-ghost use Rattle.std.specs.Prelude.{◌≡◌, ◌<◌, List, IsTrue, Some, IfOk, IfSome, Ok, length};
+ghost use Rattle.std.specs.Prelude.{◌≡◌, ◌<◌, ℕ, List, IsTrue, Some, IfOk, IfSome, Ok, length};
+ghost use Rattle.mc_text.specs.Device.{counted};
 ghost use Rattle.mc_files.specs.Files.{FileText};
 ghost use Rattle.mc_forward.specs.Assembling.{AreCounted};
 ghost use Rattle.mc_topology.specs.Names.{is_name};
-ghost use Rattle.mc_input.specs.FilesFault.{Gives, GivesOf, failed_files};
+ghost use Rattle.mc_input.specs.FilesFault.{Gives, GivesOf, is_read};
 ghost use Rattle.mc_input.specs.FilesInput.{FilesStand};
-ghost use Rattle.mc_input.specs.FilesReading.{all_reports, all_tables, files_of, router_tables};
-ghost use Rattle.mc_input.specs.FilesReading.{topology_of};
+ghost use Rattle.mc_input.specs.FilesReading.{files_of, part_filed};
 ghost use Rattle.mc_input.specs.Input.{InputValue};
 ghost use Rattle.mc_input.specs.InputView.{contents_value, files_value};
+ghost use Rattle.mc_input.specs.PartsReading.{all_reports, all_tables, contents, lans_number};
+ghost use Rattle.mc_input.specs.PartsReading.{router_tables};
+ghost use Rattle.mc_input.specs.declared.files_fault.FilesFault.TheVariants.{Input};
 
 use crate::file_part::{cache_in, reports_in, topology_in, vifs_in};
 use crate::files_fault::FilesFault;
@@ -35,7 +38,7 @@ pub struct FilesInput {
 }
 
 /// Both tables of a router.
-#[tactic(auto, unfolding(crate::specs::FilesReading::router_tables))]
+#[tactic(auto, unfolding(crate::specs::PartsReading::router_tables))]
 fn tables_of<F: FileSource>(
     alloc: Global,
     files: &mut F,
@@ -46,9 +49,9 @@ fn tables_of<F: FileSource>(
     requires reads { F.failed files.old < u64.MAX }
     ensures same { F.names files.new ≡ F.names files.old }
     ensures kept { F.told files.new ≡ F.told files.old }
-    ensures tables { GivesOf (F.told files.old) (λ tables. tables) result
-        (router_tables router.now order) }
-    ensures failures { F.failed files.new ≡ failed_files result (F.failed files.old) }
+    ensures tables { (n : ℕ) → GivesOf (F.told files.old) (λ tables. tables) result
+        (λ told. router_tables Input (part_filed told) n router.now order) }
+    ensures failures { F.failed files.new ≡ counted is_read result (F.failed files.old) }
 {
     let vifs = vifs_in(alloc, files, router)?;
     let cache = cache_in(alloc, files, router, order)?;
@@ -65,10 +68,10 @@ fn tables_in<F: FileSource>(
     ensures same { F.names files.new ≡ F.names files.old }
     ensures kept { F.told files.new ≡ F.told files.old }
     ensures tables { GivesOf (F.told files.old) (λ tables. tables.items) result
-        (all_tables topology.now.routers) }
+        (λ told. all_tables Input (part_filed told) 1 topology.now.routers) }
     ensures count { IfOk result (λ tables.
         length tables.items ≡ length topology.now.routers) }
-    ensures failures { F.failed files.new ≡ failed_files result (F.failed files.old) }
+    ensures failures { F.failed files.new ≡ counted is_read result (F.failed files.old) }
 {
     let mut tables = Vec::new(alloc);
     for router in 0..topology.routers() {
@@ -89,9 +92,9 @@ fn reports_of_lans<F: FileSource>(
     ensures same { F.names files.new ≡ F.names files.old }
     ensures kept { F.told files.new ≡ F.told files.old }
     ensures reports { GivesOf (F.told files.old) (λ reports. reports.items) result
-        (all_reports topology.now.lans) }
+        (λ told. all_reports Input (part_filed told) (lans_number topology.now) topology.now.lans) }
     ensures count { IfOk result (λ reports. length reports.items ≡ length topology.now.lans) }
-    ensures failures { F.failed files.new ≡ failed_files result (F.failed files.old) }
+    ensures failures { F.failed files.new ≡ counted is_read result (F.failed files.old) }
 {
     let mut reports = Vec::new(alloc);
     for lan in 0..topology.lans() {
@@ -102,6 +105,7 @@ fn reports_of_lans<F: FileSource>(
 }
 
 /// What the files beside the topology tell, one after another.
+#[tactic(auto, unfolding(crate::specs::PartsReading::contents))]
 fn contents_in<F: FileSource>(
     alloc: Global,
     files: &mut F,
@@ -110,12 +114,11 @@ fn contents_in<F: FileSource>(
     requires reads { F.failed files.old < u64.MAX }
     ensures same { F.names files.new ≡ F.names files.old }
     ensures kept { F.told files.new ≡ F.told files.old }
-    ensures contents { (told : List FileText) → F.told files.old ≡ Some told
-        → topology_of told ≡ Ok topology.now
-        → Gives (contents_value topology.now) result (files_of told) }
+    ensures contents { GivesOf (F.told files.old) (contents_value topology.now) result
+        (λ told. contents Input (part_filed told) topology.now) }
     ensures counted { IfOk result (λ contents.
         AreCounted topology.now contents.tables.items contents.reports.items) }
-    ensures failures { F.failed files.new ≡ failed_files result (F.failed files.old) }
+    ensures failures { F.failed files.new ≡ counted is_read result (F.failed files.old) }
 {
     let tables = tables_in(alloc, files, topology)?;
     let reports = reports_of_lans(alloc, files, topology)?;
@@ -131,6 +134,7 @@ fn contents_in<F: FileSource>(
 ///
 /// The first fault in this order: `Read` where a file isn't there or can't be read, `TooLarge`
 /// where it has too many bytes, and `Input` with what is wrong in it. Or `Input` with `Memory`.
+#[tactic(auto, unfolding(crate::specs::PartsReading::reading))]
 pub fn read_files<F: FileSource>(alloc: Global, files: &mut F) -> Result<FilesInput, FilesFault>
     requires reads { F.failed files.old < u64.MAX }
     ensures same { F.names files.new ≡ F.names files.old }
@@ -147,7 +151,7 @@ pub fn read_files<F: FileSource>(alloc: Global, files: &mut F) -> Result<FilesIn
     // Which fault it is.
     ensures fault { GivesOf (F.told files.old) files_value result files_of }
     // Read comes only where the source's failures rose in the call.
-    ensures failures { F.failed files.new ≡ failed_files result (F.failed files.old) }
+    ensures failures { F.failed files.new ≡ counted is_read result (F.failed files.old) }
 {
     let topology = topology_in(alloc, files)?;
     let contents = contents_in(alloc, files, &topology)?;

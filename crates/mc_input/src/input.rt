@@ -1,26 +1,28 @@
 //! What a bundle tells of a domain, read in the order in which its parts are judged.
 
-ghost use Rattle.std.specs.Prelude.{◌≡◌, ℕ, Bool, List, length, Option, is_some, IfOk, OnOk, Ok};
+ghost use Rattle.std.specs.Prelude.{◌≡◌, ◌+◌, ◌<◌, ℕ, Bool, List, length, false, is_some, IfOk, IsTrue};
+ghost use Rattle.std.specs.Prelude.{Ok, Option};
+ghost use Rattle.mc_topology.specs.Names.{is_name};
+ghost use Rattle.mc_text.specs.BundleReading.{bundle_of as parts_of_text};
+ghost use Rattle.mc_text.specs.Steps.{refused_as};
+ghost use Rattle.mc_files.specs.Layout.{slots};
 ghost use Rattle.mc_forward.specs.Assembling.{AreCounted};
 ghost use Rattle.mc_input.specs.Input.{InputValue, InputStands};
 ghost use Rattle.mc_input.specs.InputReading.{Gives, certificate_in, input_in as input_in_parts};
-ghost use Rattle.mc_input.specs.InputReading.{input_of, part_count, refused_as};
-ghost use Rattle.mc_input.specs.InputReading.{topology_in as topology_in_parts};
+ghost use Rattle.mc_input.specs.InputReading.{input_of, part_named};
 ghost use Rattle.mc_input.specs.InputView.{certificate_seen, contents_value, input_seen};
 ghost use Rattle.mc_input.specs.InputView.{input_value};
+ghost use Rattle.mc_input.specs.PartsReading.{all_reports, all_tables, contents, lans_number};
+ghost use Rattle.mc_input.specs.PartsReading.{router_tables};
 ghost use Rattle.mc_input.specs.declared.fault.InputFault.TheVariants.{Bundle as bundle_fault};
-ghost use Rattle.mc_input.specs.declared.fault.InputFault.TheVariants.{Topology as topology_fault};
-ghost use Rattle.mc_topology.specs.Reading.{reading_of};
-ghost use Rattle.mc_text.specs.BundleReading.{bundle_of as parts_of_text};
 
+use crate::bundle_part::{cache_in, names_in, reports_in, topology_in, vifs_in};
 use crate::fault::InputFault;
-use crate::names::{named, names_in};
-use crate::reports::reports_in;
-use crate::tables::tables_in;
+use mc_files::slot_count;
 use mc_forward::Tables;
 use mc_igmp::ReportList;
-use mc_text::{Bundle, BundleFault};
-use mc_topology::{Topology, TopologyFault, TopologyFaultKind};
+use mc_text::{Bundle, BundleFault, Order};
+use mc_topology::{LanNo, RouterNo, Topology};
 use std::alloc::Global;
 
 /// What a bundle tells: the topology, and in its order the tables of each router and the report
@@ -37,31 +39,6 @@ pub struct BundleInput<'a> {
     pub certificate: Option<&'a [u8]>,
 }
 
-/// The topology of a text.
-pub(crate) fn topology_of(alloc: Global, text: &[u8]) -> Result<Topology, InputFault>
-    ensures { Gives (λ topology. topology) result (refused_as topology_fault (reading_of text.now)) }
-{
-    match Topology::read(alloc, text) {
-        Ok(topology) => Ok(topology),
-        Err(
-            TopologyFault {
-                kind: TopologyFaultKind::Memory,
-                ..
-            },
-        ) => Err(InputFault::Memory),
-        Err(fault) => Err(InputFault::Topology(fault)),
-    }
-}
-
-/// The topology, in the first part.
-#[tactic(auto, unfolding(crate::specs::InputReading::topology_in))]
-fn topology_in(alloc: Global, bundle: &Bundle<'_>) -> Result<Topology, InputFault>
-    ensures { Gives (λ topology. topology) result (topology_in_parts bundle.now) }
-{
-    named(bundle, 0, b"topology", b"")?;
-    topology_of(alloc, bundle.part(0).bytes)
-}
-
 /// What is told beside the topology: in its order the tables of each router and the report list of
 /// each LAN.
 #[derive(Drop)]
@@ -70,37 +47,87 @@ pub(crate) struct Contents {
     pub(crate) reports: Vec<ReportList>,
 }
 
-/// What the parts after the topology tell: first their names and their number are judged, and then
-/// their contents.
-#[tactic(auto, unfolding(crate::specs::InputReading::input_in))]
+/// Both tables of a router, in the part with a number and the next.
+#[tactic(auto, unfolding(crate::specs::PartsReading::router_tables))]
+fn tables_of(
+    alloc: Global,
+    bundle: &Bundle<'_>,
+    number: u32,
+    router: &str,
+    order: Order,
+) -> Result<Tables, InputFault>
+    requires few { number + 1 < u32.MAX }
+    requires name { IsTrue (is_name router.now) }
+    ensures { Gives (λ tables. tables) result
+        (router_tables (λ fault. fault) (part_named bundle.now) number router.now order) }
+{
+    let vifs = vifs_in(alloc, bundle, number, router)?;
+    let cache = cache_in(alloc, bundle, number + 1, router, order)?;
+    Ok(Tables { vifs, cache })
+}
+
+/// The tables of each router.
+fn tables_in(
+    alloc: Global,
+    bundle: &Bundle<'_>,
+    topology: &Topology,
+) -> Result<Vec<Tables>, InputFault>
+    ensures { Gives (λ tables. tables.items) result
+        (all_tables (λ fault. fault) (part_named bundle.now) 1 topology.now.routers) }
+{
+    let mut tables = Vec::new(alloc);
+    for router in 0..topology.routers() {
+        let name = topology.router_name(RouterNo(router));
+        let order = topology.order(RouterNo(router));
+        tables.push(tables_of(alloc, bundle, 1 + 2 * router, name, order)?)?;
+    }
+    Ok(tables)
+}
+
+/// The report list of each LAN.
+fn reports_of_lans(
+    alloc: Global,
+    bundle: &Bundle<'_>,
+    topology: &Topology,
+) -> Result<Vec<ReportList>, InputFault>
+    ensures { Gives (λ reports. reports.items) result
+        (all_reports (λ fault. fault) (part_named bundle.now) (lans_number topology.now)
+        topology.now.lans) }
+{
+    let first = 1 + 2 * topology.routers();
+    let mut reports = Vec::new(alloc);
+    for lan in 0..topology.lans() {
+        let name = topology.lan_name(LanNo(lan));
+        reports.push(reports_in(alloc, bundle, first + lan, name)?)?;
+    }
+    Ok(reports)
+}
+
+/// What the parts after the topology tell.
+#[tactic(auto, unfolding(crate::specs::PartsReading::contents))]
 fn contents_in(
     alloc: Global,
     bundle: &Bundle<'_>,
     topology: &Topology,
-    certified: bool,
 ) -> Result<Contents, InputFault>
-    requires topology { topology_in_parts bundle.now ≡ Ok topology.now }
     ensures contents { Gives (contents_value topology.now) result
-        (input_in_parts certified bundle.now) }
-    ensures count { OnOk result (length bundle.now ≡ part_count certified topology.now) }
+        (contents (λ fault. fault) (part_named bundle.now) topology.now) }
 {
-    names_in(bundle, topology, certified)?;
     let tables = tables_in(alloc, bundle, topology)?;
-    let reports = reports_in(alloc, bundle, topology)?;
+    let reports = reports_of_lans(alloc, bundle, topology)?;
     Ok(Contents { tables, reports })
 }
 
 /// The text of the certificate, in the last part, where one is to be there.
 fn certificate_of<'a>(bundle: &Bundle<'a>, topology: &Topology, certified: bool) -> Option<&'a [u8]>
-    requires count { length bundle.now ≡ part_count certified topology.now }
+    requires count { length bundle.now ≡ length (slots certified topology.now) }
     ensures { certificate_seen result ≡ certificate_in certified bundle.now topology.now }
 {
-    let last = 1 + 2 * topology.routers() as usize + topology.lans() as usize;
     if certified {
-        Some(bundle.part(last).bytes)
-    } else {
-        None
+        let last = slot_count(topology, false);
+        return Some(bundle.part(last as usize).bytes);
     }
+    None
 }
 
 /// The input with this topology and these contents, and with the certificate where one is to be
@@ -111,7 +138,7 @@ fn input_with<'a>(
     contents: Contents,
     certified: bool,
 ) -> BundleInput<'a>
-    requires count { length bundle.now ≡ part_count certified topology }
+    requires count { length bundle.now ≡ length (slots certified topology) }
     ensures input { input_value result ≡ contents_value topology contents }
     ensures certificate { certificate_seen result.certificate ≡
         certificate_in certified bundle.now topology }
@@ -125,9 +152,9 @@ fn input_with<'a>(
     }
 }
 
-/// What the parts tell: first the topology, then the names and the number of the other parts, and
-/// then their contents.
-#[tactic(auto, unfolding(crate::specs::InputReading::input_in))]
+/// What the parts tell: first the topology, then the names and the number of all parts, and then
+/// their contents.
+#[tactic(auto, unfolding(crate::specs::PartsReading::reading))]
 fn input_in<'a>(
     alloc: Global,
     bundle: &Bundle<'a>,
@@ -140,7 +167,8 @@ fn input_in<'a>(
         ≡ certified) }
 {
     let topology = topology_in(alloc, bundle)?;
-    let contents = contents_in(alloc, bundle, &topology, certified)?;
+    names_in(bundle, &topology, certified)?;
+    let contents = contents_in(alloc, bundle, &topology)?;
     Ok(input_with(bundle, topology, contents, certified))
 }
 
@@ -162,7 +190,7 @@ fn bundle_of(alloc: Global, text: &[u8]) -> Result<Bundle<'_>, InputFault>
 /// # Errors
 ///
 /// The framing of the whole bundle is judged first, then the name of the first part, the topology,
-/// the names and the number of the other parts, and then their contents in their order. Or
+/// the names and the number of all parts, and then their contents in their order. Or
 /// `Memory`.
 #[tactic(auto, unfolding(crate::specs::InputReading::input_of))]
 pub fn read_input<'a>(

@@ -2,15 +2,14 @@
 //! each by its reader, in the one order in which they are judged.
 #![tactic(auto)]
 
+mod bundle_part;
 mod fault;
 mod file_part;
 mod files;
 mod files_fault;
 mod input;
 mod laws;
-mod names;
-mod reports;
-mod tables;
+mod told;
 
 pub use fault::InputFault;
 pub use files::{FilesInput, read_files};

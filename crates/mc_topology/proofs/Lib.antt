@@ -11,7 +11,6 @@ pub mod KeptNames
 pub mod Keys
 pub mod Kept
 pub mod NameLemmas
-pub mod PartNames
 pub mod Parts
 pub mod Places
 pub mod ReadLemmas

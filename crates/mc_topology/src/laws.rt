@@ -1,10 +1,8 @@
 //! What follows from the definitions alone, for whoever builds on them.
 
-ghost use Rattle.std.specs.Prelude.{◌≡◌, ◌↔◌, ℕ, ◌++◌, codes, List, IsTrue, Some, Ok, option_map};
-ghost use Rattle.std.specs.Prelude.{slice_get};
+ghost use Rattle.std.specs.Prelude.{◌≡◌, ◌↔◌, ℕ, List, Some, Ok, option_map, slice_get};
 ghost use Rattle.std.specs.Ordering.{nat_cmp};
-ghost use Rattle.mc_text.specs.Bundle.{IsPartName};
-ghost use Rattle.mc_topology.specs.Names.{is_name, index_of};
+ghost use Rattle.mc_topology.specs.Names.{index_of};
 ghost use Rattle.mc_topology.specs.Reading.{reading_of};
 ghost use Rattle.mc_topology.specs.Routers.{router_no_of};
 ghost use Rattle.mc_topology.specs.Stands.{TopologyStands};
@@ -60,11 +58,4 @@ pub fn interfaces_are_found_by_router_and_device()
 pub fn lans_and_routers_are_ordered_by_number()
     ensures lans { (a b : ℕ) → ⟦<LanNo as Ord>⟧.cmp a b ≡ nat_cmp a b }
     ensures routers { (a b : ℕ) → ⟦<RouterNo as Ord>⟧.cmp a b ≡ nat_cmp a b }
-{}
-
-/// What is named for a LAN or a router can be the name of a part of a bundle.
-pub fn names_make_names_of_parts()
-    ensures vif { (name : List ℕ) → IsTrue (is_name name) → IsPartName (codes "vif/" ++ name) }
-    ensures cache { (name : List ℕ) → IsTrue (is_name name) → IsPartName (codes "cache/" ++ name) }
-    ensures igmp { (name : List ℕ) → IsTrue (is_name name) → IsPartName (codes "igmp/" ++ name) }
 {}

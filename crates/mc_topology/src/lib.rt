@@ -21,9 +21,8 @@ pub use flow::Flow;
 pub use interface::Interface;
 pub use laws::{
     interfaces_are_found_by_router_and_device, lan_numbers_and_names_undo_each_other,
-    lans_and_routers_are_ordered_by_number, names_make_names_of_parts,
-    router_numbers_and_names_undo_each_other, texts_stand_for_topologies,
-    topologies_are_read_as_they_stand,
+    lans_and_routers_are_ordered_by_number, router_numbers_and_names_undo_each_other,
+    texts_stand_for_topologies, topologies_are_read_as_they_stand,
 };
 pub use number::{LanNo, RouterNo};
 pub use topology::Topology;

@@ -1,5 +1,5 @@
-use Rattle.mc_files.proofs.PackLemmas.{all_plain}
+use Rattle.mc_files.proofs.SlotLemmas.{slots_plain}
 use Rattle.mc_files.proofs.laws.packed_names_are_plain.Goals as goal
 
 pub returns : goal.returns
-returns c = λ certified t is. all_plain certified t is
+returns c = slots_plain

@@ -1,7 +1,9 @@
-use Rattle.std.proofs.Common.{◌≡◌, List, length, drop, Some}
+use Rattle.std.proofs.Common.{◌≡◌, ◌+◌, List, length, drop, Some}
 use Rattle.mc_files.specs.Files.{FileText}
 use Rattle.mc_text.proofs.StepLemmas.{with_front}
-use Rattle.mc_input.specs.FilesReading.{all_reports}
+use Rattle.mc_input.specs.FilesReading.{part_filed}
+use Rattle.mc_input.specs.PartsReading.{all_reports, lans_number}
+use Rattle.mc_input.specs.declared.files_fault.FilesFault.TheVariants.{Input}
 use Rattle.mc_input.proofs.files.reports_of_lans.Given as goal
 
 abbrev pub invariant-loop-lan : goal.invariant-loop-lan
@@ -12,6 +14,7 @@ invariant-loop-lan g l = record {
   kept : g.F.FileSource.told l.files ≡ g.F.FileSource.told l.fn.files;
   failures : g.F.FileSource.failed l.files ≡ g.F.FileSource.failed l.fn.files;
   left : (told : List FileText) → g.F.FileSource.told l.fn.files ≡ Some told
-      → with_front l.reports.items (all_reports (drop l.lan l.fn.topology.lans) told)
-      ≡ all_reports l.fn.topology.lans told;
+      → with_front l.reports.items (all_reports Input (part_filed told)
+      (lans_number l.fn.topology + l.lan) (drop l.lan l.fn.topology.lans))
+      ≡ all_reports Input (part_filed told) (lans_number l.fn.topology) l.fn.topology.lans;
 }

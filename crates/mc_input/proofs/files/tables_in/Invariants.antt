@@ -1,7 +1,9 @@
-use Rattle.std.proofs.Common.{◌≡◌, List, length, drop, Some}
+use Rattle.std.proofs.Common.{◌≡◌, ◌+◌, ◌*◌, List, length, drop, Some}
 use Rattle.mc_files.specs.Files.{FileText}
 use Rattle.mc_text.proofs.StepLemmas.{with_front}
-use Rattle.mc_input.specs.FilesReading.{all_tables}
+use Rattle.mc_input.specs.FilesReading.{part_filed}
+use Rattle.mc_input.specs.PartsReading.{all_tables}
+use Rattle.mc_input.specs.declared.files_fault.FilesFault.TheVariants.{Input}
 use Rattle.mc_input.proofs.files.tables_in.Given as goal
 
 abbrev pub invariant-loop-router : goal.invariant-loop-router
@@ -12,6 +14,7 @@ invariant-loop-router g l = record {
   kept : g.F.FileSource.told l.files ≡ g.F.FileSource.told l.fn.files;
   failures : g.F.FileSource.failed l.files ≡ g.F.FileSource.failed l.fn.files;
   left : (told : List FileText) → g.F.FileSource.told l.fn.files ≡ Some told
-      → with_front l.tables.items (all_tables (drop l.router l.fn.topology.routers) told)
-      ≡ all_tables l.fn.topology.routers told;
+      → with_front l.tables.items (all_tables Input (part_filed told) (1 + 2 * l.router)
+      (drop l.router l.fn.topology.routers))
+      ≡ all_tables Input (part_filed told) 1 l.fn.topology.routers;
 }

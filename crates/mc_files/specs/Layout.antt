@@ -1,0 +1,63 @@
+-- The parts of a domain: which there are, in the one order, and the two names of each.
+use Rattle.std.specs.Prelude.{ℕ, Bool, true, false, List, [], ◌∷◌, ◌++◌, codes, map, flat_map}
+use Rattle.std.specs.Prelude.{Option, Some, None}
+use Rattle.mc_topology.specs.Rows.{RouterRow}
+use Rattle.mc_topology.specs.Topology.{TopologyValue}
+
+-- a part of a domain: what it is, and whose
+pub record Slot : Type 0 where
+  -- topology, vif, cache, igmp or certificate
+  pub kind : List ℕ
+  -- the router or the LAN that it tells of
+  pub owner : Option (List ℕ)
+
+-- a kind, and where there is an owner a text between and the owner's name
+abbrev pub joined : (between kind : List ℕ) → Option (List ℕ) → List ℕ
+joined between kind None = kind
+joined between kind (Some owner) = kind ++ (between ++ owner)
+
+-- the name of the part in a bundle
+abbrev pub part_name : Slot → List ℕ
+part_name slot = joined (codes "/") slot.kind slot.owner
+
+-- the name of the file in a folder
+abbrev pub file_name : Slot → List ℕ
+file_name slot = joined (codes "-") slot.kind slot.owner
+
+-- ---- the slots of a domain
+
+abbrev pub topology_slot : Slot
+topology_slot = record { kind = codes "topology"; owner = None }
+
+-- a router's vifs
+abbrev pub vif_slot : (router : List ℕ) → Slot
+vif_slot router = record { kind = codes "vif"; owner = Some router }
+
+-- a router's forwarding cache
+abbrev pub cache_slot : (router : List ℕ) → Slot
+cache_slot router = record { kind = codes "cache"; owner = Some router }
+
+-- the reports of a LAN
+abbrev pub reports_slot : (lan : List ℕ) → Slot
+reports_slot lan = record { kind = codes "igmp"; owner = Some lan }
+
+abbrev pub certificate_slot : Slot
+certificate_slot = record { kind = codes "certificate"; owner = None }
+
+-- a router's two tables
+abbrev pub router_slots : RouterRow → List Slot
+router_slots r = vif_slot r.name ∷ cache_slot r.name ∷ []
+
+-- the certificate, where one is to be there
+abbrev pub last_slots : (certified : Bool) → List Slot
+last_slots true = certificate_slot ∷ []
+last_slots false = []
+
+-- those after the topology: of the routers, of the LANs, and the certificate
+abbrev pub other_slots : (certified : Bool) → TopologyValue → List Slot
+other_slots certified t =
+    flat_map router_slots t.routers ++ (map reports_slot t.lans ++ last_slots certified)
+
+-- all, in the one order
+abbrev pub slots : (certified : Bool) → TopologyValue → List Slot
+slots certified t = topology_slot ∷ other_slots certified t

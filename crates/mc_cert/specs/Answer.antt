@@ -1,11 +1,12 @@
 -- Steps that may be refused, and how a call answers them.
-use Rattle.std.specs.Prelude.{◌≡◌, ◌≢◌, ℕ, List, [], ◌∷◌, ◌++◌, length, Result, Ok, Err}
+use Rattle.std.specs.Prelude.{◌≡◌, ℕ, List, [], ◌∷◌, ◌++◌, length, Result, Ok, Err}
 use Rattle.mc_cert.specs.declared.fault.At.{At}
 use Rattle.mc_cert.specs.declared.fault.At.TheVariants.{Top, Flow, FlowEntry, Tree}
 use Rattle.mc_cert.specs.declared.fault.At.TheVariants.{TreeEntry}
 use Rattle.mc_cert.specs.declared.fault.CertFaultKind.{CertFaultKind}
 use Rattle.mc_cert.specs.declared.fault.CertFaultKind.TheVariants.{Memory}
 use Rattle.mc_cert.specs.declared.fault.CertFault.{CertFault}
+use Rattle.mc_text.specs.Steps as Steps
 use Rattle.mc_topology.specs.Answer.{◌>>=◌}
 
 -- the fault of a step at this place
@@ -25,10 +26,13 @@ entry_place (TreeEntry t old) e = TreeEntry t e
 abbrev pub out_of_memory : CertFault
 out_of_memory = record { place = Top; kind = Memory }
 
+-- that memory ran out says nothing of a certificate
+abbrev pub IsMemory : CertFault → Type 0
+IsMemory fault = fault ≡ out_of_memory
+
 -- what a call answers, seen by view, unless memory runs out
 abbrev pub Gives : {X Y : Type 0} → (X → Y) → Result X CertFault → Result Y CertFault → Type 0
-Gives view (Ok x) step = step ≡ Ok (view x)
-Gives view (Err fault) step = fault ≢ out_of_memory → step ≡ Err fault
+Gives = Steps.Gives IsMemory
 
 -- The values of rows, each read by its number, counted from 0, or the first fault.
 unfoldable pub each : {D X : Type 0} → (ℕ → D → Result X CertFault) → List X → List D

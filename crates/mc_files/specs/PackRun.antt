@@ -6,8 +6,8 @@ use Rattle.mc_text.specs.Device.{AppendsPart}
 use Rattle.mc_files.specs.Files.{FileText}
 use Rattle.mc_files.specs.Packing.{IsPacked}
 use Rattle.mc_files.specs.PackReading.{pack_of}
-use Rattle.mc_text.specs.declared.bundle_fault.BundleFault.{BundleFault}
-use Rattle.mc_text.specs.declared.bundle_fault.BundleFault.TheVariants as bundle
+use Rattle.mc_text.specs.declared.bundle.bundle_fault.BundleFault.{BundleFault}
+use Rattle.mc_text.specs.declared.bundle.bundle_fault.BundleFault.TheVariants as bundle
 use Rattle.mc_files.specs.declared.fault.PackFault.{PackFault}
 use Rattle.mc_files.specs.declared.fault.PackFault.TheVariants.{Topology, TooLarge, Read, Write}
 use Rattle.mc_files.specs.declared.fault.PackFault.TheVariants.{Memory}

@@ -10,7 +10,7 @@ use Rattle.mc_tables.specs.VifTable.{VifText}
 use Rattle.mc_text.specs.Steps.{◌>>=◌}
 use Rattle.mc_text.proofs.StepLemmas.{with_front}
 use Rattle.mc_text.specs.Bundle.{PartText}
-use Rattle.mc_text.specs.declared.addr.Order.{Order}
+use Rattle.mc_text.specs.declared.text.addr.Order.{Order}
 use Rattle.mc_igmp.specs.declared.record.Record.{Record}
 use Rattle.mc_topology.specs.Rows.{RouterRow}
 use Rattle.mc_topology.specs.Topology.{TopologyValue}

@@ -6,7 +6,7 @@ use Rattle.std.specs.FinMap.{FinMap}
 use Rattle.std.specs.Ordering.{nat_cmp}
 use Rattle.mc_text.specs.Steps.{◌>>=◌, refused_as}
 use Rattle.mc_text.specs.Bundle.{PartText}
-use Rattle.mc_text.specs.declared.addr.Order.{Order}
+use Rattle.mc_text.specs.declared.text.addr.Order.{Order}
 use Rattle.mc_tables.specs.VifTable.{VifText}
 use Rattle.mc_tables.specs.CacheTable.{CacheText}
 use Rattle.mc_tables.specs.VifReading.{vifs_in}

@@ -1,6 +1,6 @@
 -- The faults of what a run calls, as its own.
-use Rattle.mc_text.specs.declared.input_bytes.ReadFault.{ReadFault}
-use Rattle.mc_text.specs.declared.input_bytes.ReadFault.TheVariants as reading
+use Rattle.mc_text.specs.declared.io.input_bytes.ReadFault.{ReadFault}
+use Rattle.mc_text.specs.declared.io.input_bytes.ReadFault.TheVariants as reading
 use Rattle.mc_igmp.specs.declared.fault.ListFault.{ListFault}
 use Rattle.mc_igmp.specs.declared.fault.ListFaultKind.{ListFaultKind}
 use Rattle.mc_igmp.specs.declared.fault.ListFaultKind.TheVariants as list
@@ -11,7 +11,7 @@ use Rattle.mc_input.specs.declared.fault.InputFault.{InputFault}
 use Rattle.mc_input.specs.declared.fault.InputFault.TheVariants as input
 use Rattle.mc_input.specs.declared.files_fault.FilesFault.{FilesFault}
 use Rattle.mc_input.specs.declared.files_fault.FilesFault.TheVariants as files
-use Rattle.mc_text.specs.declared.bundle_fault.BundleFault.TheVariants as bundle
+use Rattle.mc_text.specs.declared.bundle.bundle_fault.BundleFault.TheVariants as bundle
 use Rattle.mc_run.specs.declared.fault.RunFault.{RunFault}
 use Rattle.mc_run.specs.declared.fault.RunFault.TheVariants.{Bundle, Parts, Topology, Vif, Cache}
 use Rattle.mc_run.specs.declared.fault.RunFault.TheVariants.{PartReports, Reports, Certificate}

@@ -6,8 +6,8 @@ use Rattle.std.specs.Int.{w32, from_be_bytes}
 use Rattle.std.proofs.lemmas.Bool.{eqb-true}
 use Rattle.std.proofs.lemmas.List.{reverse-reverse, length-reverse}
 use Rattle.std.proofs.lemmas.Nat.{from_be_bytes-to_be_bytes_4}
-use Rattle.mc_text.specs.declared.addr.Order.{Order}
-use Rattle.mc_text.specs.declared.addr.Order.TheVariants.{Little, Big}
+use Rattle.mc_text.specs.declared.text.addr.Order.{Order}
+use Rattle.mc_text.specs.declared.text.addr.Order.TheVariants.{Little, Big}
 use Rattle.mc_text.specs.Addr.{IsAddr, octets_of}
 use Rattle.mc_text.specs.AddressWord.{printed_octets, IsAddressWord}
 use Rattle.mc_text.specs.Hex.{decode_of}

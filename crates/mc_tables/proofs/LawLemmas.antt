@@ -3,7 +3,7 @@ use Rattle.std.proofs.Common.{◌≡◌, ℕ, List, Ok, sym, subst, ◌∙◌}
 use Rattle.std.specs.Prelude.{◌↔◌}
 use Rattle.std.specs.Ordering.{nat_cmp}
 use Rattle.std.specs.FinMap.{FinMap}
-use Rattle.mc_text.specs.declared.addr.Order.{Order}
+use Rattle.mc_text.specs.declared.text.addr.Order.{Order}
 use Rattle.mc_tables.specs.declared.fault.TableFault.{TableFault}
 use Rattle.mc_tables.specs.VifTable.{VifText, StandsForVifs}
 use Rattle.mc_tables.specs.VifLookups.{IsVifTable}

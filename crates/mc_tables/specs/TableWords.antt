@@ -5,7 +5,7 @@ use Rattle.std.specs.Char.{is_ascii_digit, is_ascii_hexdigit}
 use Rattle.std.specs.List.{list_all}
 use Rattle.std.specs.Str.Parse.{digits_value}
 use Rattle.mc_text.specs.Hex.{decode_of}
-use Rattle.mc_text.specs.declared.addr.Order.{Order}
+use Rattle.mc_text.specs.declared.text.addr.Order.{Order}
 use Rattle.mc_text.specs.Addr.{IsAddr}
 use Rattle.mc_text.specs.AddressReading.{address_of_octets}
 use Rattle.mc_text.specs.AddressWord.{IsAddressWord}

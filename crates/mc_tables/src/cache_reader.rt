@@ -31,7 +31,7 @@ pub struct CacheReader {
 impl Model for CacheReader {
     ghost use Rattle.std.specs.Prelude.{◌≡◌, None};
     ghost use Rattle.std.specs.Coded.{codes};
-    ghost use Rattle.mc_text.specs.contracts.addr.Order as orders;
+    ghost use Rattle.mc_text.specs.contracts.text.addr.Order as orders;
     ghost use Rattle.mc_tables.specs.contracts.fault.TableFault as faults;
     ghost use Rattle.mc_tables.specs.CacheTable.{IsCache};
     ghost use Rattle.mc_tables.specs.RowsSoFar.{CacheSoFar, rows_code};

@@ -3,7 +3,7 @@
 ghost use Rattle.std.specs.Prelude.{◌≡◌, ◌≢◌, ◌≤◌, ◌↔◌, ℕ, List, IsSome, IfSome, Ok, Err};
 ghost use Rattle.std.specs.Ordering.{nat_cmp};
 ghost use Rattle.std.specs.FinMap.{FinMap, get};
-ghost use Rattle.mc_text.specs.declared.addr.Order.{Order};
+ghost use Rattle.mc_text.specs.declared.text.addr.Order.{Order};
 ghost use Rattle.mc_tables.specs.declared.fault.TableFault.{TableFault};
 ghost use Rattle.mc_tables.specs.VifTable.{VifText, no_device, StandsForVifs};
 ghost use Rattle.mc_tables.specs.VifLookups.{HasDevice, IsVifTable};

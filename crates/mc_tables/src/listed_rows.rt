@@ -31,7 +31,7 @@ pub struct ListedRows {
 
 impl Model for ListedRows {
     ghost use Rattle.std.specs.Coded.{codes};
-    ghost use Rattle.mc_text.specs.contracts.addr.Order as orders;
+    ghost use Rattle.mc_text.specs.contracts.text.addr.Order as orders;
     ghost use Rattle.mc_tables.specs.RowsSoFar.{ListedSoFar, rows_code};
 
     ghost Value = { ListedSoFar };

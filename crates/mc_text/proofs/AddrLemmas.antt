@@ -10,8 +10,8 @@ use Rattle.std.proofs.NetLemmas.Theorems.{IsIpv4Text_unique}
 use Rattle.std.proofs.lemmas.Nat.{be_bytes_4, from_be_bytes-to_be_bytes_4}
 use Rattle.hex.specs.Hex.{decode_of}
 use Rattle.hex.proofs.HexLemmas.{decode_of-ok}
-use Rattle.mc_text.specs.declared.addr.Order.{Order}
-use Rattle.mc_text.specs.declared.addr.Order.TheVariants.{Little, Big}
+use Rattle.mc_text.specs.declared.text.addr.Order.{Order}
+use Rattle.mc_text.specs.declared.text.addr.Order.TheVariants.{Little, Big}
 use Rattle.mc_text.specs.Addr.{IsAddr, octets_of, dotted}
 use Rattle.mc_text.specs.AddressWord.{printed_octets}
 

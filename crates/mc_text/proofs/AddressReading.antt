@@ -13,8 +13,8 @@ use Rattle.std.proofs.lemmas.List.{reverse-reverse, length-reverse, get_or-rever
 use Rattle.std.proofs.lemmas.Nat.{from_be_bytes-to_be_bytes_4}
 use Rattle.std.proofs.lemmas.Option.{same_Some}
 use Rattle.std.proofs.lemmas.Slice.Eq.{bytes_eq-Decides}
-use Rattle.mc_text.specs.declared.addr.Order.{Order}
-use Rattle.mc_text.specs.declared.addr.Order.TheVariants.{Little, Big}
+use Rattle.mc_text.specs.declared.text.addr.Order.{Order}
+use Rattle.mc_text.specs.declared.text.addr.Order.TheVariants.{Little, Big}
 use Rattle.mc_text.specs.Hex.{decode_of}
 use Rattle.mc_text.specs.Addr.{IsAddr, octets_of, dotted}
 use Rattle.mc_text.specs.AddressReading.{numbers_between_dots, address_of_text, octets_in_order}

@@ -8,8 +8,8 @@ use Rattle.std.specs.List.{AllByRecursion, flat_map}
 use Rattle.std.specs.Str.{bytes_eq}
 use Rattle.std.proofs.lemmas.List.{append-nil, take-append-drop, length-append}
 use Rattle.std.proofs.lemmas.Slice.Eq.{bytes_eq-Decides}
-use Rattle.mc_text.specs.declared.bundle_fault.BundleFault.{BundleFault}
-use Rattle.mc_text.specs.declared.bundle_fault.BundleFault.TheVariants as faults
+use Rattle.mc_text.specs.declared.bundle.bundle_fault.BundleFault.{BundleFault}
+use Rattle.mc_text.specs.declared.bundle.bundle_fault.BundleFault.TheVariants as faults
 use Rattle.mc_text.specs.Bundle.{PartText, IsPartName, part_spelling, IsBundle, max_part}
 use Rattle.mc_text.specs.Bundle.{max_bundle, max_parts}
 use Rattle.mc_text.specs.BundleReading.{IsMemory, Gives, Place, place_of, with_next, parts_from}

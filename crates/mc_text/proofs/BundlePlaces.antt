@@ -10,7 +10,7 @@ use Rattle.std.proofs.lemmas.Bool.Decides.{nat_tests}
 use Rattle.std.proofs.lemmas.Fmt.{length-decimal-le}
 use Rattle.std.proofs.lemmas.List.{take_at, length-append, length-take, nil_from_length}
 use Rattle.std.proofs.lemmas.Slice.Eq.{bytes_eq-Decides}
-use Rattle.mc_text.specs.declared.bundle_fault.BundleFault.{BundleFault}
+use Rattle.mc_text.specs.declared.bundle.bundle_fault.BundleFault.{BundleFault}
 use Rattle.mc_text.specs.Bundle.{PartText, IsPartName, part_line, part_spelling, max_line, max_part}
 use Rattle.mc_text.specs.BundleReading.{IsMemory, Place, line_at, part_said, part_bytes_at, part_room}
 use Rattle.mc_text.specs.BundleReading.{is_too_large, place_after, part_place, end_place, place_of}

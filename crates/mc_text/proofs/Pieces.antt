@@ -11,7 +11,7 @@ use Rattle.std.proofs.lemmas.List.{append-nil, length-append, take-append-drop, 
 use Rattle.std.proofs.lemmas.List.{drop_more, take_more}
 use Rattle.std.proofs.lemmas.List.Folds.{flat_map-map}
 use Rattle.std.proofs.lemmas.Result.{on_err_weaker}
-use Rattle.mc_text.specs.declared.part.Part.{Part}
+use Rattle.mc_text.specs.declared.bundle.part.Part.{Part}
 use Rattle.mc_text.specs.Bundle.{PartText, IsPartName, part_spelling, bundle_spelling, max_part}
 use Rattle.mc_text.specs.Device.{AppendsPart}
 use Rattle.mc_text.specs.PartView.{part_text, part_texts}

@@ -3,8 +3,8 @@
 -- net/ipv4/ipmr.c).
 use Rattle.std.specs.Prelude.{◌≡◌, ℕ, List, reverse, Ok}
 use Rattle.hex.specs.Hex.{decode_of}
-use Rattle.mc_text.specs.declared.addr.Order.{Order}
-use Rattle.mc_text.specs.declared.addr.Order.TheVariants.{Little, Big}
+use Rattle.mc_text.specs.declared.text.addr.Order.{Order}
+use Rattle.mc_text.specs.declared.text.addr.Order.TheVariants.{Little, Big}
 use Rattle.mc_text.specs.Addr.{octets_of}
 
 -- the bytes as the digits have them from left to right: first to last on a big-endian machine, last

@@ -5,8 +5,8 @@ use Rattle.std.specs.Prelude.{Option, Some, None, Result, Ok, Err, if◌then◌e
 use Rattle.std.specs.List.{list_all}
 use Rattle.std.specs.Str.{bytes_eq}
 use Rattle.std.specs.Str.Parse.{digits_value}
-use Rattle.mc_text.specs.declared.bundle_fault.BundleFault.{BundleFault}
-use Rattle.mc_text.specs.declared.bundle_fault.BundleFault.TheVariants as faults
+use Rattle.mc_text.specs.declared.bundle.bundle_fault.BundleFault.{BundleFault}
+use Rattle.mc_text.specs.declared.bundle.bundle_fault.BundleFault.TheVariants as faults
 use Rattle.mc_text.specs.Number.{is_decimal}
 use Rattle.mc_text.specs.Steps as Steps
 use Rattle.mc_text.specs.Steps.{◌>>=◌}

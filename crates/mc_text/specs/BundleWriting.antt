@@ -1,8 +1,8 @@
 -- What writing a bundle does to an output.
 use Rattle.std.specs.Prelude.{ℕ, Bool, true, false, List, Option}
 use Rattle.std.specs.Io.KnownBytes.{Appends}
-use Rattle.mc_text.specs.declared.bundle_fault.BundleFault.{BundleFault}
-use Rattle.mc_text.specs.declared.bundle_fault.BundleFault.TheVariants as faults
+use Rattle.mc_text.specs.declared.bundle.bundle_fault.BundleFault.{BundleFault}
+use Rattle.mc_text.specs.declared.bundle.bundle_fault.BundleFault.TheVariants as faults
 use Rattle.mc_text.specs.Bundle.{PartText, IsBundle}
 
 -- whether the fault is a write that failed, as a bundle that is too large is not

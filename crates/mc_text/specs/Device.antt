@@ -2,7 +2,7 @@
 use Rattle.std.specs.Prelude.{ℕ, ◌+◌, ◌<◌, ◌==◌, ◌&&◌, nat_lt, List, length, take, Option, Result}
 use Rattle.std.specs.Prelude.{Ok, Err, Bool, true, cond, if◌then◌else◌}
 use Rattle.std.specs.Io.KnownBytes.{Appends}
-use Rattle.mc_text.specs.declared.device.DeviceFault.{DeviceFault}
+use Rattle.mc_text.specs.declared.io.device.DeviceFault.{DeviceFault}
 
 -- a read fails where it answers an error
 abbrev pub failed_by_read : Result ℕ DeviceFault → ℕ → ℕ

@@ -1,5 +1,5 @@
 -- A line as contracts see it.
-use Rattle.mc_text.specs.declared.lines.Line.{Line}
+use Rattle.mc_text.specs.declared.text.lines.Line.{Line}
 use Rattle.mc_text.specs.Lines.{LineText}
 
 abbrev pub line_text : Line → LineText

@@ -1,6 +1,6 @@
 -- A part's name in memory: its bytes with zeros after them, and their number.
 use Rattle.std.specs.Prelude.{◌≡◌, ℕ, ◌≤◌, List, length, take}
-use Rattle.mc_text.specs.declared.part_name.PartName.TheInside.{Inside}
+use Rattle.mc_text.specs.declared.bundle.part_name.PartName.TheInside.{Inside}
 use Rattle.mc_text.specs.Bundle.{IsPartName, max_name}
 use Rattle.mc_text.specs.PaddedName.{padded}
 

@@ -1,6 +1,6 @@
 -- A part as contracts see it.
 use Rattle.std.specs.Prelude.{List, map}
-use Rattle.mc_text.specs.declared.part.Part.{Part}
+use Rattle.mc_text.specs.declared.bundle.part.Part.{Part}
 use Rattle.mc_text.specs.Bundle.{PartText}
 
 abbrev pub part_text : Part → PartText

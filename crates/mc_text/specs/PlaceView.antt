@@ -1,6 +1,6 @@
 -- A place of a bundle as contracts see it.
-use Rattle.mc_text.specs.declared.part.Part.{Part}
-use Rattle.mc_text.specs.declared.bundle.Place.{Place}
+use Rattle.mc_text.specs.declared.bundle.part.Part.{Part}
+use Rattle.mc_text.specs.declared.bundle.bundle.Place.{Place}
 use Rattle.mc_text.specs.Bundle.{PartText}
 use Rattle.mc_text.specs.BundleReading.{Place as PlaceText}
 use Rattle.mc_text.specs.PartView.{part_text}

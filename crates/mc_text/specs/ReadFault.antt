@@ -1,8 +1,8 @@
 -- What a call that reads many times does.
 use Rattle.std.specs.Prelude.{◌≡◌, ℕ, ◌≤◌, Bool, true, false, List, ◌++◌, length, Option}
 use Rattle.std.specs.Io.KnownBytes.{Consumes}
-use Rattle.mc_text.specs.declared.input_bytes.ReadFault.{ReadFault}
-use Rattle.mc_text.specs.declared.input_bytes.ReadFault.TheVariants.{Read, Memory}
+use Rattle.mc_text.specs.declared.io.input_bytes.ReadFault.{ReadFault}
+use Rattle.mc_text.specs.declared.io.input_bytes.ReadFault.TheVariants.{Read, Memory}
 
 -- whether the fault is a read that failed, as want of memory is not
 abbrev pub is_read : ReadFault → Bool

@@ -10,10 +10,9 @@ ghost use Rattle.mc_text.specs.AddressWord.{IsAddressWord};
 ghost use Rattle.mc_text.specs.Lines.{HasNoLineFeed, OnlyLastMayBeUnended, joined, lines_of};
 ghost use Rattle.mc_text.specs.Lines.{max_text};
 ghost use Rattle.mc_text.specs.Number.{IsDecimal, number_up_to};
-ghost use Rattle.mc_text.specs.declared.addr.Order.{Order};
+ghost use Rattle.mc_text.specs.declared.text.addr.Order.{Order};
 
-use crate::addr::Addr;
-use crate::lines::MAX_TEXT;
+use crate::text::{Addr, MAX_TEXT};
 
 /// The bytes of the lines, each with its line feed if it has one, are the text.
 pub fn lines_make_their_text()

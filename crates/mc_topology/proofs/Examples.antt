@@ -5,7 +5,7 @@ use Rattle.std.specs.Fmt.{digits}
 use Rattle.std.specs.Str.{is_utf8, chars}
 use Rattle.toml.proofs.OnLiterals.{toml_on_literals}
 use Rattle.mc_text.specs.AddressReading.{address_of_text}
-use Rattle.mc_text.specs.declared.addr.Order.TheVariants.{Big}
+use Rattle.mc_text.specs.declared.text.addr.Order.TheVariants.{Big}
 use Rattle.mc_topology.specs.Addresses.{source_address_of, group_address_of}
 use Rattle.mc_topology.specs.Answer.{each}
 use Rattle.mc_topology.specs.Document.{known_table, text_at, number_at, list_at, optional_text_at}

@@ -3,7 +3,7 @@ use Rattle.std.proofs.Common.{◌≡◌, ℕ, zero, suc, ◌<◌, List, [], ◌�
 use Rattle.std.proofs.Common.{Some, option_map, refl, sym, ap, arith}
 use Rattle.std.specs.Prelude.{String, string_bytes, slice_get}
 use Rattle.std.specs.Map.{keys_of, values_of}
-use Rattle.mc_text.specs.declared.addr.Order.{Order}
+use Rattle.mc_text.specs.declared.text.addr.Order.{Order}
 use Rattle.mc_topology.specs.declared.interfaces.InterfaceKey.{InterfaceKey}
 use Rattle.mc_topology.specs.Interfaces.{interface_row}
 use Rattle.mc_topology.specs.Rows.{RouterRow, router_row}

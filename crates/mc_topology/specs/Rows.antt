@@ -1,8 +1,8 @@
 -- What the rows of a topology's sections stand for.
 use Rattle.std.specs.Prelude.{◌≡◌, ℕ, Bool, true, false, List, refl, String, string_bytes}
 use Rattle.std.specs.Coded.{Coded, code_by, coded×, coded_bool, coded_ℕ, coded_list}
-use Rattle.mc_text.specs.declared.addr.Order.{Order}
-use Rattle.mc_text.specs.declared.addr.Order.TheVariants.{Little, Big}
+use Rattle.mc_text.specs.declared.text.addr.Order.{Order}
+use Rattle.mc_text.specs.declared.text.addr.Order.TheVariants.{Little, Big}
 
 -- a router's name and the byte order of its machine
 pub record RouterRow : Type 0 where

@@ -4,8 +4,8 @@ use Rattle.std.specs.Prelude.{Option, Some, None}
 use Rattle.toml.specs.Data.{Data, string, integer, array, table, Items, Members, get_member}
 use Rattle.toml.specs.Parse.{parse_document}
 use Rattle.mc_text.specs.Addr.{IsAddr, IsSource, IsForwardedGroup, dotted}
-use Rattle.mc_text.specs.declared.addr.Order.{Order}
-use Rattle.mc_text.specs.declared.addr.Order.TheVariants.{Little, Big}
+use Rattle.mc_text.specs.declared.text.addr.Order.{Order}
+use Rattle.mc_text.specs.declared.text.addr.Order.TheVariants.{Little, Big}
 use Rattle.mc_topology.specs.declared.flow.Flow.{Flow}
 use Rattle.mc_topology.specs.Rows.{RouterRow, InterfaceRow, SourceRow}
 use Rattle.mc_topology.specs.Document.{has_only, rows_in}

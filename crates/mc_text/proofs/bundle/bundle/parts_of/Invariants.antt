@@ -1,0 +1,15 @@
+use Rattle.std.proofs.Common.{◌≡◌, ◌-◌}
+use Rattle.mc_text.specs.Bundle.{max_bundle, max_parts}
+use Rattle.mc_text.specs.BundleReading.{parts_from}
+use Rattle.mc_text.specs.PartView.{part_texts}
+use Rattle.mc_text.specs.PlaceView.{place_text}
+use Rattle.mc_text.proofs.StepLemmas.{with_front}
+use Rattle.mc_text.proofs.BundleLaws.{parts_at}
+use Rattle.mc_text.proofs.bundle.bundle.parts_of.Given as goal
+
+abbrev pub invariant-places : goal.invariant-places
+invariant-places l = with_front (part_texts l.parts.items) (parts_at (place_text l.place))
+    ≡ parts_from max_parts (max_bundle - 17) l.text
+
+abbrev pub decreases-places : goal.decreases-places
+decreases-places l = l.place.parts

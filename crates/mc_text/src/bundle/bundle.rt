@@ -1,0 +1,205 @@
+//! Reading a bundle.
+
+ghost use Rattle.std.specs.Prelude.{◌≡◌, ◌≢◌, ◌-◌, ◌<◌, ◌≤◌, List, length, min, IfOk, Ok, Err};
+ghost use Rattle.std.specs.Prelude.{Some, slice_get, option_map, None};
+ghost use Rattle.mc_text.specs.Bundle.{PartText, IsBundle, max_bundle, max_parts};
+ghost use Rattle.mc_text.specs.BundleReading.{Gives, part_bytes_at as part_bytes_of, part_place};
+ghost use Rattle.mc_text.specs.BundleReading.{end_place, place_of, parts_from, bundle_of};
+ghost use Rattle.mc_text.specs.PartView.{part_text, part_texts};
+ghost use Rattle.mc_text.specs.PlaceView.{place_text, found_text};
+
+use crate::bundle::bundle_fault::BundleFault;
+use crate::bundle::part::Part;
+use crate::bundle::part_line::{line_at, part_said};
+use crate::bundle::part_name::PartName;
+use std::alloc::Global;
+use std::marker::Model;
+
+/// The first line of a bundle.
+pub(crate) const MAGIC: &[u8] = b"mcaudit bundle 1\n";
+
+/// The last line of a bundle.
+pub(crate) const END_LINE: &[u8] = b"end\n";
+
+/// The greatest length of a part, in bytes.
+pub(crate) const MAX_PART: usize = 16_777_216;
+
+/// The greatest length of a bundle, in bytes.
+pub(crate) const MAX_BUNDLE: usize = 268_435_456;
+
+/// The greatest number of parts.
+pub(crate) const MAX_PARTS: usize = 1_538;
+
+/// Where reading stands: how many parts and how many bytes may still come, and the bytes that do.
+#[derive(Clone, Copy)]
+struct Place<'a> {
+    parts: usize,
+    room: usize,
+    rest: &'a [u8],
+}
+
+/// The bytes of a part, and those after its line feed.
+#[tactic(auto, unfolding(crate::specs::BundleReading::part_bytes_at))]
+fn part_bytes_at(size: usize, rest: &[u8]) -> Result<(&[u8], &[u8]), BundleFault>
+    ensures { Gives (λ x. (x.0.now, x.1.now)) result (part_bytes_of size rest.now) }
+{
+    if rest.len() <= size {
+        return Err(BundleFault::Truncated);
+    }
+    if rest[size] != b'\n' {
+        return Err(BundleFault::BadPartLine);
+    }
+    Ok((&rest[..size], &rest[size + 1..]))
+}
+
+/// The part whose line was read, and the place after it.
+fn part_at<'a>(
+    place: &Place<'a>,
+    line: &[u8],
+    after: &'a [u8],
+    name: PartName,
+    size: u64,
+) -> Result<Option<(Part<'a>, Place<'a>)>, BundleFault>
+    ensures { Gives (option_map found_text) result
+        (part_place (place_text place.now) line.now after.now (Some (name, size))) }
+{
+    if place.parts == 0 || size > MAX_PART as u64 {
+        return Err(BundleFault::TooLarge);
+    }
+    let size = size as usize;
+    let room = line.len() + 1 + (size + 1);
+    if place.room < room {
+        return Err(BundleFault::TooLarge);
+    }
+    let (bytes, rest) = part_bytes_at(size, after)?;
+    let next = Place {
+        parts: place.parts - 1,
+        room: place.room - room,
+        rest,
+    };
+    Ok(Some((Part { name, bytes }, next)))
+}
+
+/// Nothing may follow the line `end`.
+fn end_at(place: &Place<'_>, after: &[u8]) -> Result<(), BundleFault>
+    ensures { Gives (λ _. None) result (end_place (place_text place.now) after.now) }
+{
+    if place.room < END_LINE.len() {
+        return Err(BundleFault::TooLarge);
+    }
+    if !after.is_empty() {
+        return Err(BundleFault::AfterEnd);
+    }
+    Ok(())
+}
+
+/// The part at a place and the place after it, or nothing at the end.
+#[tactic(auto, unfolding(crate::specs::BundleReading::place_of))]
+fn place_at<'a>(place: &Place<'a>) -> Result<Option<(Part<'a>, Place<'a>)>, BundleFault>
+    ensures { Gives (option_map found_text) result (place_of (place_text place.now)) }
+{
+    let (line, after) = line_at(place.rest)?;
+    if line == b"end".as_slice() {
+        end_at(place, after)?;
+        return Ok(None);
+    }
+    match part_said(line) {
+        None => Err(BundleFault::BadPartLine),
+        Some((name, size)) => part_at(place, line, after, name, size),
+    }
+}
+
+/// The parts from a text's first part line on.
+fn parts_of(alloc: Global, text: &[u8]) -> Result<Vec<Part<'_>>, BundleFault>
+    ensures { Gives (λ parts. part_texts parts.items) result
+        (parts_from max_parts (max_bundle - 17) text.now) }
+{
+    let mut parts = Vec::new(alloc);
+    let mut place = Place {
+        parts: MAX_PARTS,
+        room: MAX_BUNDLE - MAGIC.len(),
+        rest: text,
+    };
+    'places: loop {
+        match place_at(&place) {
+            Ok(Some((part, next))) => {
+                if parts.push(part).is_err() {
+                    return Err(BundleFault::Memory);
+                }
+                place = next;
+            }
+            Ok(None) => return Ok(parts),
+            Err(fault) => return Err(fault),
+        }
+    }
+}
+
+/// A bundle that was read: its parts, which lie in the text that it was read from.
+#[derive(Debug, Drop)]
+pub struct Bundle<'a> {
+    parts: Vec<Part<'a>>,
+}
+
+impl<'a> Model for Bundle<'a> {
+    ghost use Rattle.std.specs.Prelude.{List};
+    ghost use Rattle.mc_text.specs.Bundle.{PartText};
+    ghost use Rattle.mc_text.specs.PartView.{part_texts};
+
+    ghost Value = { List PartText };
+
+    ghost view = { λ b. part_texts b.parts.items };
+}
+
+impl<'a> Bundle<'a> {
+    /// Reads a bundle: at most 1,538 parts of at most 16,777,216 bytes, and 268,435,456 bytes in
+    /// all.
+    ///
+    /// The first line is `mcaudit bundle 1`. A part is a line `part`, its name and its length, the
+    /// bytes, and a line feed. The line `end` stands last.
+    ///
+    /// # Errors
+    ///
+    /// The first fault from the front, or `Memory`.
+    pub fn read(alloc: Global, text: &'a [u8]) -> Result<Bundle<'a>, BundleFault>
+        // What is read stands there.
+        ensures found { IfOk result (IsBundle text.now) }
+        // A bundle of these parts is read as them, unless memory runs out.
+        ensures only { (parts : List PartText) → IsBundle text.now parts
+            → result ≢ Err BundleFault.Memory → result ≡ Ok parts }
+        // Else the fault is the first one from the front, unless memory runs out.
+        ensures fault { result ≢ Err BundleFault.Memory → result ≡ bundle_of text.now }
+    {
+        Bundle::from_text(alloc, text)
+    }
+
+    /// The same, with all three said at once.
+    #[tactic(auto, unfolding(crate::specs::BundleReading::bundle_of))]
+    fn from_text(alloc: Global, text: &'a [u8]) -> Result<Bundle<'a>, BundleFault>
+        ensures { Gives (λ bundle. bundle) result (bundle_of text.now) }
+    {
+        let Some(rest) = text.strip_prefix(MAGIC) else {
+            return Err(BundleFault::NoMagic);
+        };
+        let parts = parts_of(alloc, rest)?;
+        Ok(Bundle { parts })
+    }
+
+    /// How many parts it has.
+    pub fn count(&self) -> usize
+        ensures { result ≡ length self.now }
+    {
+        self.parts.len()
+    }
+
+    /// The part at a place, which is counted from 0 and below `count`.
+    pub fn part(&self, place: usize) -> Part<'a>
+        requires { place < length self.now }
+        ensures { slice_get self.now place ≡ Some (part_text result) }
+    {
+        let part = &self.parts[place];
+        Part {
+            name: part.name,
+            bytes: part.bytes,
+        }
+    }
+}

@@ -1,0 +1,12 @@
+//! A part of a bundle.
+
+use crate::bundle::part_name::PartName;
+
+/// A part: its name, and its bytes where they lie.
+#[derive(Clone, Copy, Debug, PartialEq, Eq)]
+pub struct Part<'a> {
+    /// Its name.
+    pub name: PartName,
+    /// Its bytes.
+    pub bytes: &'a [u8],
+}

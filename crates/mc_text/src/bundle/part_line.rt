@@ -1,0 +1,78 @@
+//! The lines of a bundle: `end`, and `part`, a name and a length.
+
+ghost use Rattle.std.specs.Prelude.{◌≡◌, min, true, option_map};
+ghost use Rattle.std.specs.Char.{is_ascii_digit};
+ghost use Rattle.std.specs.List.{list_all};
+ghost use Rattle.std.specs.Str.Parse.{digits_value};
+ghost use Rattle.mc_text.specs.BundleReading.{Gives, line_at as line_of};
+ghost use Rattle.mc_text.specs.BundleReading.{is_length as is_length_word, part_said as said_by};
+ghost use Rattle.mc_text.specs.BundleReading.{words_said as said_by_words};
+ghost use Rattle.mc_text.specs.Number.{is_decimal};
+
+use crate::bundle::bundle_fault::BundleFault;
+use crate::bundle::part_name::PartName;
+use crate::text::{decimal, first_place_of};
+
+/// The greatest length of a line with its line feed, in bytes.
+const MAX_LINE: usize = 96;
+
+/// The line at the front, and the bytes after its line feed.
+#[tactic(auto, unfolding(crate::specs::BundleReading::line_at))]
+pub(crate) fn line_at(rest: &[u8]) -> Result<(&[u8], &[u8]), BundleFault>
+    ensures { Gives (λ x. (x.0.now, x.1.now)) result (line_of rest.now) }
+{
+    let front = &rest[..rest.len().min(MAX_LINE)];
+    match first_place_of(b'\n', front) {
+        Some(end) => Ok((&rest[..end], &rest[end + 1..])),
+        None if rest.len() < MAX_LINE => Err(BundleFault::NoEnd),
+        None => Err(BundleFault::BadPartLine),
+    }
+}
+
+/// The name and the length that a part line says. A length of more than 64 bits is told as the
+/// greatest one of 64.
+#[tactic(auto, unfolding(crate::specs::BundleReading::part_said))]
+pub(crate) fn part_said(line: &[u8]) -> Option<(PartName, u64)>
+    ensures { result ≡ option_map (λ said. (said.0, min said.1 u64.MAX)) (said_by line.now) }
+{
+    let words = line.strip_prefix(b"part ")?;
+    words_said(words)
+}
+
+/// The same of a line without its `part `.
+fn words_said(words: &[u8]) -> Option<(PartName, u64)>
+    ensures { result ≡ option_map (λ said. (said.0, min said.1 u64.MAX)) (said_by_words words.now) }
+{
+    let space = first_place_of(b' ', words)?;
+    let name = PartName::new(&words[..space])?;
+    let number = &words[space + 1..];
+    if !is_length(number) {
+        return None;
+    }
+    Some((name, length_of(number)))
+}
+
+/// Whether the word is decimal digits without a needless leading zero.
+fn is_length(word: &[u8]) -> bool
+    ensures { result ≡ is_length_word word.now }
+{
+    if word.is_empty() || word.len() > 1 && word[0] == b'0' {
+        return false;
+    }
+    are_digits(word)
+}
+
+fn are_digits(word: &[u8]) -> bool
+    ensures { result ≡ list_all is_ascii_digit word.now }
+{
+    word.iter().all(|byte| byte.is_ascii_digit())
+}
+
+/// The number that the digits write, or the greatest one of 64 bits.
+#[tactic(auto, using(crate::proofs::NumberReading::number_or_greatest))]
+fn length_of(digits: &[u8]) -> u64
+    requires { is_decimal digits.now ≡ true }
+    ensures { result ≡ min (digits_value 10 digits.now) u64.MAX }
+{
+    decimal(digits, u64::MAX).unwrap_or(u64::MAX)
+}

@@ -1,0 +1,16 @@
+//! The devices that bytes come from and go to, and reading and writing whole texts.
+
+mod device;
+mod faulty;
+mod from_reader;
+mod input_bytes;
+mod output_bytes;
+mod to_writer;
+
+pub use device::{DeviceFault, Input, Output};
+pub use faulty::{FaultyInput, FaultyOutput, Stop};
+pub use from_reader::FromReader;
+pub use input_bytes::{ReadFault, read_to_limit};
+pub use output_bytes::write_all;
+pub(crate) use output_bytes::write_pieces;
+pub use to_writer::ToWriter;

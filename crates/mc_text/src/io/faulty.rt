@@ -1,0 +1,145 @@
+//! Devices that give and take little, or fail on the way: for the tests of whoever reads and
+//! writes.
+
+ghost use Rattle.std.specs.Prelude.{◌≡◌, [], Some};
+
+use crate::io::device::{DeviceFault, Input, Output};
+use std::alloc::Global;
+use std::marker::Model;
+
+/// An input in memory that gives few bytes at a time, and fails on the way.
+#[derive(Debug, Drop)]
+pub struct FaultyInput<'a> {
+    bytes: &'a [u8],
+    piece: usize,
+    before_fault: usize,
+    failures: u64,
+}
+
+impl<'a> Model for FaultyInput<'a> {
+    ghost use Rattle.std.specs.Prelude.{Some};
+    ghost use Rattle.mc_text.specs.DeviceState.{InputState};
+
+    ghost Value = { InputState };
+
+    ghost view = { λ s. record { told = Some s.bytes.now; failed = s.failures } };
+}
+
+impl<'a> FaultyInput<'a> {
+    /// Gives at most `piece` of the bytes at a time, but always one, and fails once it gave
+    /// `before_fault` in all.
+    pub fn new(bytes: &'a [u8], piece: usize, before_fault: usize) -> FaultyInput<'a>
+        ensures { result ≡ record { told = Some bytes.now; failed = 0 } }
+    {
+        FaultyInput {
+            bytes,
+            piece,
+            before_fault,
+            failures: 0,
+        }
+    }
+}
+
+impl<'a> Input for FaultyInput<'a> {
+    ghost told = { λ s. s.told };
+
+    ghost failed = { λ s. s.failed };
+
+    fn read(&mut self, buffer: &mut [u8]) -> Result<usize, DeviceFault> {
+        if self.before_fault == 0 {
+            self.failures += 1;
+            return Err(DeviceFault);
+        }
+        let count = buffer
+            .len()
+            .min(self.bytes.len())
+            .min(self.piece.max(1))
+            .min(self.before_fault);
+        let (front, rest) = self.bytes.split_at(count);
+        buffer[..count].copy_from_slice(front);
+        self.bytes = rest;
+        self.before_fault -= count;
+        Ok(count)
+    }
+
+    fn failures(&self) -> u64 {
+        self.failures
+    }
+}
+
+/// How an output that takes no more says so.
+#[derive(Clone, Copy, Debug, PartialEq, Eq)]
+pub enum Stop {
+    /// By an error.
+    Error,
+    /// By taking no byte.
+    TakesNone,
+}
+
+/// An output into memory that takes few bytes at a time, and none on the way.
+#[derive(Debug, Drop)]
+pub struct FaultyOutput {
+    taken: Vec<u8>,
+    piece: usize,
+    before_stop: usize,
+    stop: Stop,
+    failures: u64,
+}
+
+impl Model for FaultyOutput {
+    ghost use Rattle.std.specs.Prelude.{Some};
+    ghost use Rattle.mc_text.specs.DeviceState.{OutputState};
+
+    ghost Value = { OutputState };
+
+    ghost view = { λ s. record { took = Some s.taken.items; failed = s.failures } };
+}
+
+impl FaultyOutput {
+    /// Takes at most `piece` bytes at a time, and stops once it took `before_stop` in all.
+    pub fn new(alloc: Global, piece: usize, before_stop: usize, stop: Stop) -> FaultyOutput
+        ensures { result ≡ record { took = Some []; failed = 0 } }
+    {
+        FaultyOutput {
+            taken: Vec::new(alloc),
+            piece,
+            before_stop,
+            stop,
+            failures: 0,
+        }
+    }
+
+    /// What it took.
+    pub fn taken(&self) -> &[u8]
+        ensures { self.now.took ≡ Some result.now }
+    {
+        &self.taken
+    }
+}
+
+impl Output for FaultyOutput {
+    ghost took = { λ s. s.took };
+
+    ghost failed = { λ s. s.failed };
+
+    fn write(&mut self, text: &[u8]) -> Result<usize, DeviceFault> {
+        let count = text.len().min(self.piece).min(self.before_stop);
+        if count == 0 && !text.is_empty() {
+            self.failures += 1;
+            return match self.stop {
+                Stop::Error => Err(DeviceFault),
+                Stop::TakesNone => Ok(0),
+            };
+        }
+        if self.taken.extend_from_slice(&text[..count]).is_err() {
+            self.failures += 1;
+            return Err(DeviceFault);
+        }
+        self.before_stop -= count;
+        Ok(count)
+    }
+
+    fn failures(&self) -> u64 {
+        self.failures
+    }
+}

@@ -1,0 +1,66 @@
+//! Inputs over the readers of std. Standard input tells no bytes; a reader of what lies in memory
+//! does.
+
+ghost use Rattle.std.specs.Prelude.{◌≡◌};
+
+use crate::io::device::{DeviceFault, Input};
+use std::io::Read;
+use std::marker::Model;
+
+/// An input over a reader. Every error of the reader is a failure, also an interrupted call.
+#[derive(Debug, Drop)]
+pub struct FromReader<R: Read> {
+    reader: R,
+    failures: u64,
+}
+
+impl<R: Read> Model for FromReader<R> {
+    ghost use Rattle.mc_text.specs.DeviceState.{InputState};
+
+    ghost Value = { InputState };
+
+    ghost view = { λ s. record { told = R.remaining s.reader; failed = s.failures } };
+}
+
+impl<R: Read> FromReader<R> {
+    /// An input over the reader, with no failure yet.
+    pub fn new(reader: R) -> FromReader<R>
+        ensures { result ≡ record { told = R.remaining reader; failed = 0 } }
+    {
+        FromReader {
+            reader,
+            failures: 0,
+        }
+    }
+
+    /// The reader, which has the bytes that were not yet read.
+    pub fn into_inner(self) -> R
+        ensures { R.remaining result ≡ self.told }
+    {
+        let FromReader {
+            reader,
+            failures: _,
+        } = self;
+        reader
+    }
+}
+
+impl<R: Read> Input for FromReader<R> {
+    ghost told = { λ s. s.told };
+
+    ghost failed = { λ s. s.failed };
+
+    fn read(&mut self, buffer: &mut [u8]) -> Result<usize, DeviceFault> {
+        match self.reader.read(buffer) {
+            Ok(count) => Ok(count),
+            Err(_) => {
+                self.failures += 1;
+                Err(DeviceFault)
+            }
+        }
+    }
+
+    fn failures(&self) -> u64 {
+        self.failures
+    }
+}

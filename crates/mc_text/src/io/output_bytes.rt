@@ -1,0 +1,48 @@
+//! Writing a whole text.
+
+ghost use Rattle.std.specs.Prelude.{◌≡◌, ◌<◌, flat_map, OnOk, OnErr};
+ghost use Rattle.std.specs.Io.KnownBytes.{Appends};
+ghost use Rattle.mc_text.specs.Device.{counted, is_failure, AppendsPart};
+
+use crate::io::device::{DeviceFault, Output};
+
+/// Writes the whole text, by as many calls of `write` as it takes. The output's count of failures
+/// has to be below `u64::MAX`.
+///
+/// # Errors
+///
+/// At the first call of `write` that answers an error or takes no byte. A proper part of the text
+/// was taken then, from its front.
+pub fn write_all<W: Output>(output: &mut W, text: &[u8]) -> Result<(), DeviceFault>
+    requires { W.failed output.old < u64.MAX }
+    ensures same { W.names output.new ≡ W.names output.old }
+    ensures ok { OnOk result (Appends (W.took output.old) (W.took output.new) text.now) }
+    ensures err { OnErr result (AppendsPart (W.took output.old) (W.took output.new) text.now) }
+    ensures failures { W.failed output.new ≡ counted is_failure result (W.failed output.old) }
+{
+    let mut taken = 0;
+    while taken < text.len() {
+        match output.write(&text[taken..]) {
+            Ok(0) => return Err(DeviceFault),
+            Ok(count) => taken += count,
+            Err(fault) => return Err(fault),
+        }
+    }
+    Ok(())
+}
+
+/// Writes the pieces one after the other.
+pub(crate) fn write_pieces<W: Output>(output: &mut W, pieces: &[&[u8]]) -> Result<(), DeviceFault>
+    requires { W.failed output.old < u64.MAX }
+    ensures same { W.names output.new ≡ W.names output.old }
+    ensures ok { OnOk result (Appends
+        (W.took output.old) (W.took output.new) (flat_map (λ piece. piece.now) pieces.now)) }
+    ensures err { OnErr result (AppendsPart
+        (W.took output.old) (W.took output.new) (flat_map (λ piece. piece.now) pieces.now)) }
+    ensures failures { W.failed output.new ≡ counted is_failure result (W.failed output.old) }
+{
+    for piece in pieces {
+        write_all(output, piece)?;
+    }
+    Ok(())
+}

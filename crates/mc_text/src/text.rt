@@ -1,0 +1,17 @@
+//! Texts as operators and kernels write them: addresses, lines, words, numbers, and the names of
+//! network devices.
+
+mod addr;
+mod address_digits;
+mod device_name;
+mod first_place;
+mod lines;
+mod number;
+mod words;
+
+pub use addr::{Addr, Order};
+pub use device_name::is_device_name;
+pub use first_place::first_place_of;
+pub use lines::{Line, Lines, MAX_TEXT};
+pub use number::decimal;
+pub use words::Words;

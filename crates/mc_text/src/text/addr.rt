@@ -1,0 +1,145 @@
+//! IPv4 addresses, as people write them and as a kernel's tables show them.
+
+ghost use Rattle.std.specs.Prelude.{◌≡◌, ℕ, ◌<◌, ◌^◌, ◌==◌, ◌↔◌, IsTrue, IfSome, Some};
+ghost use Rattle.std.specs.Int.{w32, from_be_bytes};
+ghost use Rattle.mc_text.specs.Addr.{IsAddr, IsForwardedGroup, IsSource, is_forwarded_group};
+ghost use Rattle.mc_text.specs.Addr.{is_source, octets_of, dotted};
+ghost use Rattle.mc_text.specs.AddressReading.{address_of_text, address_of_word};
+ghost use Rattle.mc_text.specs.AddressWord.{IsAddressWord};
+
+use crate::text::address_digits::four_bytes;
+use std::fmt;
+use std::marker::Model;
+use std::net::Ipv4Addr;
+
+/// An IPv4 address. Addresses are ordered by their four octets, the first octet first.
+#[derive(Clone, Copy, Debug, PartialEq, Eq, PartialOrd, Ord, Hash)]
+pub struct Addr {
+    bits: u32,
+}
+
+impl Model for Addr {
+    ghost Value = { ℕ };
+
+    ghost view = { λ a. a.bits };
+
+    ghost inverse = { λ n. record { bits = n } };
+}
+
+/// The byte order of a router's machine.
+#[derive(Clone, Copy, Debug, PartialEq, Eq)]
+pub enum Order {
+    /// The least significant byte first, as on x86-64 and most ARM machines.
+    Little,
+    /// The most significant byte first.
+    Big,
+}
+
+/// The address that a dotted text writes.
+fn address_written(text: &[u8]) -> Option<Addr>
+    ensures found { IfSome result (λ a. text.now ≡ dotted a) }
+    ensures in_range { IfSome result IsAddr }
+    ensures only { (a : ℕ) → IsAddr a → text.now ≡ dotted a → result ≡ Some a }
+{
+    let parsed = Ipv4Addr::parse_ascii(text).ok()?;
+    Some(Addr {
+        bits: parsed.to_bits(),
+    })
+}
+
+/// The address that a kernel's word shows.
+fn address_shown(word: &[u8], order: Order) -> Option<Addr>
+    ensures found { IfSome result (λ a. IsAddressWord order word.now a) }
+    ensures in_range { IfSome result IsAddr }
+    ensures only { (a : ℕ) → IsAddr a → IsAddressWord order word.now a → result ≡ Some a }
+{
+    let bytes = four_bytes(word)?;
+    Some(match order {
+        Order::Big => Addr::from_octets(bytes),
+        Order::Little => {
+            let [first, second, third, fourth] = bytes;
+            Addr::from_octets([fourth, third, second, first])
+        }
+    })
+}
+
+impl Addr {
+    /// Reads four decimal numbers from 0 to 255 without leading zeros, with dots between them.
+    pub fn parse_dotted(text: &[u8]) -> Option<Addr>
+        // What is read is written so.
+        ensures found { IfSome result (λ a. text.now ≡ dotted a) }
+        ensures in_range { IfSome result IsAddr }
+        // What is written so is read.
+        ensures only { (a : ℕ) → IsAddr a → text.now ≡ dotted a → result ≡ Some a }
+        ensures value { result ≡ address_of_text text.now }
+    {
+        address_written(text)
+    }
+
+    /// Reads an address word of `/proc/net/ip_mr_vif` and `/proc/net/ip_mr_cache`: eight
+    /// hexadecimal digits of either case, which the kernel prints of the four network-order bytes
+    /// taken as one number of its machine (`%08X` in net/ipv4/ipmr.c).
+    pub fn from_hex_word(word: &[u8], order: Order) -> Option<Addr>
+        ensures found { IfSome result (λ a. IsAddressWord order word.now a) }
+        ensures in_range { IfSome result IsAddr }
+        ensures only { (a : ℕ) → IsAddr a → IsAddressWord order word.now a → result ≡ Some a }
+        ensures value { result ≡ address_of_word order word.now }
+    {
+        address_shown(word, order)
+    }
+
+    /// The address with these octets, of which the first is the most significant.
+    pub fn from_octets(octets: [u8; 4]) -> Addr
+        ensures value { result ≡ from_be_bytes w32 octets }
+        ensures octets { octets_of result ≡ octets }
+        ensures in_range { IsAddr result }
+    {
+        Addr {
+            bits: u32::from_be_bytes(octets),
+        }
+    }
+
+    /// Whether routers forward this group: 224.0.1.0 to 239.255.255.255. The groups 224.0.0.0 to
+    /// 224.0.0.255 before them stay on their LAN (RFC 5771, section 4).
+    pub fn is_forwarded_group(self) -> bool
+        ensures means { IsTrue result ↔ IsForwardedGroup self }
+        ensures value { result ≡ is_forwarded_group self }
+    {
+        (0xE000_0100..=0xEFFF_FFFF).contains(&self.bits)
+    }
+
+    /// Whether a host may send from this address: its first octet is 1 to 223, and not 127
+    /// (RFC 1122, section 3.2.1.3).
+    pub fn is_source(self) -> bool
+        ensures means { IsTrue result ↔ IsSource self }
+        ensures value { result ≡ is_source self }
+    {
+        let first = self.bits >> 24;
+        (1..=223).contains(&first) && first != 127
+    }
+
+    /// Whether it is 0.0.0.0, which stands for no address.
+    pub fn is_unspecified(self) -> bool
+        ensures { result ≡ (self == 0) }
+    {
+        self.bits == 0
+    }
+
+    /// The four octets, the most significant first: each is 0 to 255.
+    pub fn octets(self) -> [u8; 4]
+        ensures octets { result ≡ octets_of self }
+        // Every address in hand is a number of 32 bits.
+        ensures in_range { IsAddr self }
+    {
+        self.bits.to_be_bytes()
+    }
+}
+
+impl fmt::Display for Addr {
+    ghost output = { λ a. Some (dotted a) };
+
+    fn fmt<W: fmt::Write>(&self, f: &mut fmt::Formatter<W>) -> fmt::Result {
+        let address = Ipv4Addr::from_bits(self.bits);
+        write!(f, "{address}")
+    }
+}

@@ -8,6 +8,7 @@ use Rattle.mc_cert.specs.declared.fault.CertFaultKind.TheVariants.{Memory}
 use Rattle.mc_cert.specs.declared.fault.CertFault.{CertFault}
 use Rattle.mc_text.specs.Steps as Steps
 use Rattle.mc_topology.specs.Answer.{◌>>=◌}
+use Rattle.std.specs.Prelude.{codes, decimal}
 
 -- the fault of a step at this place
 abbrev pub place : {A : Type 0} → At → Result A CertFaultKind → Result A CertFault
@@ -39,3 +40,11 @@ unfoldable pub each : {D X : Type 0} → (ℕ → D → Result X CertFault) → 
     → Result (List X) CertFault
 each one earlier [] = Ok earlier
 each one earlier (d ∷ ds) = one (length earlier) d >>= λ x. each one (earlier ++ x ∷ []) ds
+
+-- how a refusal writes where it is
+abbrev pub place_text : At → List ℕ
+place_text Top = codes "top"
+place_text (Flow f) = codes "flow " ++ decimal f
+place_text (FlowEntry f e) = codes "flow " ++ decimal f ++ codes " entry " ++ decimal e
+place_text (Tree t) = codes "tree " ++ decimal t
+place_text (TreeEntry t e) = codes "tree " ++ decimal t ++ codes " entry " ++ decimal e

@@ -2,7 +2,7 @@
 
 ghost use Rattle.std.specs.Prelude.{◌≡◌, Some};
 ghost use Rattle.mc_cert.specs.Answer.{entry_place, out_of_memory};
-ghost use Rattle.mc_cert.specs.PlaceText.{place_text};
+ghost use Rattle.mc_cert.specs.Answer.{place_text};
 
 use std::alloc::{AllocError, AllocFailed};
 use std::fmt;

@@ -3,7 +3,7 @@ use Rattle.std.proofs.Common.{◌≡◌, ℕ, Bool, List, ◌⊎◌, inl, inr, O
 use Rattle.std.proofs.Common.{Err, refl, ap, sym, subst}
 use Rattle.std.specs.Prelude.{IfErr, IfOk, IfSome, OnOk}
 use Rattle.mc_text.specs.Bundle.{PartText, AreWithinLimits, bundle_spelling}
-use Rattle.mc_text.specs.BundleWriting.{AppendsBundle}
+use Rattle.mc_text.specs.Bundle.{AppendsBundle}
 use Rattle.mc_text.specs.Device.{AppendsPart}
 use Rattle.mc_text.specs.Steps.{Gives}
 use Rattle.mc_files.specs.Files.{FileText, GivesOf}

@@ -1,7 +1,7 @@
 -- What packing answers and writes, and what it does to its devices.
 use Rattle.std.specs.Prelude.{◌≡◌, ℕ, Bool, true, false, List, Option, Result, Ok, Err, ⊤}
 use Rattle.mc_text.specs.Bundle.{PartText, bundle_spelling}
-use Rattle.mc_text.specs.BundleWriting.{AppendsBundle}
+use Rattle.mc_text.specs.Bundle.{AppendsBundle}
 use Rattle.mc_text.specs.Device.{AppendsPart}
 use Rattle.mc_files.specs.Files.{FileText}
 use Rattle.mc_files.specs.Packing.{IsPacked}

@@ -2,7 +2,7 @@
 
 ghost use Rattle.std.specs.Prelude.{◌≡◌, ◌<◌};
 ghost use Rattle.mc_text.specs.Device.{counted};
-ghost use Rattle.mc_text.specs.PartView.{part_text};
+ghost use Rattle.mc_text.specs.BundleView.{part_text};
 ghost use Rattle.mc_files.specs.FilePart.{IsOfSource, file_part};
 ghost use Rattle.mc_files.specs.Files.{GivesOf, is_failure};
 

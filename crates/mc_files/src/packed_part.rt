@@ -2,7 +2,7 @@
 
 ghost use Rattle.std.specs.Prelude.{◌≡◌, ◌≢◌, ◌<◌, [], ◌∷◌, IfErr, IfOk};
 ghost use Rattle.mc_text.specs.Device.{counted};
-ghost use Rattle.mc_text.specs.PartView.{part_texts};
+ghost use Rattle.mc_text.specs.BundleView.{part_texts};
 ghost use Rattle.mc_text.specs.Steps.{Gives};
 ghost use Rattle.mc_files.specs.Files.{GivesOf};
 ghost use Rattle.mc_files.specs.Layout.{other_slots};

@@ -2,9 +2,9 @@
 
 ghost use Rattle.std.specs.Prelude.{◌≡◌, ◌≢◌, ◌<◌, ◌⊎◌, List, OnOk, Some, IfErr, IfOk, IfSome, Err};
 ghost use Rattle.mc_text.specs.Bundle.{AreWithinLimits, PartText, bundle_spelling};
-ghost use Rattle.mc_text.specs.BundleWriting.{AppendsBundle};
+ghost use Rattle.mc_text.specs.Bundle.{AppendsBundle};
 ghost use Rattle.mc_text.specs.Device.{AppendsPart, counted};
-ghost use Rattle.mc_text.specs.PartView.{part_texts};
+ghost use Rattle.mc_text.specs.BundleView.{part_texts};
 ghost use Rattle.mc_files.specs.Files.{FileText};
 ghost use Rattle.mc_files.specs.Packing.{IsPacked};
 ghost use Rattle.mc_files.specs.PackRun.{Answers, SaysNothing, WritesPacked, WritesPartOfPacked};

@@ -1,6 +1,6 @@
 //! What one part of a domain tells, read by its own reader.
 
-ghost use Rattle.mc_text.specs.PartView.{part_text};
+ghost use Rattle.mc_text.specs.BundleView.{part_text};
 ghost use Rattle.mc_input.specs.InputReading.{Gives};
 ghost use Rattle.mc_input.specs.PartsReading.{cache_of, reports_of, topology_of, vifs_of};
 

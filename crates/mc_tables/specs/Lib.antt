@@ -19,5 +19,5 @@ pub use Rattle.mc_text.specs.DeviceName
 pub use Rattle.mc_text.specs.AddressWord
 pub use Rattle.mc_text.specs.Lines
 pub use Rattle.mc_text.specs.Number
-pub use Rattle.mc_text.specs.Words
+pub use Rattle.mc_text.specs.Lines
 pub use Rattle.mc_text.specs.Hex

@@ -4,7 +4,7 @@ use Rattle.std.specs.Prelude.{Option, Some, None, Result, Ok, Err, if◌then◌e
 use Rattle.std.specs.List.{list_any}
 use Rattle.std.specs.Str.{bytes_eq}
 use Rattle.mc_text.specs.Lines.{LineText, lines_of}
-use Rattle.mc_text.specs.Words.{words_of}
+use Rattle.mc_text.specs.Lines.{words_of}
 use Rattle.mc_tables.specs.declared.fault.TableFault.{TableFault}
 use Rattle.mc_tables.specs.declared.fault.TableFaultKind.TheVariants.{NoHeader, Unended, TooLarge}
 use Rattle.mc_text.specs.Steps.{◌>>=◌}

@@ -9,7 +9,7 @@ use Rattle.std.specs.Str.Parse.{digits_value}
 use Rattle.std.specs.Coded.{Coded, code_by, coded×, coded_list, coded_ℕ, coded_bool}
 use Rattle.std.specs.FinMap.{FinMap, from_entries}
 use Rattle.mc_text.specs.Lines.{LineText}
-use Rattle.mc_text.specs.Words.{words_of}
+use Rattle.mc_text.specs.Lines.{words_of}
 use Rattle.mc_text.specs.DeviceName.{is_device_name}
 use Rattle.mc_tables.specs.TableWords.{is_counter, is_hexadecimal, WritesNumber}
 use Rattle.mc_tables.specs.TableLines.{HasHeader, EachTells}

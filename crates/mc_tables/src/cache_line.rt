@@ -2,7 +2,7 @@
 
 ghost use Rattle.std.specs.Prelude.{◌≡◌, ◌≢◌, ◌<◌, length, IfSome, IfNone, None, Err};
 ghost use Rattle.std.specs.Option.{ok_or};
-ghost use Rattle.mc_text.specs.Words.{words_of};
+ghost use Rattle.mc_text.specs.Lines.{words_of};
 ghost use Rattle.mc_tables.specs.declared.fault.TableFaultKind.TheVariants.{Memory, BadAddress};
 ghost use Rattle.mc_tables.specs.TableWords.{address_in};
 ghost use Rattle.mc_tables.specs.CacheReading.{incoming_in, entry_in, row_in_words};

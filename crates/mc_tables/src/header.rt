@@ -4,7 +4,7 @@ ghost use Rattle.std.specs.Prelude.{◌≡◌};
 ghost use Rattle.mc_tables.specs.TableLines.{begins_with};
 ghost use Rattle.mc_tables.specs.LinesSoFar.{header_line};
 ghost use Rattle.mc_text.specs.LineView.{line_text};
-ghost use Rattle.mc_text.specs.Words.{words_of};
+ghost use Rattle.mc_text.specs.Lines.{words_of};
 
 use crate::fault::TableFaultKind;
 use mc_text::{Line, Words};

@@ -4,7 +4,7 @@ ghost use Rattle.std.specs.Prelude.{◌≡◌, ◌≢◌, ◌≤◌, length, IsT
 ghost use Rattle.std.specs.List.{list_all};
 ghost use Rattle.std.specs.Char.{is_ascii_hexdigit};
 ghost use Rattle.std.specs.Str.Parse.{digits_value};
-ghost use Rattle.mc_text.specs.Words.{words_of};
+ghost use Rattle.mc_text.specs.Lines.{words_of};
 ghost use Rattle.mc_tables.specs.declared.fault.TableFaultKind.TheVariants.{BadAddress};
 ghost use Rattle.mc_tables.specs.Steps.{demand};
 ghost use Rattle.mc_tables.specs.TableWords.{is_hexadecimal};

@@ -7,7 +7,7 @@ use Rattle.std.proofs.lemmas.List.Elements.{All-get_or}
 use Rattle.hex.specs.Hex.{is_hex_digit, pair_value, decode_pairs, decode_of}
 use Rattle.hex.proofs.HexLemmas.{decode_of-ok}
 use Rattle.mc_text.specs.declared.text.address_digits.TheConstants.{VALUES}
-use Rattle.mc_text.specs.AddressDigits.{value_or_16}
+use Rattle.mc_text.specs.AddressWord.{value_or_16}
 
 -- each value of a list is that of its place, counted from c
 abbrev tells : ℕ → List ℕ → Bool

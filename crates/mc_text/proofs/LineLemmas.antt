@@ -16,7 +16,7 @@ use Rattle.std.proofs.lemmas.List.Splits.{join_with_byte-slice_split}
 use Rattle.std.proofs.lemmas.List.Sums.{fails_before_first}
 use Rattle.mc_text.specs.Lines.{numbered, lines_from, lines_of, joined, HasNoLineFeed}
 use Rattle.mc_text.specs.Lines.{OnlyLastMayBeUnended}
-use Rattle.mc_text.specs.Words.{words_of}
+use Rattle.mc_text.specs.Lines.{words_of}
 
 -- a text with a byte is not empty
 nonempty : (text : List ℕ) → 0 < length text → eqb (length text) 0 ≡ false

@@ -14,7 +14,7 @@ use Rattle.std.proofs.lemmas.Result.{on_err_weaker}
 use Rattle.mc_text.specs.declared.bundle.part.Part.{Part}
 use Rattle.mc_text.specs.Bundle.{PartText, IsPartName, part_spelling, bundle_spelling, max_part}
 use Rattle.mc_text.specs.Device.{AppendsPart}
-use Rattle.mc_text.specs.PartView.{part_text, part_texts}
+use Rattle.mc_text.specs.BundleView.{part_text, part_texts}
 
 -- ---- a list's pieces
 

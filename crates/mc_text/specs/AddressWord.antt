@@ -6,6 +6,8 @@ use Rattle.hex.specs.Hex.{decode_of}
 use Rattle.mc_text.specs.declared.text.addr.Order.{Order}
 use Rattle.mc_text.specs.declared.text.addr.Order.TheVariants.{Little, Big}
 use Rattle.mc_text.specs.Addr.{octets_of}
+use Rattle.std.specs.Prelude.{unwrap_or}
+use Rattle.hex.specs.Hex.{hex_digit_value}
 
 -- the bytes as the digits have them from left to right: first to last on a big-endian machine, last
 -- to first on a little-endian one
@@ -16,3 +18,7 @@ printed_octets Little a = reverse (octets_of a)
 -- the word's pairs of hexadecimal digits are the address's octets in that order
 abbrev pub IsAddressWord : Order → List ℕ → ℕ → Type 0
 IsAddressWord order word a = decode_of word ≡ Ok (printed_octets order a)
+
+-- the value of a digit of either case, or 16
+abbrev pub value_or_16 : ℕ → ℕ
+value_or_16 c = unwrap_or (hex_digit_value c) 16

@@ -9,6 +9,10 @@ use Rattle.std.specs.Prelude.{◌≡◌, ℕ, ◌≤◌, ◌==◌, ◌||◌, Boo
 use Rattle.std.specs.Char.{is_ascii_alphanumeric}
 use Rattle.std.specs.Fmt.{decimal}
 use Rattle.std.specs.List.{AllByRecursion, AllPass, flat_map}
+use Rattle.std.specs.Prelude.{true, false, Option}
+use Rattle.std.specs.Io.KnownBytes.{Appends}
+use Rattle.mc_text.specs.declared.bundle.bundle_fault.BundleFault.{BundleFault}
+use Rattle.mc_text.specs.declared.bundle.bundle_fault.BundleFault.TheVariants as faults
 
 -- the greatest length of a part's name, in bytes
 abbrev pub max_name : ℕ
@@ -76,3 +80,12 @@ pub record IsBundle (text : List ℕ) (parts : List PartText) : Type 0 where
   pub names : AllByRecursion (λ part. IsPartName part.name) parts
   pub limits : AreWithinLimits parts
   pub spelled : text ≡ bundle_spelling parts
+
+-- whether the fault is a write that failed, as a bundle that is too large is not
+abbrev pub is_write : BundleFault → Bool
+is_write faults.Write = true
+is_write _ = false
+
+-- a bundle of these parts was written
+abbrev pub AppendsBundle : Option (List ℕ) → Option (List ℕ) → List PartText → Type 0
+AppendsBundle old new parts = (text : List ℕ) × IsBundle text parts × Appends old new text

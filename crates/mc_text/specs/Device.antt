@@ -1,8 +1,21 @@
--- What a call does to the number of a device's calls that failed.
+-- What contracts see of a device over a reader or a writer, and what a call does to the number of
+-- its calls that failed.
 use Rattle.std.specs.Prelude.{ℕ, ◌+◌, ◌<◌, ◌==◌, ◌&&◌, nat_lt, List, length, take, Option, Result}
 use Rattle.std.specs.Prelude.{Ok, Err, Bool, true, cond, if◌then◌else◌}
 use Rattle.std.specs.Io.KnownBytes.{Appends}
 use Rattle.mc_text.specs.declared.io.device.DeviceFault.{DeviceFault}
+
+pub record InputState : Type 0 where
+  -- the bytes that it still gives, where the reader tells them
+  pub told : Option (List ℕ)
+  -- how many calls failed
+  pub failed : ℕ
+
+pub record OutputState : Type 0 where
+  -- the bytes that it took, where the writer tells them
+  pub took : Option (List ℕ)
+  -- how many calls failed
+  pub failed : ℕ
 
 -- a read fails where it answers an error
 abbrev pub failed_by_read : Result ℕ DeviceFault → ℕ → ℕ

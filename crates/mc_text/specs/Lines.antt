@@ -1,7 +1,9 @@
--- The lines of a text: what stands between its line feeds, numbered from 1.
+-- The lines of a text: what stands between its line feeds, numbered from 1; and the words of a
+-- line.
 use Rattle.std.specs.Prelude.{◌≢◌, ℕ, ◌+◌, ◌<◌, ◌==◌, IsTrue, MatchBool, Bool, true, false, List}
 use Rattle.std.specs.Prelude.{[], ◌∷◌, ◌++◌, length, if◌then◌else◌}
 use Rattle.std.specs.List.{slice_split, flat_map, AllByRecursion}
+use Rattle.std.specs.Prelude.{not, filter}
 
 -- the greatest length of a text that is read as lines, in bytes
 abbrev pub max_text : ℕ
@@ -46,3 +48,7 @@ abbrev pub OnlyLastMayBeUnended : List LineText → Type 0
 OnlyLastMayBeUnended [] = Unit {0}
 OnlyLastMayBeUnended (line ∷ []) = MatchBool line.ended (Unit {0}) (0 < length line.bytes)
 OnlyLastMayBeUnended (line ∷ next ∷ more) = IsTrue line.ended × OnlyLastMayBeUnended (next ∷ more)
+
+-- The words of a line: the longest stretches without a space, in order.
+abbrev pub words_of : List ℕ → List (List ℕ)
+words_of line = filter (λ part. not (length part == 0)) (slice_split (λ b. b == 32) line)

@@ -2,7 +2,11 @@
 use Rattle.std.specs.Prelude.{◌≡◌, ℕ, ◌≤◌, List, length, take}
 use Rattle.mc_text.specs.declared.bundle.part_name.PartName.TheInside.{Inside}
 use Rattle.mc_text.specs.Bundle.{IsPartName, max_name}
-use Rattle.mc_text.specs.PaddedName.{padded}
+use Rattle.std.specs.Prelude.{◌-◌, ◌++◌, replicate}
+
+-- How the bytes of a name lie in memory: with zeros up to 64.
+abbrev pub padded : List ℕ → List ℕ
+padded name = name ++ replicate (max_name - length name) 0
 
 -- the bytes of the name
 abbrev pub name_of : Inside → List ℕ

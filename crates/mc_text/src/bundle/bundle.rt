@@ -5,8 +5,8 @@ ghost use Rattle.std.specs.Prelude.{Some, slice_get, option_map, None};
 ghost use Rattle.mc_text.specs.Bundle.{PartText, IsBundle, max_bundle, max_parts};
 ghost use Rattle.mc_text.specs.BundleReading.{Gives, part_bytes_at as part_bytes_of, part_place};
 ghost use Rattle.mc_text.specs.BundleReading.{end_place, place_of, parts_from, bundle_of};
-ghost use Rattle.mc_text.specs.PartView.{part_text, part_texts};
-ghost use Rattle.mc_text.specs.PlaceView.{place_text, found_text};
+ghost use Rattle.mc_text.specs.BundleView.{part_text, part_texts};
+ghost use Rattle.mc_text.specs.BundleView.{place_text, found_text};
 
 use crate::bundle::bundle_fault::BundleFault;
 use crate::bundle::part::Part;
@@ -143,7 +143,7 @@ pub struct Bundle<'a> {
 impl<'a> Model for Bundle<'a> {
     ghost use Rattle.std.specs.Prelude.{List};
     ghost use Rattle.mc_text.specs.Bundle.{PartText};
-    ghost use Rattle.mc_text.specs.PartView.{part_texts};
+    ghost use Rattle.mc_text.specs.BundleView.{part_texts};
 
     ghost Value = { List PartText };
 

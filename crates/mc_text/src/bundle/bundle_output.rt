@@ -6,9 +6,9 @@ ghost use Rattle.std.specs.Bool.{OnTrue, OnFalse};
 ghost use Rattle.std.specs.Io.KnownBytes.{Appends};
 ghost use Rattle.std.specs.List.{AllByRecursion};
 ghost use Rattle.mc_text.specs.Bundle.{IsPartName, part_spelling, bundle_spelling, AreWithinLimits};
-ghost use Rattle.mc_text.specs.BundleWriting.{is_write, AppendsBundle};
+ghost use Rattle.mc_text.specs.Bundle.{is_write, AppendsBundle};
 ghost use Rattle.mc_text.specs.Device.{counted, is_failure, AppendsPart};
-ghost use Rattle.mc_text.specs.PartView.{part_text, part_texts};
+ghost use Rattle.mc_text.specs.BundleView.{part_text, part_texts};
 
 use crate::bundle::bundle::{END_LINE, MAGIC, MAX_BUNDLE, MAX_PART, MAX_PARTS};
 use crate::bundle::bundle_fault::BundleFault;

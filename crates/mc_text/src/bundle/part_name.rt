@@ -4,7 +4,7 @@ ghost use Rattle.std.specs.Prelude.{◌≡◌, ◌≤◌, length, IfSome, Some};
 ghost use Rattle.std.specs.List.{list_all};
 ghost use Rattle.mc_text.specs.Bundle.{IsPartName, is_name_byte as is_byte_of_name};
 ghost use Rattle.mc_text.specs.BundleReading.{is_part_name as is_name};
-ghost use Rattle.mc_text.specs.PaddedName.{padded as with_zeros};
+ghost use Rattle.mc_text.specs.PartName.{padded as with_zeros};
 
 use std::marker::Model;
 use std::{fmt, str};

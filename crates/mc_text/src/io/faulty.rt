@@ -18,7 +18,7 @@ pub struct FaultyInput<'a> {
 
 impl<'a> Model for FaultyInput<'a> {
     ghost use Rattle.std.specs.Prelude.{Some};
-    ghost use Rattle.mc_text.specs.DeviceState.{InputState};
+    ghost use Rattle.mc_text.specs.Device.{InputState};
 
     ghost Value = { InputState };
 
@@ -88,7 +88,7 @@ pub struct FaultyOutput {
 
 impl Model for FaultyOutput {
     ghost use Rattle.std.specs.Prelude.{Some};
-    ghost use Rattle.mc_text.specs.DeviceState.{OutputState};
+    ghost use Rattle.mc_text.specs.Device.{OutputState};
 
     ghost Value = { OutputState };
 

@@ -15,7 +15,7 @@ pub struct FromReader<R: Read> {
 }
 
 impl<R: Read> Model for FromReader<R> {
-    ghost use Rattle.mc_text.specs.DeviceState.{InputState};
+    ghost use Rattle.mc_text.specs.Device.{InputState};
 
     ghost Value = { InputState };
 

@@ -14,7 +14,7 @@ pub struct ToWriter<W: Write> {
 }
 
 impl<W: Write> Model for ToWriter<W> {
-    ghost use Rattle.mc_text.specs.DeviceState.{OutputState};
+    ghost use Rattle.mc_text.specs.Device.{OutputState};
 
     ghost Value = { OutputState };
 

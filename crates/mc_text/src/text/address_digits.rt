@@ -3,7 +3,7 @@
 ghost use Rattle.std.specs.Prelude.{◌≡◌, ◌&&◌, ℕ, List, length, slice_index, false};
 ghost use Rattle.std.specs.Prelude.{IfSome, IfNone, Some, Ok};
 ghost use Rattle.hex.specs.Hex.{is_hex_digit, pair_value, decode_of};
-ghost use Rattle.mc_text.specs.AddressDigits.{value_or_16};
+ghost use Rattle.mc_text.specs.AddressWord.{value_or_16};
 
 /// The value of each byte that is a hexadecimal digit of either case, and 16 of each other one.
 const VALUES: &[u8; 256] = &[

@@ -13,7 +13,7 @@ pub struct Words<'a> {
 
 impl<'a> Model for Words<'a> {
     ghost use Rattle.std.specs.Prelude.{ℕ, List};
-    ghost use Rattle.mc_text.specs.Words.{words_of};
+    ghost use Rattle.mc_text.specs.Lines.{words_of};
 
     ghost Value = { List (List ℕ) };
 
@@ -28,7 +28,7 @@ fn word_start(line: &[u8]) -> Option<usize>
 }
 
 impl<'a> Words<'a> {
-    ghost use Rattle.mc_text.specs.Words.{words_of};
+    ghost use Rattle.mc_text.specs.Lines.{words_of};
 
     /// The words of a line.
     pub fn new(line: &'a [u8]) -> Words<'a>

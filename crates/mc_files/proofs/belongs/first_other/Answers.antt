@@ -1,6 +1,6 @@
 use Rattle.std.proofs.Common.{◌≡◌, true, false, ap, Some, sym, ◌∙◌, arith}
 use Rattle.std.specs.Str.{bytes_eq}
-use Rattle.mc_text.specs.PartView.{part_text}
+use Rattle.mc_text.specs.BundleView.{part_text}
 use Rattle.mc_files.specs.Layout.{part_name, slots}
 use Rattle.mc_files.proofs.BelongsLemmas.{other_next, other_here, other_missing, other_beyond}
 use Rattle.mc_files.proofs.BelongsLemmas.{other_ended}

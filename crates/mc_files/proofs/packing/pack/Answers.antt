@@ -1,7 +1,7 @@
 use Rattle.std.proofs.Common.{ap, ◌∙◌, Err, List}
 use Rattle.std.proofs.lemmas.Result.{err_from_is_err_and}
 use Rattle.mc_text.specs.Bundle.{PartText}
-use Rattle.mc_text.specs.PartView.{part_texts}
+use Rattle.mc_text.specs.BundleView.{part_texts}
 use Rattle.mc_files.proofs.RunLemmas.{refused_answer, refused_only, written_answer, written_only}
 use Rattle.mc_files.proofs.RunLemmas.{written_part, written_whole}
 use Rattle.mc_files.proofs.packing.pack.Goals as goal

@@ -1,6 +1,6 @@
 use Rattle.std.proofs.Common.{◌∙◌, ap, Err}
 use Rattle.std.proofs.lemmas.Result.{err_from_is_err_and}
-use Rattle.mc_text.specs.PartView.{part_text}
+use Rattle.mc_text.specs.BundleView.{part_text}
 use Rattle.mc_files.specs.Layout.{reports_slot}
 use Rattle.mc_input.specs.PartsReading.{reports_of}
 use Rattle.mc_input.proofs.FilesLemmas.{part_refused, told_refused, told_read}

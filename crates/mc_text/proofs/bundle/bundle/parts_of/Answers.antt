@@ -1,8 +1,8 @@
 use Rattle.std.proofs.Common.{◌≡◌, ap, true, not, ◌∙◌}
 use Rattle.std.specs.Prelude.{is_ok}
 use Rattle.std.proofs.lemmas.List.{map_push}
-use Rattle.mc_text.specs.PartView.{part_text, part_texts}
-use Rattle.mc_text.specs.PlaceView.{place_text}
+use Rattle.mc_text.specs.BundleView.{part_text, part_texts}
+use Rattle.mc_text.specs.BundleView.{place_text}
 use Rattle.mc_text.proofs.BundleLaws.{fewer, goes_on, ends, fails}
 use Rattle.mc_text.proofs.bundle.bundle.parts_of.Goals as goal
 

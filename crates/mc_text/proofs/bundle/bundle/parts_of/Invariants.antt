@@ -1,8 +1,8 @@
 use Rattle.std.proofs.Common.{◌≡◌, ◌-◌}
 use Rattle.mc_text.specs.Bundle.{max_bundle, max_parts}
 use Rattle.mc_text.specs.BundleReading.{parts_from}
-use Rattle.mc_text.specs.PartView.{part_texts}
-use Rattle.mc_text.specs.PlaceView.{place_text}
+use Rattle.mc_text.specs.BundleView.{part_texts}
+use Rattle.mc_text.specs.BundleView.{place_text}
 use Rattle.mc_text.proofs.StepLemmas.{with_front}
 use Rattle.mc_text.proofs.BundleLaws.{parts_at}
 use Rattle.mc_text.proofs.bundle.bundle.parts_of.Given as goal

@@ -2,7 +2,7 @@ use Rattle.std.proofs.Common.{◌≡◌, true, arith}
 use Rattle.std.specs.Prelude.{codes}
 use Rattle.std.specs.Str.{bytes_eq}
 use Rattle.std.proofs.lemmas.Result.{err_from_is_err_and}
-use Rattle.mc_text.specs.PlaceView.{place_text}
+use Rattle.mc_text.specs.BundleView.{place_text}
 use Rattle.mc_text.proofs.BundlePlaces.{line_fails, end_fails}
 use Rattle.mc_text.proofs.bundle.bundle.place_at.Goals as goal
 

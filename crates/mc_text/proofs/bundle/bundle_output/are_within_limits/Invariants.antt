@@ -1,5 +1,5 @@
 use Rattle.std.proofs.Common.{◌+◌, ◌*◌, ◌≤◌, take}
-use Rattle.mc_text.specs.PartView.{part_texts}
+use Rattle.mc_text.specs.BundleView.{part_texts}
 use Rattle.mc_text.proofs.Pieces.{AreSmall}
 use Rattle.mc_text.proofs.bundle.bundle_output.are_within_limits.Given as goal
 

@@ -9,12 +9,9 @@ ghost use Rattle.mc_files.specs.Files.{GivesOf, is_failure};
 use crate::fault::FileFault;
 use crate::slot::Slot;
 use crate::source::FileSource;
-use mc_text::{Part, PartName};
+use mc_text::{MAX_PART, Part, PartName};
 use std::alloc::Global;
 use std::marker::Model;
-
-/// The greatest length of a part, in bytes.
-const MAX_PART: usize = 16_777_216;
 
 /// The part that a file makes, with the file's bytes.
 #[derive(Debug, Drop)]

@@ -8,7 +8,7 @@ mod part;
 mod part_line;
 mod part_name;
 
-pub use bundle::Bundle;
+pub use bundle::{Bundle, MAX_PART};
 pub use bundle_fault::BundleFault;
 pub use bundle_laws::{front_decides, one_list_of_parts, written_is_read};
 pub use bundle_output::write_bundle;

@@ -11,7 +11,7 @@ mod memory;
 mod text;
 
 pub use bundle::{
-    Bundle, BundleFault, Part, PartName, front_decides, one_list_of_parts, write_bundle,
+    Bundle, BundleFault, MAX_PART, Part, PartName, front_decides, one_list_of_parts, write_bundle,
     written_is_read,
 };
 pub use io::{

@@ -22,7 +22,7 @@ pub(crate) const MAGIC: &[u8] = b"mcaudit bundle 1\n";
 pub(crate) const END_LINE: &[u8] = b"end\n";
 
 /// The greatest length of a part, in bytes.
-pub(crate) const MAX_PART: usize = 16_777_216;
+pub const MAX_PART: usize = 16_777_216;
 
 /// The greatest length of a bundle, in bytes.
 pub(crate) const MAX_BUNDLE: usize = 268_435_456;

@@ -21,7 +21,7 @@ use Rattle.mc_topology.specs.Rows.{RouterRow}
 use Rattle.mc_topology.specs.Topology.{TopologyValue}
 use Rattle.mc_forward.specs.Domains.{DomainValue, IsDomain, TablesValue, net_of}
 use Rattle.mc_forward.proofs.DomainLemmas.{net-of_domain, wanting-within}
-use Rattle.mc_input.specs.Input.{InputValue, PartsStand, TellTables, TellReports}
+use Rattle.mc_domain.specs.Input.{InputValue, PartsStand, TellTables, TellReports}
 use Rattle.mc_cert.specs.Certificate.{Tree, IsOfBytes}
 use Rattle.mc_cert.specs.CertificateText.{certificate_text}
 use Rattle.mc_cert.specs.Reading.{reading_of}

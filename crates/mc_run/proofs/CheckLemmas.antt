@@ -20,7 +20,7 @@ use Rattle.mc_check.specs.Verdicts.{is_yes, OfEachFlow, IsExact, HasCopies, HasF
 use Rattle.mc_check.specs.Verdicts.{YesKeepsHeadline}
 use Rattle.mc_check.specs.declared.verdict.Verdict.{Verdict}
 use Rattle.mc_check.specs.declared.verdict.Verdict.TheVariants.{Yes, No}
-use Rattle.mc_input.specs.InputView.{certificate_seen}
+use Rattle.mc_domain.specs.InputView.{certificate_seen}
 use Rattle.mc_run.specs.BundleMeaning.{MeansDomain, MeansCertified, HasBadCertificate}
 use Rattle.mc_run.specs.BundleMeaning.{IsRefusedFor}
 use Rattle.mc_run.specs.CheckRun.{IsTextOfVerdicts, KeepsHeadline}

@@ -4,16 +4,16 @@ use Rattle.std.proofs.Common.{Some, None, refl, sym, ap, subst, ◌∙◌, arith
 use Rattle.std.specs.Prelude.{◌↔◌, IsTrue, is_some, slice_get, slice_index_or}
 use Rattle.mc_text.specs.Bundle.{PartText}
 use Rattle.mc_igmp.specs.Wants.{Wants}
-use Rattle.mc_files.specs.Files.{FileText}
+use Rattle.mc_layout.specs.Files.{FileText}
 use Rattle.mc_topology.specs.Topology.{TopologyValue}
 use Rattle.mc_forward.specs.Assembling.{IsAssembled}
 use Rattle.mc_forward.specs.Domains.{DomainValue, IsDomain, wants_of}
 use Rattle.mc_cert.specs.Certificate.{Tree}
 use Rattle.mc_cert.specs.Stands.{CertificateStands}
 use Rattle.mc_cert.proofs.ReadLemmas.{one_certificate}
-use Rattle.mc_input.specs.Input.{InputValue, PartsStand}
-use Rattle.mc_input.proofs.Counted.{counted}
-use Rattle.mc_input.proofs.OneInput.{one_input, one_input_of_files}
+use Rattle.mc_domain.specs.Input.{InputValue, PartsStand}
+use Rattle.mc_domain.proofs.Counted.{counted}
+use Rattle.mc_domain.proofs.OneInput.{one_input, one_input_of_files}
 use Rattle.mc_run.specs.BundleMeaning.{MeansDomain, MeansCertified}
 use Rattle.mc_run.specs.FilesMeaning.{MeansFiles}
 use Rattle.mc_run.proofs.MakeLemmas.{at as at_place, within}

@@ -1,10 +1,10 @@
 -- What packing shows, told with the run's faults.
 use Rattle.std.proofs.Common.{◌≡◌, ℕ, Bool, List, Option, Some, None, Result, Ok, Err, refl, ap, ◌∙◌}
 use Rattle.std.specs.Prelude.{◌≢◌, IfErr, IfSome, IsErrAnd}
-use Rattle.mc_files.specs.Files.{FileText}
-use Rattle.mc_files.specs.PackRun.{Answers, SaysNothing, failed_files, failed_writes}
-use Rattle.mc_files.specs.declared.fault.PackFault.{PackFault}
-use Rattle.mc_files.specs.declared.fault.PackFault.TheVariants as packing
+use Rattle.mc_layout.specs.Files.{FileText}
+use Rattle.mc_layout.specs.PackRun.{Answers, SaysNothing, failed_files, failed_writes}
+use Rattle.mc_layout.specs.declared.fault.PackFault.{PackFault}
+use Rattle.mc_layout.specs.declared.fault.PackFault.TheVariants as packing
 use Rattle.mc_run.specs.declared.fault.RunFault.{RunFault}
 use Rattle.mc_run.specs.declared.fault.RunFault.TheVariants.{Write}
 use Rattle.mc_run.specs.Failures.{counted, is_read, is_write}

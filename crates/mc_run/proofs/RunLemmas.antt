@@ -10,9 +10,9 @@ use Rattle.std.proofs.lemmas.List.{take_all, length-append, take-append-drop}
 use denote.Ref.{Bor}
 use Rattle.mc_forward.specs.Domains.{DomainValue}
 use Rattle.mc_cert.specs.Certificate.{Tree}
-use Rattle.mc_input.specs.InputView.{certificate_seen}
-use Rattle.mc_input.specs.Input.{InputValue, InputStands}
-use Rattle.mc_input.specs.InputReading.{input_of}
+use Rattle.mc_domain.specs.InputView.{certificate_seen}
+use Rattle.mc_domain.specs.Input.{InputValue, InputStands}
+use Rattle.mc_domain.specs.InputReading.{input_of}
 use Rattle.mc_run.specs.declared.fault.RunFault.{RunFault}
 use Rattle.mc_run.specs.declared.fault.RunFault.TheVariants.{Bundle, Parts, Topology, Vif, Cache}
 use Rattle.mc_run.specs.declared.fault.RunFault.TheVariants.{PartReports, Reports, Certificate}

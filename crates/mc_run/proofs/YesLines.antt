@@ -4,7 +4,7 @@ use Rattle.std.proofs.Common.{length, sym, ap, ◌∙◌, append-nil, append_ass
 use Rattle.std.specs.Prelude.{codes}
 use Rattle.mc_topology.specs.declared.flow.Flow.{Flow}
 use Rattle.mc_topology.specs.Topology.{TopologyValue}
-use Rattle.mc_files.specs.Files.{FileText}
+use Rattle.mc_layout.specs.Files.{FileText}
 use Rattle.mc_check.specs.declared.verdict.Verdict.{Verdict}
 use Rattle.mc_check.specs.declared.verdict.Verdict.TheVariants.{Yes}
 use Rattle.mc_maker.specs.declared.examination.Examined.{Examined}

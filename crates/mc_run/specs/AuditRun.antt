@@ -1,7 +1,7 @@
 -- What `mcaudit audit` answers and writes, and what its yes is worth.
 use Rattle.std.specs.Prelude.{◌≡◌, ℕ, Bool, true, false, List, [], ◌∷◌, ◌++◌, flat_map, length}
 use Rattle.std.specs.Prelude.{slice_get, Some, ◌⊎◌}
-use Rattle.mc_files.specs.Files.{FileText}
+use Rattle.mc_layout.specs.Files.{FileText}
 use Rattle.mc_topology.specs.declared.flow.Flow.{Flow}
 use Rattle.mc_topology.specs.Topology.{TopologyValue}
 use Rattle.mc_theory.specs.Nets.{Net}

@@ -6,9 +6,9 @@ use Rattle.mc_cert.specs.Certificate.{Tree}
 use Rattle.mc_cert.specs.Stands.{CertificateStands}
 use Rattle.mc_cert.specs.Reading.{reading_of}
 use Rattle.mc_cert.specs.declared.fault.CertFault.{CertFault}
-use Rattle.mc_input.specs.Input.{InputStands}
-use Rattle.mc_input.specs.InputReading.{input_of}
-use Rattle.mc_input.specs.declared.fault.InputFault.TheVariants as input
+use Rattle.mc_domain.specs.Input.{InputStands}
+use Rattle.mc_domain.specs.InputReading.{input_of}
+use Rattle.mc_domain.specs.declared.fault.InputFault.TheVariants as input
 use Rattle.mc_run.specs.OfDomain.{Means}
 use Rattle.mc_run.specs.declared.fault.RunFault.{RunFault}
 use Rattle.mc_run.specs.declared.fault.RunFault.TheVariants.{Bundle, Parts, Topology, Vif, Cache}

@@ -1,10 +1,10 @@
 -- What a folder's files mean to a run: a domain; or why they are refused.
 use Rattle.std.specs.Prelude.{◌≡◌, List, Err, ⊤}
-use Rattle.mc_files.specs.Files.{FileText}
+use Rattle.mc_layout.specs.Files.{FileText}
 use Rattle.mc_forward.specs.Domains.{DomainValue}
-use Rattle.mc_input.specs.FilesInput.{FilesStand}
-use Rattle.mc_input.specs.FilesReading.{files_of}
-use Rattle.mc_input.specs.declared.files_fault.FilesFault.{FilesFault}
+use Rattle.mc_domain.specs.FilesInput.{FilesStand}
+use Rattle.mc_domain.specs.FilesReading.{files_of}
+use Rattle.mc_domain.specs.declared.files_fault.FilesFault.{FilesFault}
 use Rattle.mc_run.specs.OfDomain.{Means}
 use Rattle.mc_run.specs.declared.fault.RunFault.{RunFault}
 use Rattle.mc_run.specs.declared.fault.RunFault.TheVariants.{Read, Write, Memory}

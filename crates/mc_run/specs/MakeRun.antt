@@ -9,7 +9,7 @@ use Rattle.mc_topology.specs.declared.flow.Flow.{Flow}
 use Rattle.mc_topology.specs.Topology.{TopologyValue}
 use Rattle.mc_theory.specs.Certificates.{IsAccepted, IsRight}
 use Rattle.mc_forward.specs.Domains.{DomainValue, net_of}
-use Rattle.mc_input.specs.Names.{certificate_name}
+use Rattle.mc_domain.specs.Names.{certificate_name}
 use Rattle.mc_cert.specs.Certificate.{Tree, IsEntryOf, IsList}
 use Rattle.mc_cert.specs.CertificateText.{certificate_text}
 use Rattle.mc_replay.specs.TravelText.{finding_text}

@@ -1,7 +1,7 @@
 -- What a bundle, or a folder's files, mean: a domain; and what is said of it.
 use Rattle.mc_forward.specs.Assembling.{IsAssembled}
 use Rattle.mc_forward.specs.Domains.{DomainValue, IsDomain}
-use Rattle.mc_input.specs.Input.{InputValue}
+use Rattle.mc_domain.specs.Input.{InputValue}
 
 -- It stands for an input, and the domain is put together of that.
 pub record Means {X : Type 0} (Stands : X → InputValue → Type 0) (x : X) (d : DomainValue) : Type 0

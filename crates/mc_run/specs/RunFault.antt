@@ -7,10 +7,10 @@ use Rattle.mc_igmp.specs.declared.fault.ListFaultKind.TheVariants as list
 use Rattle.mc_cert.specs.declared.fault.CertFault.{CertFault}
 use Rattle.mc_cert.specs.declared.fault.CertFaultKind.{CertFaultKind}
 use Rattle.mc_cert.specs.declared.fault.CertFaultKind.TheVariants as certificate
-use Rattle.mc_input.specs.declared.fault.InputFault.{InputFault}
-use Rattle.mc_input.specs.declared.fault.InputFault.TheVariants as input
-use Rattle.mc_input.specs.declared.files_fault.FilesFault.{FilesFault}
-use Rattle.mc_input.specs.declared.files_fault.FilesFault.TheVariants as files
+use Rattle.mc_domain.specs.declared.fault.InputFault.{InputFault}
+use Rattle.mc_domain.specs.declared.fault.InputFault.TheVariants as input
+use Rattle.mc_domain.specs.declared.files_fault.FilesFault.{FilesFault}
+use Rattle.mc_domain.specs.declared.files_fault.FilesFault.TheVariants as files
 use Rattle.mc_text.specs.declared.bundle.bundle_fault.BundleFault.TheVariants as bundle
 use Rattle.mc_run.specs.declared.fault.RunFault.{RunFault}
 use Rattle.mc_run.specs.declared.fault.RunFault.TheVariants.{Bundle, Parts, Topology, Vif, Cache}

@@ -3,16 +3,16 @@
 ghost use Rattle.std.specs.Prelude.{◌≡◌, ◌<◌, IfErr, IfOk, IfSome, false, is_some};
 ghost use Rattle.mc_forward.specs.Assembling.{AreCounted, IsAssembled};
 ghost use Rattle.mc_forward.specs.Domains.{IsDomain};
-ghost use Rattle.mc_input.specs.InputView.{certificate_seen};
+ghost use Rattle.mc_domain.specs.InputView.{certificate_seen};
 ghost use Rattle.mc_text.specs.ReadFault.{ConsumesUpTo};
 ghost use Rattle.mc_text.specs.Bundle.{max_input};
 ghost use Rattle.mc_run.specs.BundleMeaning.{IsRefusedFor, MeansDomain, MeansUncertified};
 ghost use Rattle.mc_run.specs.Failures.{IsNoDeviceFault, counted, is_read, is_write};
 
 use crate::fault::RunFault;
+use mc_domain::{BundleInput, read_input};
 use mc_forward::{Domain, DomainFault, Tables};
 use mc_igmp::ReportList;
-use mc_input::{BundleInput, read_input};
 use mc_text::{Input, Memory as NoMemory, read_to_limit};
 use mc_topology::Topology;
 use std::alloc::Global;

@@ -6,9 +6,9 @@ ghost use Rattle.mc_run.specs.PackingRun.{of_packing};
 ghost use Rattle.mc_run.specs.RunFault.{of_certificate, of_files, of_input, of_list, of_reading};
 
 use mc_cert::{CertFault, CertFaultKind};
-use mc_files::PackFault;
+use mc_domain::{FilesFault, InputFault};
 use mc_igmp::{ListFault, ListFaultKind};
-use mc_input::{FilesFault, InputFault};
+use mc_layout::PackFault;
 use mc_tables::TableFault;
 use mc_text::{BundleFault, Memory as NoMemory, PartName, ReadFault};
 use mc_topology::TopologyFault;

@@ -2,14 +2,14 @@
 
 ghost use Rattle.std.specs.Prelude.{◌≡◌, ◌≢◌, ◌<◌, List, Some, IfErr, IfOk, IfSome, Err};
 ghost use Rattle.mc_text.specs.Bundle.{PartText};
-ghost use Rattle.mc_files.specs.Files.{FileText};
-ghost use Rattle.mc_files.specs.Packing.{IsPacked};
-ghost use Rattle.mc_files.specs.PackRun.{WritesPacked, WritesPartOfPacked};
+ghost use Rattle.mc_layout.specs.Files.{FileText};
+ghost use Rattle.mc_layout.specs.Packing.{IsPacked};
+ghost use Rattle.mc_layout.specs.PackRun.{WritesPacked, WritesPartOfPacked};
 ghost use Rattle.mc_run.specs.Failures.{counted, is_read, is_write};
 ghost use Rattle.mc_run.specs.PackingRun.{AnswersPack, IsOfDevices};
 
 use crate::fault::RunFault;
-use mc_files::FileSource;
+use mc_layout::FileSource;
 use mc_text::Output;
 use std::alloc::Global;
 
@@ -42,6 +42,6 @@ pub fn run_pack<F: FileSource, W: Output>(
     ensures read_failures { F.failed files.new ≡ counted is_read result (F.failed files.old) }
     ensures write_failures { W.failed output.new ≡ counted is_write result (W.failed output.old) }
 {
-    mc_files::pack(alloc, files, certificate, output)?;
+    mc_layout::pack(alloc, files, certificate, output)?;
     Ok(())
 }

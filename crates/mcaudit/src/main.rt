@@ -7,7 +7,7 @@ ghost use Rattle.mc_words.specs.Task.{IsAllowed};
 mod failure;
 
 use failure::Failure;
-use mc_files::Folder;
+use mc_layout::Folder;
 use mc_replay::{First, Last, Picker};
 use mc_run::{RunFault, run_audit, run_check, run_make, run_pack, run_replay, run_wants};
 use mc_text::{Addr, FromReader, ToWriter};

@@ -1,0 +1,62 @@
+-- What one file of a folder tells, and what the source counts.
+use Rattle.std.specs.Prelude.{◌≡◌, ℕ, List, Result, Ok, Err, refl}
+use Rattle.std.proofs.Common.{ap, ◌∙◌, inl, inr, subst}
+use Rattle.mc_text.specs.Bundle.{PartText}
+use Rattle.mc_text.specs.Device.{counted}
+use Rattle.mc_layout.specs.FilePart.{IsOfSource, file_part}
+use Rattle.mc_layout.specs.Files.{FileText}
+use Rattle.mc_layout.specs.Layout.{Slot}
+use Rattle.mc_layout.specs.declared.fault.FileFault.{FileFault}
+use Rattle.mc_layout.specs.declared.fault.FileFault.TheVariants as file
+use Rattle.mc_domain.specs.FilesFault.{IsSilent, is_read, of_file}
+use Rattle.mc_domain.specs.FilesReading.{part_filed}
+use Rattle.mc_domain.specs.PartsReading.{told_by}
+use Rattle.mc_domain.specs.declared.fault.InputFault.{InputFault}
+use Rattle.mc_domain.specs.declared.fault.InputFault.TheVariants.{Memory}
+use Rattle.mc_domain.specs.declared.files_fault.FilesFault.{FilesFault}
+use Rattle.mc_domain.specs.declared.files_fault.FilesFault.TheVariants.{Input}
+
+-- a file's fault that is silent is so as that of the files
+silent_of : (fault : FileFault) → IsOfSource fault → IsSilent (of_file fault)
+silent_of file.Failed silent = inl refl
+silent_of file.TooLarge silent = absurd silent
+silent_of file.Memory silent = inr refl
+
+module _ {X : Type 0} (files : List FileText) (n : ℕ) (slot given : Slot)
+    (read : PartText → Result X InputFault) where
+  -- the file makes no part
+  pub part_refused : (fault : FileFault) → given ≡ slot
+      → ((¬ IsOfSource fault) → file_part files given ≡ Err fault)
+      → (¬ IsSilent (of_file fault))
+      → told_by Input (part_filed files n slot) read ≡ Err (of_file fault)
+  part_refused fault is refused says =
+      let made = subst (λ (s : Slot). file_part files s ≡ Err fault) is
+      (refused (λ silent. says (silent_of fault silent))) in
+      rw (made) refl
+
+  -- its part is refused
+  pub told_refused : (part text : PartText) (fault : InputFault) → given ≡ slot
+      → file_part files given ≡ Ok part → text ≡ part
+      → ((¬ (fault ≡ Memory)) → read text ≡ Err fault) → (¬ IsSilent (Input fault))
+      → told_by Input (part_filed files n slot) read ≡ Err (Input fault)
+  told_refused part text fault is made same refused says =
+      let here = subst (λ (s : Slot). file_part files s ≡ Ok part) is made in
+      let told = subst (λ (p : PartText). read p ≡ Err fault) same
+      (refused (λ memory. says (inr (ap (λ x. Input x) memory)))) in
+      rw (here, told) refl
+
+  -- or it is read
+  pub told_read : (part text : PartText) (x : X) → given ≡ slot
+      → file_part files given ≡ Ok part → text ≡ part → read text ≡ Ok x
+      → told_by Input (part_filed files n slot) read ≡ Ok x
+  told_read part text x is made same found =
+      let here = subst (λ (s : Slot). file_part files s ≡ Ok part) is made in
+      let told = subst (λ (p : PartText). read p ≡ Ok x) same found in
+      rw (here, told) refl
+
+-- the source failed as often in a call as in its last step, where no earlier one failed
+pub failed_as : {X Y : Type 0} (fault : FilesFault) (r : Result X FilesFault)
+    (s : Result Y FilesFault) (new between old : ℕ) → r ≡ Err fault → s ≡ Err fault
+    → new ≡ counted is_read s between → between ≡ old → new ≡ counted is_read r old
+failed_as fault r s new between old is step first before =
+    rw (is) (first ∙ rw (step, before) refl)

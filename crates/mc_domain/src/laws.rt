@@ -1,0 +1,33 @@
+//! What follows from the definitions alone, for whoever builds on them.
+
+ghost use Rattle.std.specs.Prelude.{◌≡◌, ℕ, false, is_some, List, None, Option};
+ghost use Rattle.mc_text.specs.Bundle.{PartText, IsBundle};
+ghost use Rattle.mc_layout.specs.Files.{FileText};
+ghost use Rattle.mc_layout.specs.Packing.{IsPacked};
+ghost use Rattle.mc_domain.specs.FilesInput.{FilesStand};
+ghost use Rattle.mc_domain.specs.Input.{InputValue, InputStands};
+
+/// The text of a bundle stands for one input at most, and one text of a certificate, where each has
+/// one or neither has.
+pub fn texts_stand_for_one_input()
+    ensures input { (text : List ℕ) (a b : InputValue) (c d : Option (List ℕ))
+        → is_some d ≡ is_some c
+        → InputStands text a c → InputStands text b d → a ≡ b }
+    ensures certificate { (text : List ℕ) (a b : InputValue) (c d : Option (List ℕ))
+        → is_some d ≡ is_some c
+        → InputStands text a c → InputStands text b d → c ≡ d }
+{}
+
+/// The files of a folder stand for one input at most.
+pub fn files_stand_for_one_input()
+    ensures { (files : List FileText) (a b : InputValue) → FilesStand files a → FilesStand files b
+        → a ≡ b }
+{}
+
+/// The bundle that is packed of files without a certificate stands for the input that the files
+/// stand for.
+pub fn packed_files_stand_for_their_input()
+    ensures { (files : List FileText) (parts : List PartText) (text : List ℕ) (v : InputValue)
+        → FilesStand files v → IsPacked files false parts → IsBundle text parts
+        → InputStands text v None }
+{}

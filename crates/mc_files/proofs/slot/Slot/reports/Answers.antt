@@ -1,5 +1,0 @@
-use Rattle.mc_files.proofs.SlotLemmas.{reports_named}
-use Rattle.mc_files.proofs.slot.Slot.reports.Goals as goal
-
-pub invariant_of-result : goal.invariant_of-result
-invariant_of-result c = reports_named c.args.lan.now c.requires

@@ -1,0 +1,74 @@
+//! Files in memory.
+
+ghost use Rattle.std.specs.Prelude.{◌≡◌, ◌<◌, ◌+◌, map, Some, option_map};
+ghost use Rattle.mc_layout.specs.Files.{file_named, file_text};
+
+use crate::fault::FileFault;
+use crate::source::FileSource;
+use std::alloc::Global;
+use std::marker::Model;
+
+/// A source of files in memory, which it tells.
+#[derive(Debug, Drop)]
+pub struct MapFiles<'a> {
+    files: &'a [(&'a str, &'a [u8])],
+    failures: u64,
+}
+
+impl<'a> Model for MapFiles<'a> {
+    ghost use Rattle.std.specs.Prelude.{map, Some};
+    ghost use Rattle.mc_layout.specs.Files.{FilesState, file_text};
+
+    ghost Value = { FilesState };
+
+    ghost view = { λ s. record { told = Some (map file_text s.files.now); failed = s.failures } };
+}
+
+impl<'a> MapFiles<'a> {
+    /// A source of the files, each its name and its bytes. Of two with one name it is the first.
+    pub fn new(files: &'a [(&'a str, &'a [u8])]) -> MapFiles<'a>
+        ensures { result ≡ record { told = Some (map file_text files.now); failed = 0 } }
+    {
+        MapFiles { files, failures: 0 }
+    }
+
+    /// A call fails.
+    pub(crate) fn fail(&mut self) -> FileFault
+        requires { self.old.failed < u64.MAX }
+        ensures told { self.new.told ≡ self.old.told }
+        ensures failed { self.new.failed ≡ self.old.failed + 1 }
+        ensures fault { result ≡ FileFault.Failed }
+    {
+        self.failures += 1;
+        FileFault::Failed
+    }
+}
+
+/// The bytes of the file with the name.
+fn bytes_of<'a>(files: &[(&str, &'a [u8])], name: &str) -> Option<&'a [u8]>
+    ensures { option_map (λ bytes. bytes.now) result
+        ≡ file_named (map file_text files.now) name.now }
+{
+    let (_, bytes) = files.iter().find(|(file, _)| *file == name)?;
+    Some(bytes)
+}
+
+impl<'a> FileSource for MapFiles<'a> {
+    ghost told = { λ s. s.told };
+
+    ghost failed = { λ s. s.failed };
+
+    fn read(&mut self, alloc: Global, name: &str, limit: usize) -> Result<Vec<u8>, FileFault> {
+        let Some(bytes) = bytes_of(self.files, name) else {
+            return Err(self.fail());
+        };
+        if bytes.len() > limit {
+            return Err(FileFault::TooLarge);
+        }
+        Ok(bytes.to_vec(alloc)?)
+    }
+
+    fn failures(&self) -> u64 {
+        self.failures
+    }
+}

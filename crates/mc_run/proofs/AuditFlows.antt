@@ -21,10 +21,10 @@ use Rattle.mc_replay.specs.declared.travel.Travel.{Travel}
 use Rattle.mc_maker.specs.Examined.{is_certified}
 use Rattle.mc_maker.specs.declared.examination.Examined.{Examined}
 use Rattle.mc_maker.specs.declared.examination.Examined.TheVariants.{Certified, Found}
-use Rattle.mc_run.specs.AuditRun.{IsAudited, IsChecked, IsFlowAudited}
+use Rattle.mc_run.specs.AuditRun.{IsChecked, IsFlowAudited}
 use Rattle.mc_run.specs.AuditRun.{events_told, flow_told, flows_told}
 use Rattle.mc_run.specs.MakeRun.{IsExamined, are_certified, found_lines}
-use Rattle.mc_run.specs.VerdictText.{flow_line, last_line}
+use Rattle.mc_run.specs.VerdictText.{flow_line}
 use Rattle.mc_run.proofs.MakeLemmas.{at}
 
 -- ---- one flow

@@ -1,5 +1,5 @@
 -- What a run of `mcaudit replay` shows of the text that it read.
-use Rattle.std.proofs.Common.{◌≡◌, ℕ, ◌+◌, inl, inr, Bool, false, List, Option, Some, None, Result}
+use Rattle.std.proofs.Common.{◌≡◌, ℕ, ◌+◌, inl, inr, Bool, List, Option, Some, None, Result}
 use Rattle.std.proofs.Common.{Ok, Err, refl, ap, subst, ◌∙◌}
 use Rattle.std.specs.Prelude.{IfErr, IfSome, slice_get}
 use Rattle.mc_topology.specs.declared.flow.Flow.{Flow}
@@ -10,15 +10,10 @@ use Rattle.mc_replay.specs.Travels.{IsRunOfChoices, replay_of}
 use Rattle.mc_replay.specs.declared.travel.Travel.{Travel}
 use Rattle.mc_run.specs.declared.said.Said.{Said}
 use Rattle.mc_run.specs.declared.fault.RunFault.{RunFault}
-use Rattle.mc_run.specs.declared.fault.RunFault.TheVariants.{Bundle, Parts, Topology, Vif, Cache}
-use Rattle.mc_run.specs.declared.fault.RunFault.TheVariants.{PartReports, Reports, Certificate}
-use Rattle.mc_run.specs.declared.fault.RunFault.TheVariants.{NoSuchFlow, Read, Write, Memory}
-use Rattle.mc_run.specs.BundleMeaning.{IsRefusedFor, MeansUncertified}
+use Rattle.mc_run.specs.BundleMeaning.{MeansUncertified}
 use Rattle.mc_run.specs.Failures.{IsNoDeviceFault}
 use Rattle.mc_run.specs.ReplayRun.{HasNoTravel, IsReplayRefused, IsTextOfTravel, is_clean}
 use Rattle.mc_run.specs.ReplayRun.{replay_text}
-
--- ---- the travel
 
 -- the text of a travel through a domain
 pub travel_made : (d : DomainValue) (flow ttl : ℕ) (choices : Choices) (place : ℕ)

@@ -6,6 +6,7 @@
 It works on a copy of the repository, in steps:
 
   packages  tests/packages.sh installs what of the file `packages` is missing; what can't be had ends the gate by name
+  house     tests/house looks whether each thing stands once, and whether something leads to each lemma
   proofs    `rt ci` proves each crate and its tests from nothing, runs the tests, and builds and runs the program
   edits     tests/edits/try.py tries the wrong bodies of crates/*/must-fail, many in one check: the prover must
             refuse each. (The copy that `rt ci` sees has none of them: it would try each in a check of its own.)
@@ -174,6 +175,7 @@ def main():
         edits = copy_repository(root, room)
         gate = Gate(room)
         gate.step("packages", "sh", "tests/packages.sh", "gate")
+        gate.step("each thing once", "sh", "tests/house/check.sh")
         if not gate.failed:
             gate.step("proofs, tests and programs", "rt", "ci")
         if not gate.failed:

@@ -6,7 +6,6 @@
 
 mod belongs;
 mod fault;
-mod faulty;
 mod file_part;
 mod folder;
 mod laws;
@@ -18,7 +17,6 @@ mod source;
 
 pub use belongs::first_other;
 pub use fault::{FileFault, PackFault};
-pub use faulty::FaultyFiles;
 pub use file_part::{FilePart, part_of_file};
 pub use folder::Folder;
 pub use laws::{

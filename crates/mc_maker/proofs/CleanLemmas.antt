@@ -23,7 +23,7 @@ use Rattle.mc_cert.specs.Certificate.{IsWritable, IsList, IsEntryOf}
 use Rattle.mc_replay.specs.declared.travel.Travel.{Travel}
 use Rattle.mc_replay.specs.Travels.{replay_of, IsRunTo}
 use Rattle.mc_maker.specs.Examined.{FindsNothing, first_choices}
-use Rattle.mc_maker.specs.Making.{AreClean}
+use Rattle.mc_maker.specs.Examined.{AreClean}
 use Rattle.mc_maker.proofs.FilledLemmas.{all-in, in-all}
 
 -- ---- of each entry

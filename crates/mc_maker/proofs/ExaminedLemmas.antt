@@ -24,7 +24,7 @@ use Rattle.mc_replay.specs.Travels.{replay_of, IsRunTo}
 use Rattle.mc_maker.specs.Examined.{first_choices, FindsFault, FindsNothing, IsTravelOfFirst}
 use Rattle.mc_maker.specs.Examined.{IsTtlOfFault, IsOfTravel}
 use Rattle.mc_maker.specs.ByLan.{IsByLan, held_entries, serves}
-use Rattle.mc_maker.specs.Making.{AreClean}
+use Rattle.mc_maker.specs.Examined.{AreClean}
 use Rattle.mc_maker.proofs.ListedLemmas.{ascending, same-entries}
 use Rattle.mc_maker.proofs.ServedLemmas.{served-each, served-not}
 

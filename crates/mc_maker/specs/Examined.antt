@@ -11,6 +11,17 @@ use Rattle.mc_replay.specs.Travels.{replay_of, IsRunTo, IsRunOfChoices}
 use Rattle.mc_replay.specs.declared.travel.Travel.{Travel}
 use Rattle.mc_maker.specs.declared.examination.Examined.{Examined}
 use Rattle.mc_maker.specs.declared.examination.Examined.TheVariants.{Certified, Found}
+use Rattle.std.specs.Prelude.{◌<◌, ◌≤◌, All, IfSome, length}
+use Rattle.mc_theory.specs.Flights.{Copy}
+use Rattle.mc_theory.specs.Certificates.{IsTree}
+
+-- The copies are of the domain's LANs and routers, and their entries meet all conditions of a
+-- certificate but the last, with needs up to 255.
+pub record AreClean (d : DomainValue) (flow : ℕ) (cs : List Copy) : Type 0 where
+  pub tree : IsTree (net_of d flow) (entries_of (net_of d flow) cs)
+  pub needs : All (λ e. e.need ≤ 255) (entries_of (net_of d flow) cs)
+  pub lans : All (λ c. c.lan < length d.topology.lans) cs
+  pub senders : All (λ c. IfSome c.sender (λ i. i.0 < length d.topology.routers)) cs
 
 -- ---- the answer
 

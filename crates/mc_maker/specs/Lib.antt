@@ -1,5 +1,4 @@
 pub mod Examined
-pub mod Making
 pub mod ByLan
 pub use Rattle.mc_theory.specs.Nets
 pub use Rattle.mc_theory.specs.Flights

@@ -10,7 +10,7 @@ ghost use Rattle.mc_forward.specs.Journeys.{net_in};
 ghost use Rattle.mc_cert.specs.Certificate.{IsEntryOf, IsList};
 ghost use Rattle.mc_maker.specs.Examined.{FindsFault, FindsNothing, IfCertified, IfFound};
 ghost use Rattle.mc_maker.specs.Examined.{IsOfTravel, IsTravelOfFirst, IsTtlOfFault, is_certified};
-ghost use Rattle.mc_maker.specs.Making.{AreClean};
+ghost use Rattle.mc_maker.specs.Examined.{AreClean};
 
 use crate::entries::{entries_by_lan, listed};
 use crate::served::serves_all;

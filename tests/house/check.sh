@@ -1,0 +1,66 @@
+#!/bin/sh
+# Looks whether each thing of a domain, a run and a flow still stands once.
+#
+#   sh tests/house/check.sh      at the top of the repository
+#
+# It reads the sources alone, so it takes seconds. A line a rule says how often a thing stands, and how often it may; the
+# last line counts, `N passed, M failed`, and the status is 0 if none failed.
+set -u
+passed=0 failed=0
+
+# rule WHAT MOST COUNT: WHAT stands COUNT times, and may stand MOST times
+rule() {
+	if [ "$3" -le "$2" ]; then
+		passed=$((passed + 1)) said=well
+	else
+		failed=$((failed + 1)) said=TOO_OFTEN
+	fi
+	printf '%s: %s: %s, at most %s\n' "$said" "$1" "$3" "$2"
+}
+
+# lines PATTERN PATH..: how many lines below the paths fit an extended regular expression
+lines() {
+	pattern=$1
+	shift
+	grep -rhE -- "$pattern" "$@" 2>/dev/null | wc -l
+}
+
+# small MOST PATH..: how many files below the paths have at most MOST lines
+small() {
+	most=$1
+	shift
+	find "$@" -name '*.antt' -exec wc -l {} \; | awk -v most="$most" '$1 <= most { count++ } END { print count + 0 }'
+}
+
+specs=$(echo crates/*/specs) proofs=$(echo crates/*/proofs)
+# the code of the rooms, without what only tests them; the keys of a certificate are words of JSON
+sources=$(ls -d crates/*/src | grep -v /mc_tests_)
+head='^(abbrev |unfoldable )?(pub )?'
+
+# --- how crates speak of steps, faults and failures ---
+rule 'a call that gives what a definition says (Gives, by cases)' 1 "$(lines '^Gives .*\(Err ' $specs)"
+rule 'a step after another (>>=)' 1 "$(lines "${head}◌>>=◌ :" $specs)"
+rule "another crate's fault as ours (refused_as)" 1 "$(lines "${head}(refused_as|judged) :" $specs)"
+rule 'a step that was taken (bind_ok)' 1 "$(lines '^ *(pub )?bind_ok :' $proofs)"
+rule 'the octets of a number in an order' 1 "$(lines "${head}octets_in_order :" $specs)"
+rule 'a count of failures by its own cases' 2 "$(lines "${head}failed_[a-z_]* :" $specs)"
+
+# --- the parts of a domain ---
+rule 'the kind of a part in code ("vif")' 1 "$(lines '"vif[/"-]' $(echo $sources | tr " " "\n" | grep -v mc_cert))"
+rule 'the kind of a part in definitions (codes "vif")' 1 "$(lines 'codes "vif[/"-]' $(ls -d crates/*/specs | grep -v mc_cert))"
+rule 'the most bytes of a part (MAX_PART)' 1 "$(lines 'const MAX_PART:' $sources)"
+rule 'a file taken as a part (FilePart)' 1 "$(lines 'struct FilePart' $sources)"
+
+# --- a flow, and a run ---
+rule 'a view of a flow' 1 "$(lines 'struct (FlowView|FlowNet|FlowTables|Followed)' $sources)"
+rule 'an item for each LAN, in a vector' 1 "$(lines ': Vec<Option<' $sources)"
+rule 'what a run has to say' 1 "$(lines 'struct (Said|Told|Verdicts) ' $sources)"
+rule 'lines that prove what the runs answer' 180 "$(cat crates/*/proofs/*/run_*/Answers.antt | wc -l)"
+
+# --- names ---
+rule 'facts by the name IsKept' 0 "$(lines "${head}(record )?IsKept" $specs)"
+rule 'files of definitions of at most 15 lines' 12 "$(small 15 $specs)"
+rule 'lemmas and definitions that nothing leads to' 0 "$(python3 tests/house/uncited.py | wc -l)"
+
+printf '%s passed, %s failed\n' "$passed" "$failed"
+[ "$failed" -eq 0 ] && [ "$passed" -gt 0 ]

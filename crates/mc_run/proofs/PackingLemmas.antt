@@ -2,12 +2,14 @@
 use Rattle.std.proofs.Common.{◌≡◌, ℕ, Bool, List, Option, Some, None, Result, Ok, Err, refl, ap, ◌∙◌}
 use Rattle.std.specs.Prelude.{◌≢◌, IfErr, IfSome, IsErrAnd}
 use Rattle.mc_layout.specs.Files.{FileText}
-use Rattle.mc_layout.specs.PackRun.{Answers, SaysNothing, failed_files, failed_writes}
+use Rattle.mc_layout.specs.PackRun.{Answers, SaysNothing}
+use Rattle.mc_layout.specs.PackRun.{is_read as is_file_read, is_write as is_bundle_write}
 use Rattle.mc_layout.specs.declared.fault.PackFault.{PackFault}
 use Rattle.mc_layout.specs.declared.fault.PackFault.TheVariants as packing
 use Rattle.mc_run.specs.declared.fault.RunFault.{RunFault}
 use Rattle.mc_run.specs.declared.fault.RunFault.TheVariants.{Write}
-use Rattle.mc_run.specs.Failures.{counted, is_read, is_write}
+use Rattle.mc_text.specs.Device.{counted}
+use Rattle.mc_run.specs.Failures.{is_read, is_write}
 use Rattle.mc_run.specs.PackingRun.{AnswersPack, IsOfDevices, of_packing}
 
 -- what a run answers that gives this fault of packing
@@ -72,7 +74,7 @@ pub unwritten_told : (f : PackFault) (r : Result (Unit {0}) RunFault) (P : Type 
 unwritten_told f r P e packed =
     rw (told_is f r e) (λ other. packed (λ is. other (ap of_packing is)))
 
-fault_reads : (f : PackFault) (before : ℕ) → failed_files {X = Unit {0}} (Err f) before
+fault_reads : (f : PackFault) (before : ℕ) → counted {X = Unit {0}} is_file_read (Err f) before
     ≡ counted is_read (Told f) before
 fault_reads (packing.Topology f) before = refl
 fault_reads packing.TooLarge before = refl
@@ -80,7 +82,7 @@ fault_reads packing.Read before = refl
 fault_reads packing.Write before = refl
 fault_reads packing.Memory before = refl
 
-fault_writes : (f : PackFault) (before : ℕ) → failed_writes {X = Unit {0}} (Err f) before
+fault_writes : (f : PackFault) (before : ℕ) → counted {X = Unit {0}} is_bundle_write (Err f) before
     ≡ counted is_write (Told f) before
 fault_writes (packing.Topology f) before = refl
 fault_writes packing.TooLarge before = refl
@@ -89,9 +91,9 @@ fault_writes packing.Write before = refl
 fault_writes packing.Memory before = refl
 
 pub reads_told : (f : PackFault) (r : Result (Unit {0}) RunFault) (before after : ℕ) → IsTold f r
-    → after ≡ failed_files {X = Unit {0}} (Err f) before → after ≡ counted is_read r before
+    → after ≡ counted {X = Unit {0}} is_file_read (Err f) before → after ≡ counted is_read r before
 reads_told f r before after e is = rw (told_is f r e) (is ∙ fault_reads f before)
 
 pub writes_told : (f : PackFault) (r : Result (Unit {0}) RunFault) (before after : ℕ) → IsTold f r
-    → after ≡ failed_writes {X = Unit {0}} (Err f) before → after ≡ counted is_write r before
+    → after ≡ counted {X = Unit {0}} is_bundle_write (Err f) before → after ≡ counted is_write r before
 writes_told f r before after e is = rw (told_is f r e) (is ∙ fault_writes f before)

@@ -20,7 +20,8 @@ use Rattle.mc_run.specs.declared.fault.RunFault.TheVariants.{NoSuchFlow, Read, W
 use Rattle.mc_run.specs.declared.said.Said.{Said}
 use Rattle.mc_run.specs.BundleMeaning.{IsRefusedFor, MeansCertified, MeansDomain}
 use Rattle.mc_run.specs.CheckRun.{IsLineStart, SaysYes, WroteYes}
-use Rattle.mc_run.specs.Failures.{IsNoDeviceFault, counted, is_read, is_write}
+use Rattle.mc_text.specs.Device.{counted}
+use Rattle.mc_run.specs.Failures.{IsNoDeviceFault, is_read, is_write}
 use Rattle.mc_run.specs.OfDomain.{OfDomain}
 use Rattle.mc_run.specs.Said.{Answers, IsSaid, Writes, WritesPart}
 use Rattle.mc_text.proofs.BundleFront.{bundle_of-front}

@@ -1,12 +1,7 @@
 -- What a run does to the number of its devices' calls that failed.
-use Rattle.std.specs.Prelude.{◌≡◌, ℕ, ◌+◌, Bool, true, false, cond, Result, Ok, Err}
+use Rattle.std.specs.Prelude.{◌≡◌, Bool, true, false}
 use Rattle.mc_run.specs.declared.fault.RunFault.{RunFault}
 use Rattle.mc_run.specs.declared.fault.RunFault.TheVariants.{Read, Write}
-
--- a device's count after a call, which rises by one where the call answers a fault of its own
-abbrev pub counted : {X E : Type 0} → (E → Bool) → Result X E → ℕ → ℕ
-counted is_own (Ok x) before = before
-counted is_own (Err e) before = cond (is_own e) (before + 1) before
 
 -- the input, or the files, failed once in a run that answers Read,
 abbrev pub is_read : RunFault → Bool

@@ -24,6 +24,7 @@ pub use Rattle.mc_theory.specs.Certificates
 pub use Rattle.mc_theory.specs.Headline
 pub use Rattle.mc_theory.specs.Reasons as FirstReasons
 pub use Rattle.mc_topology.specs.Topology
+pub use Rattle.mc_layout.specs.Layout
 pub use Rattle.mc_layout.specs.Files
 pub use Rattle.mc_layout.specs.Packing
 pub use Rattle.mc_layout.specs.PackReading

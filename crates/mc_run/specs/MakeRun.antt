@@ -9,7 +9,7 @@ use Rattle.mc_topology.specs.declared.flow.Flow.{Flow}
 use Rattle.mc_topology.specs.Topology.{TopologyValue}
 use Rattle.mc_theory.specs.Certificates.{IsAccepted, IsRight}
 use Rattle.mc_forward.specs.Domains.{DomainValue, net_of}
-use Rattle.mc_domain.specs.Names.{certificate_name}
+use Rattle.mc_layout.specs.Layout.{part_name, certificate_slot}
 use Rattle.mc_cert.specs.Certificate.{Tree, IsEntryOf, IsList}
 use Rattle.mc_cert.specs.CertificateText.{certificate_text}
 use Rattle.mc_replay.specs.TravelText.{finding_text}
@@ -119,4 +119,5 @@ SaysAllRight text all = OfDomain MeansUncertified (λ d. AreRight d all) text
 
 -- the parts of a bundle, and a certificate as one part more
 abbrev pub with_certificate : List PartText → List ℕ → List PartText
-with_certificate parts text = parts ++ (record { name = certificate_name; bytes = text }) ∷ []
+with_certificate parts text =
+    parts ++ (record { name = part_name certificate_slot; bytes = text }) ∷ []

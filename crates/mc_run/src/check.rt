@@ -10,7 +10,8 @@ ghost use Rattle.mc_forward.specs.Domains.{IsDomain};
 ghost use Rattle.mc_run.specs.BundleMeaning.{IsRefusedFor, MeansCertified};
 ghost use Rattle.mc_run.specs.CheckRun.{HeadlineOf, IsTextOfVerdicts, IsVerdictText};
 ghost use Rattle.mc_run.specs.CheckRun.{KeepsHeadline, SaysYes};
-ghost use Rattle.mc_run.specs.Failures.{IsNoDeviceFault, counted, is_read, is_write};
+ghost use Rattle.mc_text.specs.Device.{counted};
+ghost use Rattle.mc_run.specs.Failures.{IsNoDeviceFault, is_read, is_write};
 ghost use Rattle.mc_run.specs.Said.{Answers, Writes, WritesPart};
 
 use crate::domain_input::{MAX_INPUT, domain_in};

@@ -7,7 +7,8 @@ ghost use Rattle.mc_domain.specs.InputView.{certificate_seen};
 ghost use Rattle.mc_text.specs.ReadFault.{ConsumesUpTo};
 ghost use Rattle.mc_text.specs.Bundle.{max_input};
 ghost use Rattle.mc_run.specs.BundleMeaning.{IsRefusedFor, MeansDomain, MeansUncertified};
-ghost use Rattle.mc_run.specs.Failures.{IsNoDeviceFault, counted, is_read, is_write};
+ghost use Rattle.mc_text.specs.Device.{counted};
+ghost use Rattle.mc_run.specs.Failures.{IsNoDeviceFault, is_read, is_write};
 
 use crate::fault::RunFault;
 use mc_domain::{BundleInput, read_input};

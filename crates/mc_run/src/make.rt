@@ -8,7 +8,8 @@ ghost use Rattle.mc_text.specs.ReadFault.{ConsumesUpTo};
 ghost use Rattle.mc_cert.specs.Certificate.{BelongsTo};
 ghost use Rattle.mc_cert.specs.CertificateText.{certificate_text as text_of_certificate};
 ghost use Rattle.mc_run.specs.BundleMeaning.{IsRefusedFor};
-ghost use Rattle.mc_run.specs.Failures.{counted, is_read, is_write};
+ghost use Rattle.mc_text.specs.Device.{counted};
+ghost use Rattle.mc_run.specs.Failures.{is_read, is_write};
 ghost use Rattle.mc_run.specs.MakeRun.{AreMade, IsMadeText, IsTextOfMade, SaysAllRight};
 ghost use Rattle.mc_run.specs.Said.{Answers, Writes, WritesPart};
 

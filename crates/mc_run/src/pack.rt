@@ -5,7 +5,8 @@ ghost use Rattle.mc_text.specs.Bundle.{PartText};
 ghost use Rattle.mc_layout.specs.Files.{FileText};
 ghost use Rattle.mc_layout.specs.Packing.{IsPacked};
 ghost use Rattle.mc_layout.specs.PackRun.{WritesPacked, WritesPartOfPacked};
-ghost use Rattle.mc_run.specs.Failures.{counted, is_read, is_write};
+ghost use Rattle.mc_text.specs.Device.{counted};
+ghost use Rattle.mc_run.specs.Failures.{is_read, is_write};
 ghost use Rattle.mc_run.specs.PackingRun.{AnswersPack, IsOfDevices};
 
 use crate::fault::RunFault;

@@ -1,7 +1,8 @@
 //! What a run has to say, and the saying of it.
 
 ghost use Rattle.std.specs.Prelude.{◌≡◌, ◌≢◌, ◌<◌, ℕ, IfErr, false};
-ghost use Rattle.mc_run.specs.Failures.{counted, is_read, is_write};
+ghost use Rattle.mc_text.specs.Device.{counted};
+ghost use Rattle.mc_run.specs.Failures.{is_read, is_write};
 ghost use Rattle.mc_run.specs.Said.{IsSaid};
 
 use crate::fault::RunFault;

@@ -5,7 +5,8 @@ ghost use Rattle.std.specs.Io.KnownBytes.{Appends};
 ghost use Rattle.mc_igmp.specs.Wants.{Wants};
 ghost use Rattle.mc_text.specs.Lines.{max_text};
 ghost use Rattle.mc_text.specs.ReadFault.{ConsumesUpTo};
-ghost use Rattle.mc_run.specs.Failures.{counted, is_read, is_write};
+ghost use Rattle.mc_text.specs.Device.{counted};
+ghost use Rattle.mc_run.specs.Failures.{is_read, is_write};
 ghost use Rattle.mc_run.specs.WantsRun.{answer_line, Answers, WritesPart};
 
 use crate::fault::RunFault;

@@ -1,10 +1,10 @@
 //! What the checker says of entries that no certificate holds, and of names that no topology has.
 //! The other lists of entries are rows of the command line's tables `check_*`.
 
+use crate::samples::{VIFS, WANTED, with_domain};
 use mc_cert::Reached;
 use mc_check::{Reason, Verdict, check_flow};
 use mc_forward::Domain;
-use crate::samples::{VIFS, WANTED, with_domain};
 use mc_topology::{LanNo, RouterNo, Topology};
 use std::alloc::Global;
 use std::fmt::Write;

@@ -1,10 +1,10 @@
 //! The entries that `make` answers for flows of a small network. What is found of flows that can
 //! have none, the command line's cases and tables show.
 
+use crate::samples::{VIFS, WANTED, with_domain};
 use mc_cert::Reached;
 use mc_forward::Domain;
 use mc_maker::make;
-use crate::samples::{VIFS, WANTED, with_domain};
 use std::alloc::Global;
 use std::fmt::Write;
 use std::process::Abort;

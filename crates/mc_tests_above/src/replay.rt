@@ -1,8 +1,8 @@
 //! Travels by pickers that no command has. The others are cases and rows of the command line's.
 
+use crate::samples::{BESIDE, FORWARDS, WANTED, two_flows, with_domain};
 use mc_forward::Domain;
 use mc_replay::{First, Numbers, Picker, Travel, replay, shown_event};
-use crate::samples::{BESIDE, FORWARDS, WANTED, two_flows, with_domain};
 use mc_topology::Topology;
 use std::alloc::Global;
 use std::fmt::Write;

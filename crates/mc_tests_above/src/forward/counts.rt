@@ -1,7 +1,7 @@
 //! Parts of which no domain is assembled, since their numbers differ.
 
-use mc_forward::{Domain, DomainFault, Refused};
 use crate::samples::{CHAIN, FORWARDS, Parts, WANTED, parts_of};
+use mc_forward::{Domain, DomainFault, Refused};
 use mc_topology::Topology;
 use std::alloc::Global;
 use std::test::Fail;

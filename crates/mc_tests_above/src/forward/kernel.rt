@@ -2,8 +2,8 @@
 //! and which LAN wants what. Where the routers send, the command line's cases show of the same texts
 //! (`make_kernel_texts_*`).
 
-use mc_forward::Domain;
 use crate::samples::{WANTED, with_domain};
+use mc_forward::Domain;
 use mc_topology::{LanNo, RouterNo};
 use std::alloc::Global;
 use std::process::Abort;

@@ -1,8 +1,8 @@
 //! Losses, and orders of handling, in three networks of one domain.
 
 use super::network::*;
-use mc_forward::{Domain, Flight};
 use crate::samples::{VIFS, WANTED, with_domain};
+use mc_forward::{Domain, Flight};
 use std::alloc::Global;
 use std::process::Abort;
 use std::test::Fail;

@@ -4,8 +4,8 @@
 //! left.
 
 use super::network::*;
-use mc_forward::{Carried, Domain, DomainFault, Event, Flight, Outcome, Refused, Stray};
 use crate::samples::{Parts, VIFS, WANTED, assembled, parts_of};
+use mc_forward::{Carried, Domain, DomainFault, Event, Flight, Outcome, Refused, Stray};
 use mc_topology::{LanNo, Topology};
 use std::alloc::{AllocError, Global};
 use std::process::Abort;

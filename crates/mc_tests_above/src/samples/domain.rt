@@ -21,7 +21,11 @@ fn reports_of(alloc: Global, lans: &[&str]) -> Result<Vec<ReportList>, Fail> {
 
 /// The tables of each router's texts, its vifs and its cache, and the reports of each LAN's text.
 /// A cache may go without its header.
-pub(crate) fn parts_of(alloc: Global, routers: &[(&str, &str)], lans: &[&str]) -> Result<Parts, Fail> {
+pub(crate) fn parts_of(
+    alloc: Global,
+    routers: &[(&str, &str)],
+    lans: &[&str],
+) -> Result<Parts, Fail> {
     let tables = tables_of(alloc, routers)?;
     let reports = reports_of(alloc, lans)?;
     Ok((tables, reports))

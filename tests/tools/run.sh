@@ -16,7 +16,7 @@
 #   status     the exit status (without it: 0)
 #   output     where standard output goes: /dev/full, or `closed`
 #   limit      how many blocks of 512 bytes a file may have: as a disk with a quota
-#   term       a file: when it is there, the tool gets a TERM
+#   term       files: when each has something in it, the tool gets a TERM
 #   left/      files that lie there afterwards
 #   gone       the names of what is not there afterwards
 #   disk.size  how much the folder disk/ takes: a disk of its own, with disk.filled KB of other things;
@@ -198,12 +198,14 @@ run_tool() {
     exec $shell "$@" < "$(expected_of "$folder/stdin" "$scratch/empty")" 2> stderr
 }
 
-# Waits for the file, and then ends the tool.
+# Waits for the files, and then ends the tool.
 end_at() {
     tries=0
-    until [ -s "$1" ] || [ "$tries" -gt 100 ]; do
-        tries=$((tries + 1))
-        sleep 0.1
+    for file in $1; do
+        until [ -s "$file" ] || [ "$tries" -gt 100 ]; do
+            tries=$((tries + 1))
+            sleep 0.1
+        done
     done
     kill "$2"
 }

@@ -15,7 +15,8 @@ program has one refusal, on the examples and on a few cases, and what may come o
 Devices that give or take a few bytes at a time change nothing.
 
 TESTS are programs that `rt ci` built of tests. Each of their tests that is about memory, as its module's name or its own
-says, is run with each request for memory refused in turn: it makes the refused call again, and has to pass.
+says, is run with each request for memory refused in turn: it makes the refused call again and passes, or gives up with
+want of memory where it prepares what it calls.
 
 The last line counts the runs: `N passed, M failed`. The status is 0 if none failed and one was run.
 """
@@ -32,6 +33,7 @@ PIECES = (1, 2, 3, 7, 64, 4096)
 MOST_STOPS = 400  # of a long text not every place is tried, but so many, evenly
 NO_MEMORY = (4, b"", b"no memory\n")
 READ_FAILED = (3, b"", b"failed: read\n")
+GAVE_UP = re.compile(rb"error: .*(Memory|AllocError|AllocFailed).*\nthe test failed: its result gives status 1\n\Z")
 ABOUT_MEMORY = re.compile(r"\b(memory|pieces)::|refused_growth")  # what the tests that are run are called
 
 
@@ -76,17 +78,21 @@ class Tried:
         done = subprocess.run(self.whole, input=self.given[:end], capture_output=True, timeout=60, check=False)
         return done.stderr
 
+    def is_allowed(self, found, allowed):
+        """Whether an answer is one of those that may come."""
+        return found in allowed
+
     def fault_of(self, refusal):
         """What is wrong with the answer to a refusal, or nothing."""
         name, value, allowed = refusal
         found = self.run(name, value)
-        if found in allowed:
+        if self.is_allowed(found, allowed):
             return None
         return f"{' '.join(self.whole[1:])}: {name}={value}: {found[0]} {found[1][:80]} {found[2][:80]}"
 
 
 class TriedTest(Tried):
-    """A test, which has to pass whichever request for memory is refused."""
+    """A test, which has to pass whichever request for memory is refused, or to give up with want of memory."""
 
     def __init__(self, program, library, name):
         super().__init__(program, library, [name], None)
@@ -94,6 +100,10 @@ class TriedTest(Tried):
     def refusals(self):
         for growth in range(1, self.growths + 1):
             yield "REFUSE_GROWTH", growth, (self.answer,) if self.answer[0] == 0 else ()
+
+    def is_allowed(self, found, allowed):
+        status, output, error = found
+        return super().is_allowed(found, allowed) or (status == 101 and not output and bool(GAVE_UP.match(error)))
 
 
 def tests_about_memory(program, library):

@@ -9,7 +9,9 @@ It runs at the top of the repository, over what `rt check` and `rt lib` left the
 An edit has the form that `rt` reads (`rt doc`). It changes the body of one function, or a definition
 of specs/ that a law pins, and counts as refused only where a goal of this function is not proved. A check goes on past a refused function
 and holds its callers to its contract, so edits of different functions are tried in one copy of
-the crate. One that the check says nothing of is tried alone. Two lines more can stand in an edit:
+the crate, and there the bodies of all other functions are cut, since a goal rests on the contract of
+what is called and never on its body. One that such a check says nothing of is tried alone, in a
+whole copy. Two lines more can stand in an edit:
 
   fn: PATH       the function, where the edit changes text outside of bodies, as a definition (such an
                  edit is tried alone), or where the prover names the function otherwise than its
@@ -70,23 +72,28 @@ def owner_name(head):
     return kind + "".join(re.findall(r"\w+", trait))
 
 
-def function_around(path, text, first, last):
-    """Returns the function in whose body all of a part of a file stands, or None."""
-    found = None
+def functions_of(path, text):
+    """Returns the functions of a file: of each its name as the prover says it, its head, and where its body stands."""
+    found = []
     heads = list(HEAD.finditer(text))
     for head, before in zip(heads, [*(it.start() for it in heads[1:]), len(text)]):
         depth = head[1]
         opening = re.compile(rf"^{depth}(?:\S.*)?{{$", re.M).search(text, head.start(), before)
-        if opening:
-            end = text.find(f"\n{depth}}}", opening.end())
-            found = head if opening.end() <= first and last <= end else found
-    if not found:
-        return None
-    names = [it for it in path[4:-3].split("/") if it not in ("lib", "main")]
-    if found[1]:
-        owners = [it for it in OWNER.finditer(text, 0, found.start()) if len(it[1]) < len(found[1])]
-        names.append(owner_name(owners[-1][2]))
-    return "::".join([*names, found[2]])
+        if not opening:
+            continue
+        names = [it for it in path[4:-3].split("/") if it not in ("lib", "main")]
+        if depth:
+            owners = [it for it in OWNER.finditer(text, 0, head.start()) if len(it[1]) < len(depth)]
+            names.append(owner_name(owners[-1][2]))
+        body = opening.end(), text.find(f"\n{depth}}}", opening.end())
+        found.append(("::".join([*names, head[2]]), head, body))
+    return found
+
+
+def function_around(path, text, first, last):
+    """Returns the function in whose body all of a part of a file stands, or None."""
+    around = [name for name, _, body in functions_of(path, text) if body[0] <= first and last <= body[1]]
+    return around[-1] if around else None
 
 
 def changed_functions(folder, texts):
@@ -101,6 +108,48 @@ def changed_functions(folder, texts):
     return found
 
 
+# --- The functions that no edit of a check changes ---
+
+TACTICS = re.compile(r"\n *#\[tactic\((?:[^()]|\([^()]*\))*\)\]\n\Z")
+
+
+def cut_others(folder, edited):
+    """Cuts the bodies of a copy's functions that are not edited, and takes their proofs away.
+
+    What calls such a function is judged by its contract alone, as it is beside a whole one, so its body and
+    its proof, which is the dear part, needn't be read. Left whole are those in whose proofs another
+    looks, and those that the compiler may run."""
+    proofs = {file: text_of(file) for file in antt_files(f"{folder}/proofs")}
+    for base, _, names in os.walk(f"{folder}/src"):
+        for file in (f"{base}/{it}" for it in names if it.endswith(".rt")):
+            text = text_of(file)
+            for name, head, body in reversed(functions_of(os.path.relpath(file, folder), text)):
+                own = f"{folder}/proofs/{name.replace('::', '/')}/"
+                is_named = any(f".proofs.{name.replace('::', '.')}." in it for at, it in proofs.items() if not at.startswith(own))
+                if name not in edited and not is_named and is_cut_off(text, head, body):
+                    text = cut_body(text, head, body)
+                    shutil.rmtree(own, ignore_errors=True)
+            with open(file, "w", encoding="utf-8") as opened:
+                opened.write(text)
+
+
+def antt_files(folder):
+    return [f"{base}/{it}" for base, _, names in os.walk(folder) for it in names if it.endswith(".antt")]
+
+
+def is_cut_off(text, head, body):
+    """Returns whether a function's body can go: it has one, the compiler runs it not, and no trait hands it on."""
+    owners = [it for it in OWNER.finditer(text, 0, head.start()) if len(it[1]) < len(head[1])]
+    is_of_trait = bool(owners) and "trait" in owners[-1][0].split()[:2]
+    return bool(text[body[0]:body[1]].strip()) and "const fn" not in head[0] and not is_of_trait
+
+
+def cut_body(text, head, body):
+    before = TACTICS.sub("\n", text[:head.start()])
+    kept = text[head.start():body[0]]
+    return f"{before}{head[1]}#[tactic(none)]\n{kept}\n{head[1]}    unreachable!(){text[body[1]:]}"
+
+
 class Edit:
     """An edit of a crate, and what is asked of it."""
 
@@ -111,7 +160,7 @@ class Edit:
         said = {key: value.strip() for key, _, value in lines if key in ("fn", "clause")}
         hit = changed_functions(crate.folder, texts) if texts else {""}
         self.clause, self.is_alone = said.get("clause"), None in hit or len(hit) > 1
-        self.function = f"{crate.name}::{said.get('fn') or next(iter(hit), None)}"
+        self.function, self.places = f"{crate.name}::{said.get('fn') or next(iter(hit), None)}", hit
         if not hit:
             self.fault = "it changes nothing"
         elif any(not path.startswith(("src/", "specs/")) for path in texts or ()):
@@ -157,6 +206,11 @@ class Said:
                 goals.append(goal)
         return goals
 
+    def has_stray_errors(self, edits):
+        """Returns whether a proof fails that is not one of the functions that these edits change."""
+        own = tuple(f"proofs/{it.function.partition('::')[2].replace('::', '/')}" for it in edits)
+        return any(not path.startswith(own) for path, _, _ in self.errors)
+
     def refusal(self, edit):
         """Returns the goals that refuse an edit as it asks, in a few words, or nothing."""
         goals = self.refused_goals(edit.function)
@@ -191,13 +245,14 @@ class Crate:
     def __init__(self, made, home, room):
         self.made, self.name, self.folder = made, made.name, made.folder
         self.kept, self.cost = f"{room}/{made.name}", 0.0
+        self.has_kept = os.path.isdir(f"{made.folder}/out/incremental")
         files, strange = rt.edits_of(types.SimpleNamespace(folder=home))
         self.edits = [Edit(made, it) for it in files]
         self.strange = [os.path.basename(it) for it in strange]
 
     def prepare(self):
         """Takes over kept work, and returns why the crate's edits can't be tried, if they can't."""
-        if os.path.isdir(f"{self.folder}/out/incremental"):
+        if self.has_kept:
             shutil.copytree(f"{self.folder}/out/incremental", self.kept)
         os.makedirs(self.kept, exist_ok=True)
         for below in self.made.below():
@@ -207,13 +262,15 @@ class Crate:
             return "the crate itself is not proved"
         return None
 
-    def check(self, edits):
-        """Checks a copy of the crate with these edits, over a copy of what is kept."""
+    def check(self, edits, is_cut=False):
+        """Checks a copy of the crate with these edits, over a copy of what is kept; cut, with no other body."""
         with tempfile.TemporaryDirectory(dir=os.path.dirname(self.kept)) as room:
             shutil.copytree(self.kept, f"{room}/out")
             for part in rt.rtlib.PARTS:
                 if os.path.isdir(f"{self.folder}/{part}"):
                     shutil.copytree(f"{self.folder}/{part}", f"{room}/{part}")
+            if is_cut:
+                cut_others(room, {name for it in edits for name in [*it.places, it.function.partition("::")[2]]})
             for edit in edits:
                 # (one that doesn't fit beside the others is then tried alone)
                 for path, text in (rt.read_edit(edit.file, room)[0] or {}).items():
@@ -252,6 +309,17 @@ class Crate:
                 if not is_edited and not os.path.exists(f"{to}/{name}"):
                     os.rename(f"{folder}/{name}", f"{to}/{name}")
 
+    def judge_cut(self, edits):
+        """Tries edits in one check, the other bodies cut; what that doesn't refuse is tried alone, beside whole ones."""
+        said = self.check(edits, is_cut=True)
+        if not said.reached_prover or said.has_stray_errors(edits):
+            return self.judge(edits)
+        tried = [(it, said.refusal(it)) for it in edits]
+        found = [(edit, True, goals) for edit, goals in tried if goals]
+        for edit in (it for it, goals in tried if not goals):
+            found += self.judge([edit])
+        return found
+
     def judge(self, edits):
         """Tries edits in one check. Returns each with whether it is refused, and by what."""
         said = self.check(edits)
@@ -278,7 +346,9 @@ class Crate:
         if good and (why := self.prepare()):
             return [*found, *((it.name, False, f"NOT TRIED: {why}") for it in good)]
         for group in groups_of(good):
-            found += [(edit.name, refused, why) for edit, refused, why in self.judge(group)]
+            # (where whole bodies are kept, they cost less than cut ones)
+            judge = self.judge if self.has_kept or group[0].is_alone else self.judge_cut
+            found += [(edit.name, refused, why) for edit, refused, why in judge(group)]
         shutil.rmtree(self.kept, ignore_errors=True)
         return found
 

@@ -1,5 +1,5 @@
 -- The files of a folder, as a source of files tells them, and what a call of the source answers.
-use Rattle.std.specs.Prelude.{◌≡◌, ℕ, ◌<◌, Bool, true, false, List, [], ◌++◌, codes, find, length}
+use Rattle.std.specs.Prelude.{◌≡◌, ℕ, ◌<◌, Bool, true, false, List, find, length}
 use Rattle.std.specs.Prelude.{Option, option_map, Some, None, Result, Ok, Err, ⊤}
 use denote.Ref.{Bor}
 use Rattle.std.specs.Str.{bytes_eq}
@@ -51,11 +51,6 @@ pub record FilesState : Type 0 where
 -- a name and bytes that lie in memory, as a file
 abbrev pub file_text : Bor (List ℕ) × Bor (List ℕ) → FileText
 file_text file = record { name = file.0.now; bytes = file.1.now }
-
--- the path of a file in a folder, whose own path is empty for the present directory
-abbrev pub path_in : List ℕ → List ℕ → List ℕ
-path_in [] name = name
-path_in folder name = folder ++ (codes "/" ++ name)
 
 -- why an input wasn't read, as a file's fault
 abbrev pub of_reading : ReadFault → FileFault

@@ -1,15 +1,14 @@
 //! The files of a folder of the file system.
 
 ghost use Rattle.std.specs.Prelude.{◌≡◌, ◌≤◌, IfOk, None, vec_len};
-ghost use Rattle.std.specs.String.{string_bytes};
-ghost use Rattle.mc_layout.specs.Files.{path_in};
 
 use crate::fault::FileFault;
 use crate::source::FileSource;
 use mc_text::{FromReader, ReadFault, read_to_limit};
-use std::alloc::{AllocError, Global};
+use std::alloc::Global;
 use std::fs;
 use std::marker::Model;
+use std::path::Path;
 use std::rt::Files;
 
 /// A source over a folder of the file system. It tells no files.
@@ -43,22 +42,11 @@ impl<'a, R: Files> Folder<'a, R> {
     }
 }
 
-/// The path of a file in a folder.
-fn path_of(alloc: Global, folder: &str, name: &str) -> Result<String, AllocError>
-    ensures { IfOk result (λ path. string_bytes path ≡ path_in folder.now name.now) }
-{
-    if folder.is_empty() {
-        String::from_str(alloc, name)
-    } else {
-        format!(in alloc; "{folder}/{name}")
-    }
-}
-
 /// The bytes of the file at a path. No more is read of it than its limit and a byte.
 fn bytes_at<R: Files>(
     alloc: Global,
     system: &R,
-    path: &str,
+    path: Path<'_>,
     limit: usize,
 ) -> Result<Vec<u8>, FileFault>
     ensures bound { IfOk result (λ bytes. vec_len bytes ≤ limit) }
@@ -86,7 +74,8 @@ fn bytes_in<R: Files>(
     if name.as_bytes().contains(&b'/') {
         return Err(FileFault::Failed);
     }
-    bytes_at(alloc, system, &path_of(alloc, folder, name)?, limit)
+    let path = Path::new(folder).join(alloc, name)?;
+    bytes_at(alloc, system, path.as_path(), limit)
 }
 
 impl<'a, R: Files> FileSource for Folder<'a, R> {

@@ -9,7 +9,7 @@ use Rattle.mc_forward.specs.Domains.{TablesValue}
 use Rattle.mc_domain.specs.Input.{InputValue, InputStands, PartsStand, TellReports, TellTables}
 use Rattle.mc_domain.specs.InputView.{certificate_seen, input_value}
 use Rattle.mc_domain.specs.declared.fault.InputFault.{InputFault}
-use Rattle.mc_domain.specs.declared.input.BundleInput.{BundleInput}
+use Rattle.mc_domain.specs.declared.contents.Contents.{Contents}
 
 reports_count : (lans : List (List ℕ)) (here : List PartText) (all : List (List Record))
     (rest : List PartText)
@@ -41,7 +41,7 @@ counted parts v c stand = record {
 }
 
 -- and what was read of a bundle
-pub read_counted : (text : List ℕ) (r : Result BundleInput InputFault)
+pub read_counted : (text : List ℕ) (r : Result Contents InputFault)
     → IfOk r (λ i. InputStands text (input_value i) (certificate_seen i.certificate))
     → IfOk r (λ i. AreCounted i.topology i.tables.items i.reports.items)
 read_counted text (Ok i) stands =

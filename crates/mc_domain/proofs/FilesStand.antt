@@ -10,11 +10,11 @@ use Rattle.mc_layout.specs.Layout.{Slot, slots}
 use Rattle.mc_layout.specs.Packing.{ArePacked}
 use Rattle.mc_layout.proofs.PartLemmas.{IsSmall, refused_ok, part_takes, part_again}
 use Rattle.mc_domain.specs.Input.{InputValue}
-use Rattle.mc_domain.specs.InputView.{files_value}
+use Rattle.mc_domain.specs.InputView.{input_value}
 use Rattle.mc_domain.specs.FilesFault.{Gives, of_file}
 use Rattle.mc_domain.specs.FilesInput.{FilesStand}
 use Rattle.mc_domain.specs.FilesReading.{part_filed, files_of}
-use Rattle.mc_domain.specs.declared.files.FilesInput.{FilesInput}
+use Rattle.mc_domain.specs.declared.contents.Contents.{Contents}
 use Rattle.mc_domain.specs.declared.files_fault.FilesFault.{FilesFault}
 use Rattle.mc_domain.specs.declared.files_fault.FilesFault.TheVariants.{Input}
 use Rattle.mc_domain.proofs.ServedLemmas.{Serves, Names, served_take, served_again}
@@ -65,23 +65,23 @@ files_again files v h =
 -- ---- what a call answers
 
 -- what was read of the files, they stand for
-pub read_stands : (told : Option (List FileText)) (r : Result FilesInput FilesFault)
-    → ((files : List FileText) → told ≡ Some files → Gives files_value r (files_of files))
-    → IfOk r (λ input. IfSome told (λ files. FilesStand files (files_value input)))
+pub read_stands : (told : Option (List FileText)) (r : Result Contents FilesFault)
+    → ((files : List FileText) → told ≡ Some files → Gives input_value r (files_of files))
+    → IfOk r (λ input. IfSome told (λ files. FilesStand files (input_value input)))
 read_stands None r given = none r
   where
-    none : (r : Result FilesInput FilesFault)
+    none : (r : Result Contents FilesFault)
         → IfOk r (λ input. IfSome None (λ (files : List FileText). FilesStand files
-        (files_value input)))
+        (input_value input)))
     none (Ok input) = tt
     none (Err fault) = tt
-read_stands (Some files) (Ok input) given = files_take files (files_value input) (given files refl)
+read_stands (Some files) (Ok input) given = files_take files (input_value input) (given files refl)
 read_stands (Some files) (Err fault) given = tt
 
 -- and files that stand for an input are read as that
-pub read_again : (told : Option (List FileText)) (r : Result FilesInput FilesFault)
-    → ((files : List FileText) → told ≡ Some files → Gives files_value r (files_of files))
+pub read_again : (told : Option (List FileText)) (r : Result Contents FilesFault)
+    → ((files : List FileText) → told ≡ Some files → Gives input_value r (files_of files))
     → (files : List FileText) (v : InputValue) → told ≡ Some files → FilesStand files v
-    → Gives files_value r (Ok v)
+    → Gives input_value r (Ok v)
 read_again told r given files v is stands =
-    subst (Gives files_value r) (files_again files v stands) (given files is)
+    subst (Gives input_value r) (files_again files v stands) (given files is)

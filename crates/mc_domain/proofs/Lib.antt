@@ -1,8 +1,11 @@
 mod BundleStand
-pub mod Counted
+mod Counted
 mod FilesLemmas
 mod FilesStand
-pub mod OneInput
+pub mod OneDomain
+mod OneInput
 mod ReadLemmas
 mod ReadingLemmas
 mod ServedLemmas
+pub mod WholeText
+pub mod WithCertificate

@@ -7,7 +7,7 @@ use Rattle.mc_text.specs.Steps.{refused_as}
 use Rattle.mc_text.proofs.BundleLaws.{bundle_takes, bundle_again}
 use Rattle.mc_domain.specs.declared.fault.InputFault.{InputFault}
 use Rattle.mc_domain.specs.declared.fault.InputFault.TheVariants.{Bundle, Memory}
-use Rattle.mc_domain.specs.declared.input.BundleInput.{BundleInput}
+use Rattle.mc_domain.specs.declared.contents.Contents.{Contents}
 use Rattle.mc_domain.specs.Input.{InputValue, InputStands, PartsStand}
 use Rattle.mc_domain.specs.InputReading.{Gives, certificate_in, input_in}
 use Rattle.mc_domain.specs.InputView.{input_value, input_seen, certificate_seen}
@@ -15,13 +15,13 @@ use Rattle.mc_layout.proofs.PartLemmas.{refused_ok}
 use Rattle.mc_domain.proofs.BundleStand.{parts_take, parts_again}
 
 -- what was read of the parts, with the text of the last one as the certificate
-abbrev pub Certifies : Bool → List PartText → BundleInput → Type 0
+abbrev pub Certifies : Bool → List PartText → Contents → Type 0
 Certifies certified parts i = certificate_seen i.certificate
     ≡ certificate_in certified parts i.topology
 
 -- what the parts of a bundle were read as, the bundle stands for
 pub read_found : (certified : Bool) (text : List ℕ) (parts : List PartText)
-    (r : Result BundleInput InputFault) → refused_as Bundle (bundle_of text) ≡ Ok parts
+    (r : Result Contents InputFault) → refused_as Bundle (bundle_of text) ≡ Ok parts
     → Gives input_value r (input_in certified parts) → IfOk r (Certifies certified parts)
     → IfOk r (λ i. InputStands text (input_value i) (certificate_seen i.certificate))
 read_found certified text parts (Ok i) whole given last =
@@ -56,7 +56,7 @@ parts_refused certified text parts fault whole refused value certificate is h =
 
 -- and what a bundle stands for is what its parts are read as
 pub read_only : (certified : Bool) (text : List ℕ) (parts : List PartText)
-    (r : Result BundleInput InputFault) → refused_as Bundle (bundle_of text) ≡ Ok parts
+    (r : Result Contents InputFault) → refused_as Bundle (bundle_of text) ≡ Ok parts
     → Gives input_value r (input_in certified parts) → IfOk r (Certifies certified parts)
     → (value : InputValue) (certificate : Option (List ℕ)) → is_some certificate ≡ certified
     → InputStands text value certificate → Gives input_seen r (Ok (value, certificate))

@@ -1,6 +1,6 @@
 -- What a bundle stands for: a topology, the tables of each router, the reports of each LAN, and the
 -- text of the certificate where one is to be there.
-use Rattle.std.specs.Prelude.{◌≡◌, ℕ, List, [], ◌∷◌, Option, Some, None}
+use Rattle.std.specs.Prelude.{◌≡◌, ℕ, List, [], ◌∷◌, ◌++◌, Option, Some, None}
 use Rattle.mc_text.specs.Bundle.{PartText, IsBundle}
 use Rattle.mc_tables.specs.VifTable.{StandsForVifs}
 use Rattle.mc_tables.specs.CacheTable.{StandsForCache}
@@ -72,3 +72,8 @@ pub record InputStands (text : List ℕ) (input : InputValue) (certificate : Opt
     pub parts : List PartText
     pub bundle : IsBundle text parts
     pub stand : PartsStand parts input certificate
+
+-- the parts of a bundle, and a certificate as one part more
+abbrev pub with_certificate : List PartText → List ℕ → List PartText
+with_certificate parts text =
+    parts ++ (record { name = part_name certificate_slot; bytes = text }) ∷ []

@@ -5,6 +5,7 @@ pub mod PartsReading
 pub mod FilesFault
 pub mod FilesInput
 pub mod FilesReading
+pub mod Meaning
 pub use Rattle.mc_text.specs.Bundle
 pub use Rattle.mc_text.specs.BundleReading
 pub use Rattle.mc_layout.specs.Files

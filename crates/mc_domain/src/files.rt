@@ -10,32 +10,20 @@ ghost use Rattle.mc_domain.specs.FilesFault.{Gives, GivesOf, is_read};
 ghost use Rattle.mc_domain.specs.FilesInput.{FilesStand};
 ghost use Rattle.mc_domain.specs.FilesReading.{files_of, part_filed};
 ghost use Rattle.mc_domain.specs.Input.{InputValue};
-ghost use Rattle.mc_domain.specs.InputView.{contents_value, files_value};
+ghost use Rattle.mc_domain.specs.InputView.{input_value, input_with};
 ghost use Rattle.mc_domain.specs.PartsReading.{all_reports, all_tables, contents, lans_number};
 ghost use Rattle.mc_domain.specs.PartsReading.{router_tables};
 ghost use Rattle.mc_domain.specs.declared.files_fault.FilesFault.TheVariants.{Input};
 
+use crate::contents::Contents;
 use crate::file_part::{cache_in, reports_in, topology_in, vifs_in};
 use crate::files_fault::FilesFault;
-use crate::input::Contents;
 use mc_forward::Tables;
 use mc_igmp::ReportList;
 use mc_layout::FileSource;
 use mc_text::Order;
 use mc_topology::{LanNo, RouterNo, Topology};
 use std::alloc::Global;
-
-/// What a folder's files tell: the topology, and in its order the tables of each router and the
-/// report list of each LAN.
-#[derive(Debug, Drop)]
-pub struct FilesInput {
-    /// The topology.
-    pub topology: Topology,
-    /// The kernel tables of each router.
-    pub tables: Vec<Tables>,
-    /// The report list of each LAN.
-    pub reports: Vec<ReportList>,
-}
 
 /// Both tables of a router.
 #[tactic(auto, unfolding(crate::specs::PartsReading::router_tables))]
@@ -110,19 +98,19 @@ fn contents_in<F: FileSource>(
     alloc: Global,
     files: &mut F,
     topology: &Topology,
-) -> Result<Contents, FilesFault>
+) -> Result<(Vec<Tables>, Vec<ReportList>), FilesFault>
     requires reads { F.failed files.old < u64.MAX }
     ensures same { F.names files.new ≡ F.names files.old }
     ensures kept { F.told files.new ≡ F.told files.old }
-    ensures contents { GivesOf (F.told files.old) (contents_value topology.now) result
+    ensures contents { GivesOf (F.told files.old)
+        (λ told. input_with topology.now told.0.items told.1.items) result
         (λ told. contents Input (part_filed told) topology.now) }
-    ensures counted { IfOk result (λ contents.
-        AreCounted topology.now contents.tables.items contents.reports.items) }
+    ensures counted { IfOk result (λ told. AreCounted topology.now told.0.items told.1.items) }
     ensures failures { F.failed files.new ≡ counted is_read result (F.failed files.old) }
 {
     let tables = tables_in(alloc, files, topology)?;
     let reports = reports_of_lans(alloc, files, topology)?;
-    Ok(Contents { tables, reports })
+    Ok((tables, reports))
 }
 
 /// Reads what a folder's files tell of a domain: `topology`, `vif-<router>` and `cache-<router>`
@@ -135,29 +123,33 @@ fn contents_in<F: FileSource>(
 /// The first fault in this order: `Read` where a file isn't there or can't be read, `TooLarge`
 /// where it has too many bytes, and `Input` with what is wrong in it. Or `Input` with `Memory`.
 #[tactic(auto, unfolding(crate::specs::PartsReading::reading))]
-pub fn read_files<F: FileSource>(alloc: Global, files: &mut F) -> Result<FilesInput, FilesFault>
+pub fn read_files<F: FileSource>(
+    alloc: Global,
+    files: &mut F,
+) -> Result<Contents<'static>, FilesFault>
     requires reads { F.failed files.old < u64.MAX }
     ensures same { F.names files.new ≡ F.names files.old }
     ensures kept { F.told files.new ≡ F.told files.old }
     // What is read is what the files stand for.
     ensures found { IfOk result (λ input.
-        IfSome (F.told files.old) (λ told. FilesStand told (files_value input))) }
+        IfSome (F.told files.old) (λ told. FilesStand told (input_value input))) }
     // There are tables for each router and a report list for each LAN.
     ensures counted { IfOk result (λ input.
         AreCounted input.topology input.tables.items input.reports.items) }
     // Files that stand for an input are read as that, unless the source fails or memory runs out.
     ensures only { (told : List FileText) (value : InputValue) → F.told files.old ≡ Some told
-        → FilesStand told value → Gives files_value result (Ok value) }
+        → FilesStand told value → Gives input_value result (Ok value) }
     // Which fault it is.
-    ensures fault { GivesOf (F.told files.old) files_value result files_of }
+    ensures fault { GivesOf (F.told files.old) input_value result files_of }
     // Read comes only where the source's failures rose in the call.
     ensures failures { F.failed files.new ≡ counted is_read result (F.failed files.old) }
 {
     let topology = topology_in(alloc, files)?;
     let contents = contents_in(alloc, files, &topology)?;
-    Ok(FilesInput {
+    Ok(Contents {
         topology,
-        tables: contents.tables,
-        reports: contents.reports,
+        tables: contents.0,
+        reports: contents.1,
+        certificate: None,
     })
 }

@@ -10,13 +10,13 @@ ghost use Rattle.mc_forward.specs.Assembling.{AreCounted};
 ghost use Rattle.mc_domain.specs.Input.{InputValue, InputStands};
 ghost use Rattle.mc_domain.specs.InputReading.{Gives, certificate_in, input_in as input_in_parts};
 ghost use Rattle.mc_domain.specs.InputReading.{input_of, part_named};
-ghost use Rattle.mc_domain.specs.InputView.{certificate_seen, contents_value, input_seen};
-ghost use Rattle.mc_domain.specs.InputView.{input_value};
+ghost use Rattle.mc_domain.specs.InputView.{certificate_seen, input_seen, input_value, input_with};
 ghost use Rattle.mc_domain.specs.PartsReading.{all_reports, all_tables, contents, lans_number};
 ghost use Rattle.mc_domain.specs.PartsReading.{router_tables};
 ghost use Rattle.mc_domain.specs.declared.fault.InputFault.TheVariants.{Bundle as bundle_fault};
 
 use crate::bundle_part::{cache_in, names_in, reports_in, topology_in, vifs_in};
+use crate::contents::Contents;
 use crate::fault::InputFault;
 use mc_forward::Tables;
 use mc_igmp::ReportList;
@@ -24,28 +24,6 @@ use mc_layout::slot_count;
 use mc_text::{Bundle, BundleFault, Order};
 use mc_topology::{LanNo, RouterNo, Topology};
 use std::alloc::Global;
-
-/// What a bundle tells: the topology, and in its order the tables of each router and the report
-/// list of each LAN. Then the text of the certificate, where one was asked for.
-#[derive(Debug, Drop)]
-pub struct BundleInput<'a> {
-    /// The topology.
-    pub topology: Topology,
-    /// The kernel tables of each router.
-    pub tables: Vec<Tables>,
-    /// The report list of each LAN.
-    pub reports: Vec<ReportList>,
-    /// The text of the certificate.
-    pub certificate: Option<&'a [u8]>,
-}
-
-/// What is told beside the topology: in its order the tables of each router and the report list of
-/// each LAN.
-#[derive(Drop)]
-pub(crate) struct Contents {
-    pub(crate) tables: Vec<Tables>,
-    pub(crate) reports: Vec<ReportList>,
-}
 
 /// Both tables of a router, in the part with a number and the next.
 #[tactic(auto, unfolding(crate::specs::PartsReading::router_tables))]
@@ -109,13 +87,13 @@ fn contents_in(
     alloc: Global,
     bundle: &Bundle<'_>,
     topology: &Topology,
-) -> Result<Contents, InputFault>
-    ensures contents { Gives (contents_value topology.now) result
+) -> Result<(Vec<Tables>, Vec<ReportList>), InputFault>
+    ensures contents { Gives (λ told. input_with topology.now told.0.items told.1.items) result
         (contents (λ fault. fault) (part_named bundle.now) topology.now) }
 {
     let tables = tables_in(alloc, bundle, topology)?;
     let reports = reports_of_lans(alloc, bundle, topology)?;
-    Ok(Contents { tables, reports })
+    Ok((tables, reports))
 }
 
 /// The text of the certificate, in the last part, where one is to be there.
@@ -130,28 +108,6 @@ fn certificate_of<'a>(bundle: &Bundle<'a>, topology: &Topology, certified: bool)
     None
 }
 
-/// The input with this topology and these contents, and with the certificate where one is to be
-/// there.
-fn input_with<'a>(
-    bundle: &Bundle<'a>,
-    topology: Topology,
-    contents: Contents,
-    certified: bool,
-) -> BundleInput<'a>
-    requires count { length bundle.now ≡ length (slots certified topology) }
-    ensures input { input_value result ≡ contents_value topology contents }
-    ensures certificate { certificate_seen result.certificate ≡
-        certificate_in certified bundle.now topology }
-{
-    let certificate = certificate_of(bundle, &topology, certified);
-    BundleInput {
-        topology,
-        tables: contents.tables,
-        reports: contents.reports,
-        certificate,
-    }
-}
-
 /// What the parts tell: first the topology, then the names and the number of all parts, and then
 /// their contents.
 #[tactic(auto, unfolding(crate::specs::PartsReading::reading))]
@@ -159,7 +115,7 @@ fn input_in<'a>(
     alloc: Global,
     bundle: &Bundle<'a>,
     certified: bool,
-) -> Result<BundleInput<'a>, InputFault>
+) -> Result<Contents<'a>, InputFault>
     ensures input { Gives input_value result (input_in_parts certified bundle.now) }
     ensures certificate { IfOk result (λ input. certificate_seen input.certificate ≡
         certificate_in certified bundle.now input.topology) }
@@ -169,7 +125,13 @@ fn input_in<'a>(
     let topology = topology_in(alloc, bundle)?;
     names_in(bundle, &topology, certified)?;
     let contents = contents_in(alloc, bundle, &topology)?;
-    Ok(input_with(bundle, topology, contents, certified))
+    let certificate = certificate_of(bundle, &topology, certified);
+    Ok(Contents {
+        topology,
+        tables: contents.0,
+        reports: contents.1,
+        certificate,
+    })
 }
 
 /// The parts of a bundle.
@@ -197,7 +159,7 @@ pub fn read_input<'a>(
     alloc: Global,
     text: &'a [u8],
     certified: bool,
-) -> Result<BundleInput<'a>, InputFault>
+) -> Result<Contents<'a>, InputFault>
     // What is read is what the bundle stands for.
     ensures found { IfOk result (λ input.
         InputStands text.now (input_value input) (certificate_seen input.certificate)) }

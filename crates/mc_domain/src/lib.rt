@@ -1,8 +1,10 @@
 //! What a run is handed: a domain's texts, as the parts of one bundle or as the files of a folder,
-//! each by its reader, in the one order in which they are judged.
+//! each by its reader, in the one order in which they are judged, and the domain that they mean.
 #![tactic(auto)]
 
 mod bundle_part;
+mod contents;
+mod domain;
 mod fault;
 mod file_part;
 mod files;
@@ -11,10 +13,12 @@ mod input;
 mod laws;
 mod told;
 
+pub use contents::Contents;
+pub use domain::{DomainRead, domain_in, domain_of};
 pub use fault::InputFault;
-pub use files::{FilesInput, read_files};
+pub use files::read_files;
 pub use files_fault::FilesFault;
-pub use input::{BundleInput, read_input};
+pub use input::read_input;
 pub use laws::{
     files_stand_for_one_input, packed_files_stand_for_their_input, texts_stand_for_one_input,
 };

@@ -12,6 +12,7 @@ use Rattle.mc_topology.specs.Topology.{TopologyValue}
 use Rattle.mc_theory.specs.Certificates.{IsAccepted}
 use Rattle.mc_theory.specs.Headline.{HeadlineHolds}
 use Rattle.mc_forward.specs.Domains.{DomainValue, net_of}
+use Rattle.mc_forward.proofs.EachLemmas.{some-at}
 use Rattle.mc_cert.specs.declared.reached.Reached.{Reached}
 use Rattle.mc_cert.specs.Certificate.{Tree}
 use Rattle.mc_check.specs.Verdicts.{HasCopies, is_yes}
@@ -25,7 +26,6 @@ use Rattle.mc_run.specs.AuditRun.{IsChecked, IsFlowAudited}
 use Rattle.mc_run.specs.AuditRun.{events_told, flow_told, flows_told}
 use Rattle.mc_run.specs.MakeRun.{IsExamined, are_certified, found_lines}
 use Rattle.mc_run.specs.VerdictText.{flow_line}
-use Rattle.mc_run.proofs.MakeLemmas.{at}
 
 -- ---- one flow
 
@@ -79,7 +79,7 @@ flow_certified d flow travels (Ok certified) x entries seen old new lt is same l
     let here = subst (λ (y : Examined). IsExamined d flow y) same is in
     let right : certified ≡ true =
     accepted.1 (subst (λ (es : Tree). IsAccepted n es) (sym list) here.accepted) in
-    let f = at d.topology.flows flow lt in
+    let f = some-at d.topology.flows flow lt in
     record {
       listed = f.0;
       examined = Certified entries;

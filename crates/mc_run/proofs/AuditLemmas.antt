@@ -11,6 +11,7 @@ use Rattle.mc_topology.specs.Topology.{TopologyValue}
 use Rattle.mc_theory.specs.Certificates.{IsRight}
 use Rattle.mc_theory.specs.Headline.{HeadlineHolds}
 use Rattle.mc_forward.specs.Domains.{DomainValue, net_of}
+use Rattle.mc_forward.proofs.EachLemmas.{some-at}
 use Rattle.mc_cert.specs.Certificate.{Tree, tree_at}
 use Rattle.mc_maker.specs.Examined.{IfCertified, is_certified}
 use Rattle.mc_maker.specs.declared.examination.Examined.{Examined}
@@ -19,13 +20,13 @@ use Rattle.mc_run.specs.AuditRun.{AreChecked, HeadlineOf, IsAudited, IsAuditText
 use Rattle.mc_run.specs.AuditRun.{KeepsByLists, SaysFlowRight, SaysOfEach, SaysWhatIsFound}
 use Rattle.mc_run.specs.AuditRun.{SaysWhichAreRight, SaysYesOf, TellsOfEach}
 use Rattle.mc_run.specs.AuditRun.{TellsWhichAreRight, events_told, flow_told, flows_told}
-use Rattle.mc_run.specs.FilesMeaning.{MeansFiles}
+use Rattle.mc_domain.specs.Meaning.{MeansFiles}
 use Rattle.mc_run.specs.MakeRun.{AreExamined, AreRight, are_certified, found_line, lists_of}
 use Rattle.mc_run.specs.MakeRun.{no_certificate_line}
 use Rattle.mc_run.specs.VerdictText.{last_line}
 use Rattle.mc_run.specs.declared.fault.RunFault.{RunFault}
 use Rattle.mc_run.specs.declared.said.Said.{Said}
-use Rattle.mc_run.proofs.MakeLemmas.{at, certified_right}
+use Rattle.mc_run.proofs.MakeLemmas.{certified_right}
 use Rattle.mc_run.proofs.RunLemmas.{AreSaid, more_meant, said_so}
 
 -- ---- what was said
@@ -54,7 +55,7 @@ audit_keeps d travels all written a is = record {
   are_examined = examined_of d a.examined a.are_checked;
   keeps = λ flow lt.
       let size = a.are_checked.count in
-      let x = at a.examined flow (omega (arith, lt, size)) in
+      let x = some-at a.examined flow (omega (arith, lt, size)) in
       listed_at a.examined flow x.0 (sym a.answer ∙ is) x.1
       (λ es. HeadlineHolds (net_of d flow) (length es)) (a.are_checked.each flow x.0 x.1).headline;
 }

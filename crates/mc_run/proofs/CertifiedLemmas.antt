@@ -7,21 +7,22 @@ use Rattle.std.specs.Prelude.{IsSome, slice_get}
 use Rattle.std.specs.List.{AllByRecursion}
 use Rattle.std.proofs.lemmas.Bool.{eqb-true, eq-eqb, false≢true}
 use Rattle.std.proofs.lemmas.List.{length-map}
+use Rattle.std.proofs.lemmas.Option.{slice_get_within}
 use Rattle.std.proofs.lemmas.Str.{IsUtf8-append}
 use Rattle.json.proofs.Printed.Utf8.{IsUtf8-are_ascii}
 use Rattle.mc_text.specs.Bundle.{PartText, IsBundle, max_part}
-use Rattle.mc_text.proofs.BundleLaws.{same_parts}
-use Rattle.mc_igmp.specs.declared.record.Record.{Record}
 use Rattle.mc_theory.specs.Lists.{In}
 use Rattle.mc_theory.specs.Nets.{Net, Interface}
 use Rattle.mc_theory.specs.Certificates.{Entry, IsAccepted, IsTree, source_entry_of}
 use Rattle.mc_theory.proofs.InLists.{same-by_image, slice_get-map_some}
 use Rattle.mc_theory.proofs.Judged.{judged}
-use Rattle.mc_topology.specs.Rows.{RouterRow}
 use Rattle.mc_topology.specs.Topology.{TopologyValue}
-use Rattle.mc_forward.specs.Domains.{DomainValue, IsDomain, TablesValue, net_of}
+use Rattle.mc_forward.specs.Domains.{DomainValue, IsDomain, net_of}
 use Rattle.mc_forward.proofs.DomainLemmas.{net-of_domain, wanting-within}
-use Rattle.mc_domain.specs.Input.{InputValue, PartsStand, TellTables, TellReports}
+use Rattle.mc_forward.proofs.EachLemmas.{some-at}
+use Rattle.mc_domain.specs.Input.{with_certificate}
+use Rattle.mc_domain.proofs.OneDomain.{one_of_bundle}
+use Rattle.mc_domain.proofs.WithCertificate.{means_with}
 use Rattle.mc_cert.specs.Certificate.{Tree, IsOfBytes}
 use Rattle.mc_cert.specs.CertificateText.{certificate_text}
 use Rattle.mc_cert.specs.Reading.{reading_of}
@@ -38,13 +39,11 @@ use Rattle.mc_maker.specs.Examined.{IfCertified}
 use Rattle.mc_maker.specs.declared.examination.Examined.{Examined}
 use Rattle.mc_maker.specs.declared.examination.Examined.TheVariants.{Certified, Found}
 use Rattle.mc_maker.proofs.FilledLemmas.{in-all}
-use Rattle.mc_run.specs.BundleMeaning.{MeansDomain}
+use Rattle.mc_run.specs.InputMeaning.{MeansCertified}
 use Rattle.mc_run.specs.CheckRun.{IsVerdictText}
 use Rattle.mc_run.specs.MakeRun.{AreExamined, IsMadeText, are_certified, lists_of}
-use Rattle.mc_run.specs.MakeRun.{with_certificate}
 use Rattle.mc_run.specs.VerdictText.{AreVerdicts, IsVerdict, are_yes, check_text}
-use Rattle.mc_run.proofs.OneDomain.{one_of_bundle, some_is}
-use Rattle.mc_run.proofs.MakeLemmas.{at as at_place, each_list, lists_belong, lists_kept, within}
+use Rattle.mc_run.proofs.MakeLemmas.{each_list, lists_belong, lists_kept}
 
 -- ---- the numbers of an accepted list are bytes
 
@@ -158,62 +157,6 @@ made_accepted text written m =
     list_at (λ k. IsAccepted (net_of m.domain k)) m.holds.examined (sym m.holds.answer)
     (λ k x at. (m.holds.are_examined.each k x at).accepted)
 
--- ---- the bundle with the certificate
-
-tables_more : (rs : List RouterRow) (here : List PartText) (ts : List TablesValue)
-    (rest more : List PartText)
-    → TellTables rs here ts rest → TellTables rs (here ++ more) ts (rest ++ more)
-tables_more [] here [] rest more h = ap (λ (ps : List PartText). ps ++ more) h
-tables_more [] here (t ∷ ts) rest more h = absurd h
-tables_more (r ∷ rs) [] ts rest more h = absurd h
-tables_more (r ∷ rs) (vif ∷ []) ts rest more h = absurd h
-tables_more (r ∷ rs) (vif ∷ cache ∷ here) [] rest more h = absurd h
-tables_more (r ∷ rs) (vif ∷ cache ∷ here) (t ∷ ts) rest more h =
-    (h.0, tables_more rs here ts rest more h.1)
-
-reports_more : (lans : List (List ℕ)) (here : List PartText) (all : List (List Record))
-    (rest more : List PartText) → TellReports lans here all rest
-    → TellReports lans (here ++ more) all (rest ++ more)
-reports_more [] here [] rest more h = ap (λ (ps : List PartText). ps ++ more) h
-reports_more [] here (records ∷ all) rest more h = absurd h
-reports_more (lan ∷ lans) [] all rest more h = absurd h
-reports_more (lan ∷ lans) (part ∷ here) [] rest more h = absurd h
-reports_more (lan ∷ lans) (part ∷ here) (records ∷ all) rest more h =
-    (h.0, reports_more lans here all rest more h.1)
-
-parts_with : (parts : List PartText) (v : InputValue) (text : List ℕ) → PartsStand parts v None
-    → PartsStand (with_certificate parts text) v (Some text)
-parts_with parts v text h =
-    let more : List PartText = with_certificate [] text in
-    record {
-      topology = h.topology;
-      of_routers = h.of_routers ++ more;
-      of_lans = h.of_lans ++ more;
-      last = h.last ++ more;
-      in_order = ap (λ (ps : List PartText). ps ++ more) h.in_order;
-      topology_stands = h.topology_stands;
-      tables = tables_more v.topology.routers h.of_routers v.tables h.of_lans more h.tables;
-      reports = reports_more v.topology.lans h.of_lans v.reports h.last more h.reports;
-      certificate_told = ap (λ (ps : List PartText). ps ++ more) h.certificate_told;
-    }
-
-means_with : (text bundle : List ℕ) (parts : List PartText) (certificate : List ℕ) (d : DomainValue)
-    → MeansDomain text None d → IsBundle text parts
-    → IsBundle bundle (with_certificate parts certificate)
-    → MeansDomain bundle (Some certificate) d
-means_with text bundle parts certificate d means is more = record {
-  input = means.input;
-  stands = record {
-    parts = with_certificate parts certificate;
-    bundle = more;
-    stand = parts_with parts means.input certificate
-        (subst (λ (ps : List PartText). PartsStand ps means.input None)
-        (same_parts text means.stands.parts parts means.stands.bundle is) means.stands.stand);
-  };
-  assembled = means.assembled;
-  rules = means.rules;
-}
-
 -- ---- the verdicts
 
 abbrev yes_of : Tree → Verdict
@@ -271,6 +214,22 @@ yes_told text written bundle parts m is more =
       },
     )
 
+-- ---- one meaning
+
+pub some_is : {A : Type 0} {x y : A} → (let o : Option A = Some x in o) ≡ Some y → x ≡ y
+some_is e = cc
+
+pub one_of_certified : (text : List ℕ) (d e : DomainValue) (xs ys : List Tree)
+    → MeansCertified text d xs → MeansCertified text e ys → (d ≡ e) × (xs ≡ ys)
+one_of_certified text d e xs ys m n =
+    let same = one_of_bundle text (Some m.certificate) (Some n.certificate) d e refl m.domain
+    n.domain in
+    let theirs = subst (λ (c : List ℕ). CertificateStands d.topology c ys)
+    (sym (some_is same.1))
+    (subst (λ (x : DomainValue). CertificateStands x.topology n.certificate ys) (sym same.0)
+    n.lists_stand) in
+    (same.0, one_certificate d.topology m.certificate xs ys m.lists_stand theirs)
+
 -- ---- so whatever verdict text the bundle has, it says yes
 
 is_said_yes : (d : DomainValue) (flow : ℕ) (es : Tree) (v : Verdict) → IsDomain d
@@ -293,9 +252,9 @@ verdicts_yes : (d : DomainValue) (lists : List Tree) (vs : List Verdict) → IsD
     → ((flow : ℕ) (es : Tree) → slice_get lists flow ≡ Some es → IsAccepted (net_of d flow) es)
     → are_yes vs ≡ true
 verdicts_yes d lists vs ok count are each = each_yes vs (λ k v at.
-    let lt = within vs k v at in
+    let lt = slice_get_within vs k v at in
     let size = are.count in
-    let es = at_place lists k (omega (arith, lt, size, count)) in
+    let es = some-at lists k (omega (arith, lt, size, count)) in
     is_said_yes d k es.0 v ok (each k es.0 es.1) (are.each k es.0 v es.1 at))
 
 record AreOf (d : DomainValue) (certificate : List ℕ) (lists : List Tree)

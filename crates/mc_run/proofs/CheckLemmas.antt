@@ -9,6 +9,7 @@ use Rattle.mc_theory.specs.Certificates.{Entry}
 use Rattle.mc_theory.specs.Headline.{HeadlineHolds}
 use Rattle.mc_topology.specs.Topology.{TopologyValue}
 use Rattle.mc_forward.specs.Domains.{DomainValue, net_of}
+use Rattle.mc_forward.proofs.EachLemmas.{some-at}
 use Rattle.mc_cert.specs.Answer.{out_of_memory}
 use Rattle.mc_cert.specs.Certificate.{Tree, tree_at, BelongsTo}
 use Rattle.mc_cert.specs.Reading.{reading_of}
@@ -21,13 +22,12 @@ use Rattle.mc_check.specs.Verdicts.{YesKeepsHeadline}
 use Rattle.mc_check.specs.declared.verdict.Verdict.{Verdict}
 use Rattle.mc_check.specs.declared.verdict.Verdict.TheVariants.{Yes, No}
 use Rattle.mc_domain.specs.InputView.{certificate_seen}
-use Rattle.mc_run.specs.BundleMeaning.{MeansDomain, MeansCertified, HasBadCertificate}
-use Rattle.mc_run.specs.BundleMeaning.{IsRefusedFor}
+use Rattle.mc_domain.specs.Meaning.{MeansDomain}
+use Rattle.mc_run.specs.InputMeaning.{HasBadCertificate, IsRefusedFor, MeansCertified}
 use Rattle.mc_run.specs.CheckRun.{IsTextOfVerdicts, KeepsHeadline}
 use Rattle.mc_run.specs.Failures.{IsNoDeviceFault}
 use Rattle.mc_run.specs.RunFault.{of_certificate, of_certificate_kind}
 use Rattle.mc_run.specs.VerdictText.{IsVerdict, AreVerdicts, are_yes, check_text}
-use Rattle.mc_run.proofs.MakeLemmas.{at}
 
 -- ---- the certificate
 
@@ -140,8 +140,8 @@ pub keeps_headline : (d : DomainValue) (lists : List Tree) (vs : List Verdict)
     → OfEachFlow d lists vs YesKeepsHeadline → are_yes vs ≡ true → KeepsHeadline d lists
 keeps_headline d lists vs count belongs copies keeps all = λ flow listed.
     let few = belongs.count in
-    let e = at lists flow (omega (arith, listed, few)) in
-    let v = at vs flow (omega (arith, listed, count, few)) in
+    let e = some-at lists flow (omega (arith, listed, few)) in
+    let v = some-at vs flow (omega (arith, listed, count, few)) in
     flow_keeps d lists flow e.0 e.1 (yes_keeps d flow e.0 v.0 (yes_at vs flow v.0 all v.1)
     (copies flow e.0 v.0 e.1 v.1) (keeps flow e.0 v.0 e.1 v.1))
 

@@ -4,7 +4,6 @@ pub mod AuditLines
 pub mod CertifiedLemmas
 pub mod CheckLemmas
 pub mod MakeLemmas
-pub mod OneDomain
 pub mod PackingLemmas
 pub mod ReplayLemmas
 pub mod RunLemmas

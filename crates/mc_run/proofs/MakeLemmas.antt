@@ -6,10 +6,12 @@ use Rattle.std.proofs.Common.{sym, ap, subst, ◌∙◌, arith}
 use Rattle.std.proofs.Common.{append_assoc, append-nil, length-append}
 use Rattle.std.specs.Prelude.{◌↔◌, ◌==◌, IsTrue, codes, slice_get}
 use Rattle.std.proofs.lemmas.Bool.{and_parts, eq-eqb, eqb-true, false≢true}
+use Rattle.std.proofs.lemmas.Option.{slice_get_within}
 use Rattle.mc_topology.specs.declared.flow.Flow.{Flow}
 use Rattle.mc_topology.specs.Topology.{TopologyValue}
 use Rattle.mc_theory.specs.Certificates.{IsRight}
 use Rattle.mc_forward.specs.Domains.{DomainValue, net_of}
+use Rattle.mc_forward.proofs.EachLemmas.{some-at}
 use Rattle.mc_cert.specs.declared.reached.Reached.{Reached}
 use Rattle.mc_cert.specs.Certificate.{Tree, BelongsTo, IsEntryOf, IsList}
 use Rattle.mc_cert.specs.CertificateText.{certificate_text}
@@ -20,18 +22,6 @@ use Rattle.mc_maker.specs.declared.examination.Examined.TheVariants.{Certified, 
 use Rattle.mc_run.specs.MakeRun.{AreExamined, AreMade, AreRight, IsExamined, IsMadeText}
 use Rattle.mc_run.specs.MakeRun.{IsTextOfMade, SaysAllRight, are_certified, found_lines, lines_of}
 use Rattle.mc_run.specs.MakeRun.{lines_of_flow, lists_of}
-
--- ---- places in a list
-
-pub at : {A : Type 0} (xs : List A) (k : ℕ) → k < length xs → (x : A) × (slice_get xs k ≡ Some x)
-at [] k within = absurd (omega (arith, within))
-at (x ∷ xs) zero within = (x, refl)
-at (x ∷ xs) (suc k) within = at xs k (omega (arith, within))
-
-pub within : {A : Type 0} (xs : List A) (k : ℕ) (x : A) → slice_get xs k ≡ Some x → k < length xs
-within [] k x here = absurd cc
-within (y ∷ xs) zero x here = omega arith
-within (y ∷ xs) (suc k) x here = let rest = within xs k x here in omega (arith, rest)
 
 -- ---- flow by flow
 
@@ -109,7 +99,7 @@ pub made_certified : (d : DomainValue) (k : ℕ) (old : List Tree) (lists : List
     → k < length d.topology.flows → IsExamined d k x → x ≡ Certified entries
     → lists ≡ old ++ entries.items ∷ [] → AreMadeTo d (k + 1) lists lines
 made_certified d k old lists lines x entries made lt is same grown =
-    let f = at d.topology.flows k lt in
+    let f = some-at d.topology.flows k lt in
     let here : AreMadeTo d (k + 1) (old ++ entries.items ∷ []) (lines ++ []) =
     made_next d k old lines f.0 (Certified entries) made f.1
     (subst (λ (y : Examined). IsExamined d k y) same is) in
@@ -217,10 +207,10 @@ pub certified_right : (d : DomainValue) (xs : List Examined) → AreExamined d x
 certified_right d xs are = (
   (λ all flow lt.
       let size = are.count in
-      let x = at xs flow (omega (arith, lt, size)) in
+      let x = some-at xs flow (omega (arith, lt, size)) in
       (are.each flow x.0 x.1).right.0 (certified_at xs flow x.0 all x.1)),
   (λ right. all_certified xs (λ k x here.
-      let lt = within xs k x here in
+      let lt = slice_get_within xs k x here in
       let size = are.count in
       (are.each k x here).right.1 (right k (omega (arith, lt, size))))),
 )

@@ -1,5 +1,5 @@
 -- What a run shows of what it was handed, of its devices, and of what it says.
-use Rattle.std.proofs.Common.{◌≡◌, ℕ, Bool, true, false, List, [], ◌∷◌, ◌++◌, length, take, drop}
+use Rattle.std.proofs.Common.{◌≡◌, ◌≢◌, ℕ, Bool, true, false, List, [], ◌∷◌, ◌++◌, length, take, drop}
 use Rattle.std.proofs.Common.{inl, inr, Option, Some, None, Result, Ok, Err}
 use Rattle.std.proofs.Common.{refl, sym, ap, subst, ◌∙◌, arith, append_assoc, length-take}
 use Rattle.std.specs.Prelude.{◌+◌, cond, IfErr, IfOk, IfSome, IsTrue, codes, is_some}
@@ -7,48 +7,42 @@ use Rattle.std.specs.String.{string_bytes}
 use Rattle.std.specs.Io.KnownBytes.{Appends}
 use Rattle.std.proofs.lemmas.Bool.{false≢true}
 use Rattle.std.proofs.lemmas.List.{take_all, length-append, take-append-drop}
-use denote.Ref.{Bor}
 use Rattle.mc_forward.specs.Domains.{DomainValue}
 use Rattle.mc_cert.specs.Certificate.{Tree}
-use Rattle.mc_domain.specs.InputView.{certificate_seen}
-use Rattle.mc_domain.specs.Input.{InputValue, InputStands}
 use Rattle.mc_domain.specs.InputReading.{input_of}
+use Rattle.mc_domain.proofs.WholeText.{input_of-front, read_whole}
+use Rattle.mc_domain.specs.declared.fault.InputFault.{InputFault}
+use Rattle.mc_domain.specs.declared.fault.InputFault.TheVariants as input
+use Rattle.mc_run.specs.RunFault.{of_input}
 use Rattle.mc_run.specs.declared.fault.RunFault.{RunFault}
 use Rattle.mc_run.specs.declared.fault.RunFault.TheVariants.{Bundle, Parts, Topology, Vif, Cache}
 use Rattle.mc_run.specs.declared.fault.RunFault.TheVariants.{PartReports, Reports, Certificate}
 use Rattle.mc_run.specs.declared.fault.RunFault.TheVariants.{NoSuchFlow, Read, Write, Memory}
 use Rattle.mc_run.specs.declared.said.Said.{Said}
-use Rattle.mc_run.specs.BundleMeaning.{IsRefusedFor, MeansCertified, MeansDomain}
+use Rattle.mc_domain.specs.Meaning.{MeansDomain, OfDomain}
+use Rattle.mc_run.specs.InputMeaning.{IsRefusedFor, MeansCertified}
 use Rattle.mc_run.specs.CheckRun.{IsLineStart, SaysYes, WroteYes}
 use Rattle.mc_text.specs.Device.{counted}
 use Rattle.mc_run.specs.Failures.{IsNoDeviceFault, is_read, is_write}
-use Rattle.mc_run.specs.OfDomain.{OfDomain}
 use Rattle.mc_run.specs.Said.{Answers, IsSaid, Writes, WritesPart}
-use Rattle.mc_text.proofs.BundleFront.{bundle_of-front}
 
--- a bundle has fewer bytes than are read of an input, so that all were read
-pub read_whole : (text : List ℕ) (v : InputValue) (c : Option (List ℕ))
-    → InputStands (take 268435552 text) v c → take 268435552 text ≡ text
-read_whole text v c stands =
-    let size = ap (λ (bytes : List ℕ). length bytes) stands.bundle.spelled in
-    let few = stands.bundle.limits.size in
-    take_all 268435552 text (omega (arith, size, few, length-take 268435552 text))
-
-pub means_whole : (text : List ℕ) (c : Option (List ℕ)) (d : DomainValue)
-    → MeansDomain (take 268435552 text) c d → MeansDomain text c d
-means_whole text c d m =
-    subst (λ (t : List ℕ). MeansDomain t c d) (read_whole text m.input c m.stands) m
-
+-- what was read is all
 pub certified_whole : (text : List ℕ) (d : DomainValue) (lists : List Tree)
     → MeansCertified (take 268435552 text) d lists → MeansCertified text d lists
 certified_whole text d lists m =
     subst (λ (t : List ℕ). MeansCertified t d lists)
     (read_whole text m.domain.input (Some m.certificate) m.domain.stands) m
 
-pub input_of-front : (with : Bool) (text : List ℕ)
-    → input_of with (take 268435552 text) ≡ input_of with text
-unfolding input_of
-input_of-front with text = rw (bundle_of-front text) refl
+-- why a bundle is refused, as the run's fault
+pub bundle_refused : (with : Bool) (text : List ℕ) (f : InputFault)
+    → (f ≢ input.Memory → input_of with text ≡ Err f) → IsRefusedFor with text (of_input f)
+bundle_refused with text (input.Bundle f) is = is (λ same. absurd cc)
+bundle_refused with text (input.Parts place) is = is (λ same. absurd cc)
+bundle_refused with text (input.Topology f) is = is (λ same. absurd cc)
+bundle_refused with text (input.Vif part f) is = is (λ same. absurd cc)
+bundle_refused with text (input.Cache part f) is = is (λ same. absurd cc)
+bundle_refused with text (input.Reports part f) is = is (λ same. absurd cc)
+bundle_refused with text input.Memory is = tt
 
 -- this was read of what the input tells
 abbrev pub IsRead : Option (List ℕ) → List ℕ → Type 0
@@ -94,12 +88,6 @@ err_of_all told taken (Ok x) P whole read holds = tt
 err_of_all told taken (Err f) P whole read holds = of_all told taken (P f) (whole f) read holds
 
 -- ---- what is meant
-
--- no certificate was asked for, and none was read
-pub no_certificate : (o : Option (Bor (List ℕ))) → is_some (certificate_seen o) ≡ false
-    → certificate_seen o ≡ None
-no_certificate None is = refl
-no_certificate (Some text) is = absurd cc
 
 -- what holds of a domain holds of what is meant, where it is that domain
 pub of_meant : {X D : Type 0} (Means : X → D → Type 0) (Holds : D → Type 0) (told : Option X) (d : D)

@@ -16,10 +16,9 @@ use Rattle.mc_maker.specs.Examined.{is_certified}
 use Rattle.mc_maker.specs.declared.examination.Examined.{Examined}
 use Rattle.mc_maker.specs.declared.examination.Examined.TheVariants.{Certified, Found}
 use Rattle.mc_run.specs.CheckRun.{KeepsHeadline}
-use Rattle.mc_run.specs.FilesMeaning.{MeansFiles}
+use Rattle.mc_domain.specs.Meaning.{MeansFiles, OfDomain}
 use Rattle.mc_run.specs.MakeRun.{AreExamined, AreRight, IsExamined, are_certified, found_lines}
 use Rattle.mc_run.specs.MakeRun.{lists_of, no_certificate_line}
-use Rattle.mc_run.specs.OfDomain.{OfDomain}
 use Rattle.mc_run.specs.ReplayRun.{event_lines}
 use Rattle.mc_run.specs.VerdictText.{flow_line, last_line}
 

@@ -1,10 +1,8 @@
 pub mod AuditRun
-pub mod BundleMeaning
 pub mod CheckRun
 pub mod Failures
-pub mod FilesMeaning
+pub mod InputMeaning
 pub mod MakeRun
-pub mod OfDomain
 pub mod PackingRun
 pub mod ReplayRun
 pub mod RunFault
@@ -39,6 +37,7 @@ pub use Rattle.mc_domain.specs.Input
 pub use Rattle.mc_domain.specs.InputReading
 pub use Rattle.mc_domain.specs.FilesInput
 pub use Rattle.mc_domain.specs.FilesReading
+pub use Rattle.mc_domain.specs.Meaning
 pub use Rattle.mc_theory.specs.Events
 pub use Rattle.mc_theory.specs.Findings
 pub use Rattle.mc_replay.specs.Travels

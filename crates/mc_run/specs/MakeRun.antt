@@ -4,12 +4,11 @@ use Rattle.std.specs.Prelude.{codes, decimal}
 use Rattle.std.specs.Prelude.{length, map, slice_get, Some}
 use Rattle.std.specs.List.{list_all}
 use Rattle.std.specs.List.Sorted.{IsStrictlyIncreasing}
-use Rattle.mc_text.specs.Bundle.{PartText}
 use Rattle.mc_topology.specs.declared.flow.Flow.{Flow}
 use Rattle.mc_topology.specs.Topology.{TopologyValue}
 use Rattle.mc_theory.specs.Certificates.{IsAccepted, IsRight}
 use Rattle.mc_forward.specs.Domains.{DomainValue, net_of}
-use Rattle.mc_layout.specs.Layout.{part_name, certificate_slot}
+use Rattle.mc_domain.specs.Meaning.{MeansUncertified, OfDomain}
 use Rattle.mc_cert.specs.Certificate.{Tree, IsEntryOf, IsList}
 use Rattle.mc_cert.specs.CertificateText.{certificate_text}
 use Rattle.mc_replay.specs.TravelText.{finding_text}
@@ -18,8 +17,6 @@ use Rattle.mc_maker.specs.Examined.{FindsFault, IfCertified, IfFound, IsOfTravel
 use Rattle.mc_maker.specs.Examined.{IsTtlOfFault, is_certified}
 use Rattle.mc_maker.specs.declared.examination.Examined.{Examined}
 use Rattle.mc_maker.specs.declared.examination.Examined.TheVariants.{Certified, Found}
-use Rattle.mc_run.specs.BundleMeaning.{MeansUncertified}
-use Rattle.mc_run.specs.OfDomain.{OfDomain}
 use Rattle.mc_run.specs.VerdictText.{flow_words}
 
 -- ---- examinations
@@ -114,10 +111,3 @@ AreRight d all =
 -- the text means a domain of which this says so
 abbrev pub SaysAllRight : List ℕ → Bool → Type 0
 SaysAllRight text all = OfDomain MeansUncertified (λ d. AreRight d all) text
-
--- ---- with the certificate
-
--- the parts of a bundle, and a certificate as one part more
-abbrev pub with_certificate : List PartText → List ℕ → List PartText
-with_certificate parts text =
-    parts ++ (record { name = part_name certificate_slot; bytes = text }) ∷ []

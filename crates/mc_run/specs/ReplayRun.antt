@@ -16,8 +16,8 @@ use Rattle.mc_replay.specs.declared.finding.Finding.TheVariants.{Missed}
 use Rattle.mc_replay.specs.declared.travel.Travel.{Travel}
 use Rattle.mc_run.specs.declared.fault.RunFault.{RunFault}
 use Rattle.mc_run.specs.declared.fault.RunFault.TheVariants.{Memory, NoSuchFlow}
-use Rattle.mc_run.specs.BundleMeaning.{MeansUncertified, IsRefusedFor}
-use Rattle.mc_run.specs.OfDomain.{OfDomain}
+use Rattle.mc_domain.specs.Meaning.{MeansUncertified, OfDomain}
+use Rattle.mc_run.specs.InputMeaning.{IsRefusedFor}
 
 -- ---- the text
 

@@ -8,8 +8,7 @@ ghost use Rattle.std.specs.String.{string_bytes};
 ghost use Rattle.mc_theory.specs.Certificates.{IsAccepted};
 ghost use Rattle.mc_theory.specs.Headline.{HeadlineHolds};
 ghost use Rattle.mc_topology.specs.declared.flow.Flow.{Flow};
-ghost use Rattle.mc_forward.specs.Assembling.{AreCounted, IsAssembled};
-ghost use Rattle.mc_forward.specs.Domains.{IsDomain, net_of};
+ghost use Rattle.mc_forward.specs.Domains.{net_of};
 ghost use Rattle.mc_check.specs.Verdicts.{is_yes};
 ghost use Rattle.mc_check.specs.declared.verdict.Verdict.TheVariants.{Yes};
 ghost use Rattle.mc_run.specs.AuditRun.{HeadlineOf, IsAudited, IsAuditText, IsFlowAudited};
@@ -17,12 +16,11 @@ ghost use Rattle.mc_run.specs.AuditRun.{SaysOfEach, SaysWhichAreRight, events_to
 ghost use Rattle.mc_run.specs.CheckRun.{SaysYes};
 ghost use Rattle.mc_text.specs.Device.{counted};
 ghost use Rattle.mc_run.specs.Failures.{is_read, is_write};
-ghost use Rattle.mc_run.specs.FilesMeaning.{AreRefusedFor, MeansFiles};
+ghost use Rattle.mc_run.specs.InputMeaning.{AreRefusedFor};
 ghost use Rattle.mc_run.specs.MakeRun.{found_lines};
 ghost use Rattle.mc_run.specs.Said.{Answers, Writes, WritesPart};
 ghost use Rattle.mc_run.specs.VerdictText.{flow_line};
 
-use crate::domain_input::assembled;
 use crate::fault::RunFault;
 use crate::found_text::push_found;
 use crate::said::{Said, say};
@@ -30,7 +28,7 @@ use crate::travel_text::push_events;
 use crate::verdict_text::push_verdict;
 use mc_cert::Reached;
 use mc_check::{Verdict, check_flow};
-use mc_domain::{FilesInput, read_files};
+use mc_domain::domain_of;
 use mc_forward::Domain;
 use mc_layout::FileSource;
 use mc_maker::{Examined, examine};
@@ -38,40 +36,6 @@ use mc_replay::Travel;
 use mc_text::{Memory as NoMemory, Output};
 use mc_topology::{Flow, Topology};
 use std::alloc::Global;
-
-/// The domain of what the files tell.
-fn domain_with(alloc: Global, input: FilesInput) -> Result<Domain, RunFault>
-    requires counted { AreCounted input.topology input.tables.items input.reports.items }
-    ensures assembled { IfOk result
-        (IsAssembled input.topology input.tables.items input.reports.items) }
-    ensures rules { IfOk result IsDomain }
-    ensures memory { IfErr result (λ fault. fault ≡ RunFault.Memory) }
-{
-    let FilesInput {
-        topology,
-        tables,
-        reports,
-    } = input;
-    match assembled(alloc, topology, tables, reports) {
-        Ok(domain) => Ok(domain),
-        Err(_) => Err(RunFault::Memory),
-    }
-}
-
-/// The domain that a folder's files tell.
-fn domain_of<F: FileSource>(alloc: Global, files: &mut F) -> Result<Domain, RunFault>
-    requires { F.failed files.old < u64.MAX }
-    ensures same { F.names files.new ≡ F.names files.old }
-    ensures means { IfOk result (λ domain.
-        IfSome (F.told files.old) (λ told. MeansFiles told domain)) }
-    ensures refused { IfErr result (λ fault.
-        IfSome (F.told files.old) (λ told. AreRefusedFor told fault)) }
-    ensures no_write { IfErr result (λ fault. is_write fault ≡ false) }
-    ensures failures { F.failed files.new ≡ counted is_read result (F.failed files.old) }
-{
-    let input = read_files(alloc, files)?;
-    domain_with(alloc, input)
-}
 
 /// Writes what the checker answers of a flow. It answers whether that is yes.
 fn push_answer(

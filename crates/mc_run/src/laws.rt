@@ -6,13 +6,14 @@ ghost use Rattle.mc_text.specs.Bundle.{PartText, IsBundle};
 ghost use Rattle.mc_theory.specs.Certificates.{IsAccepted};
 ghost use Rattle.mc_layout.specs.Files.{FileText};
 ghost use Rattle.mc_forward.specs.Domains.{DomainValue, net_of};
+ghost use Rattle.mc_domain.specs.Input.{with_certificate};
 ghost use Rattle.mc_cert.specs.Certificate.{Tree};
 ghost use Rattle.mc_cert.specs.Reading.{reading_of};
 ghost use Rattle.mc_run.specs.AuditRun.{IsAuditText};
-ghost use Rattle.mc_run.specs.BundleMeaning.{MeansCertified, MeansDomain};
+ghost use Rattle.mc_domain.specs.Meaning.{MeansDomain, MeansFiles};
+ghost use Rattle.mc_run.specs.InputMeaning.{MeansCertified};
 ghost use Rattle.mc_run.specs.CheckRun.{IsLineStart, IsVerdictText, WroteYes};
-ghost use Rattle.mc_run.specs.FilesMeaning.{MeansFiles};
-ghost use Rattle.mc_run.specs.MakeRun.{IsMadeText, lists_of, with_certificate};
+ghost use Rattle.mc_run.specs.MakeRun.{IsMadeText, lists_of};
 
 /// What `make` writes where it answers true, `check` says yes to.
 pub fn made_certificates_are_accepted()

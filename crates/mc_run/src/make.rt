@@ -7,7 +7,7 @@ ghost use Rattle.mc_text.specs.Bundle.{max_input};
 ghost use Rattle.mc_text.specs.ReadFault.{ConsumesUpTo};
 ghost use Rattle.mc_cert.specs.Certificate.{BelongsTo};
 ghost use Rattle.mc_cert.specs.CertificateText.{certificate_text as text_of_certificate};
-ghost use Rattle.mc_run.specs.BundleMeaning.{IsRefusedFor};
+ghost use Rattle.mc_run.specs.InputMeaning.{IsRefusedFor};
 ghost use Rattle.mc_text.specs.Device.{counted};
 ghost use Rattle.mc_run.specs.Failures.{is_read, is_write};
 ghost use Rattle.mc_run.specs.MakeRun.{AreMade, IsMadeText, IsTextOfMade, SaysAllRight};

@@ -1,4 +1,4 @@
-use Rattle.std.proofs.Common.{◌∙◌, ap, refl, Ok, Err}
+use Rattle.std.proofs.Common.{◌∙◌, ap, refl, None, Ok, Err}
 use Rattle.std.proofs.lemmas.Result.{err_from_is_err_and}
 use Rattle.mc_domain.specs.FilesReading.{part_filed}
 use Rattle.mc_domain.specs.declared.files_fault.FilesFault.TheVariants.{Input}
@@ -49,14 +49,16 @@ pub returns-clause-found : goal.returns-clause-found
 returns-clause-found g c =
     read_stands (g.F.FileSource.told c.args.files.now) (Ok (record {
       topology = c.in_ok-topology.topology;
-      tables = c.in_ok-contents.contents.tables;
-      reports = c.in_ok-contents.contents.reports;
+      tables = c.in_ok-contents.contents.0;
+      reports = c.in_ok-contents.contents.1;
+      certificate = None;
     })) (returns-clause-fault g c)
 
 pub returns-clause-only : goal.returns-clause-only
 returns-clause-only g c =
     read_again (g.F.FileSource.told c.args.files.now) (Ok (record {
       topology = c.in_ok-topology.topology;
-      tables = c.in_ok-contents.contents.tables;
-      reports = c.in_ok-contents.contents.reports;
+      tables = c.in_ok-contents.contents.0;
+      reports = c.in_ok-contents.contents.1;
+      certificate = None;
     })) (returns-clause-fault g c)

@@ -1,5 +1,5 @@
 use Rattle.mc_run.specs.AuditRun.{HeadlineOf, IsAuditText, SaysOfEach, SaysWhichAreRight}
-use Rattle.mc_run.specs.FilesMeaning.{AreRefusedFor}
+use Rattle.mc_run.specs.InputMeaning.{AreRefusedFor}
 use Rattle.mc_run.proofs.AuditLemmas.{each_said, headline_kept, right_said}
 use Rattle.mc_run.proofs.RunLemmas.{answered, headline_said, written_part, written_whole}
 use Rattle.mc_run.proofs.YesLines.{audit_says_yes}

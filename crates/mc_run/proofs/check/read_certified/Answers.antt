@@ -1,5 +1,5 @@
 use Rattle.std.proofs.Common.{◌∙◌, true}
-use Rattle.mc_run.specs.BundleMeaning.{IsRefusedFor, MeansCertified}
+use Rattle.mc_run.specs.InputMeaning.{IsRefusedFor, MeansCertified}
 use Rattle.mc_run.proofs.RunLemmas.{certified_whole, err_of_all, no_write, ok_of_all, reads_same}
 use Rattle.mc_run.proofs.RunLemmas.{refused_whole}
 use Rattle.mc_run.proofs.check.read_certified.Goals as goal

@@ -1,5 +1,5 @@
 use Rattle.std.proofs.Common.{true}
-use Rattle.mc_run.specs.BundleMeaning.{IsRefusedFor}
+use Rattle.mc_run.specs.InputMeaning.{IsRefusedFor}
 use Rattle.mc_run.specs.CheckRun.{HeadlineOf, IsVerdictText}
 use Rattle.mc_run.proofs.RunLemmas.{answered, headline_said, written_part, written_whole}
 use Rattle.mc_run.proofs.YesLines.{verdict_yes}

@@ -1,5 +1,5 @@
 use Rattle.std.specs.String.{string_bytes}
-use Rattle.mc_run.specs.BundleMeaning.{CertifiedDomain, MeansWithLists}
+use Rattle.mc_run.specs.InputMeaning.{CertifiedDomain, MeansWithLists}
 use Rattle.mc_run.specs.CheckRun.{IsTextOfVerdicts, KeepsHeadline}
 use Rattle.mc_run.proofs.RunLemmas.{of_meant}
 use Rattle.mc_run.proofs.check.verdicts_on.Goals as goal

@@ -1,4 +1,5 @@
-use Rattle.mc_run.proofs.OneDomain.{one_of_bundle, one_of_certified, one_of_files}
+use Rattle.mc_domain.proofs.OneDomain.{one_of_bundle, one_of_files}
+use Rattle.mc_run.proofs.CertifiedLemmas.{one_of_certified}
 use Rattle.mc_run.proofs.laws.one_domain_at_most.Goals as goal
 
 pub returns-clause-bundle : goal.returns-clause-bundle

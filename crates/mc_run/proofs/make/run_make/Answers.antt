@@ -1,5 +1,5 @@
 use Rattle.std.proofs.Common.{false}
-use Rattle.mc_run.specs.BundleMeaning.{IsRefusedFor}
+use Rattle.mc_run.specs.InputMeaning.{IsRefusedFor}
 use Rattle.mc_run.specs.MakeRun.{IsMadeText, SaysAllRight}
 use Rattle.mc_run.proofs.MakeLemmas.{made_right}
 use Rattle.mc_run.proofs.RunLemmas.{answer_so, answered, written_part, written_whole}

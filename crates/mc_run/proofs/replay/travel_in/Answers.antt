@@ -1,4 +1,4 @@
-use Rattle.mc_run.specs.BundleMeaning.{MeansUncertified}
+use Rattle.mc_domain.specs.Meaning.{MeansUncertified}
 use Rattle.mc_run.specs.ReplayRun.{IsTextOfTravel}
 use Rattle.std.specs.String.{string_bytes}
 use Rattle.mc_run.proofs.ReplayLemmas.{travel_no_device, travel_refused}

@@ -2,21 +2,18 @@
 use Rattle.std.proofs.Common.{◌≡◌, ℕ, zero, suc, Bool, true, false, List, [], ◌∷◌, length, Option}
 use Rattle.std.proofs.Common.{Some, None, refl, sym, ap, subst, ◌∙◌, arith}
 use Rattle.std.specs.Prelude.{◌↔◌, IsTrue, is_some, slice_get, slice_index_or}
+use Rattle.std.proofs.lemmas.Option.{get_or_from_slice_get, slice_get_within}
 use Rattle.mc_text.specs.Bundle.{PartText}
 use Rattle.mc_igmp.specs.Wants.{Wants}
 use Rattle.mc_layout.specs.Files.{FileText}
 use Rattle.mc_topology.specs.Topology.{TopologyValue}
 use Rattle.mc_forward.specs.Assembling.{IsAssembled}
 use Rattle.mc_forward.specs.Domains.{DomainValue, IsDomain, wants_of}
-use Rattle.mc_cert.specs.Certificate.{Tree}
-use Rattle.mc_cert.specs.Stands.{CertificateStands}
-use Rattle.mc_cert.proofs.ReadLemmas.{one_certificate}
+use Rattle.mc_forward.proofs.EachLemmas.{some-at}
 use Rattle.mc_domain.specs.Input.{InputValue, PartsStand}
+use Rattle.mc_domain.specs.Meaning.{MeansDomain, MeansFiles}
 use Rattle.mc_domain.proofs.Counted.{counted}
 use Rattle.mc_domain.proofs.OneInput.{one_input, one_input_of_files}
-use Rattle.mc_run.specs.BundleMeaning.{MeansDomain, MeansCertified}
-use Rattle.mc_run.specs.FilesMeaning.{MeansFiles}
-use Rattle.mc_run.proofs.MakeLemmas.{at as at_place, within}
 
 -- ---- what is assembled of an input is one domain
 
@@ -36,18 +33,12 @@ same_answer true false W p q = sym (q.1 (p.0 refl))
 same_answer false true W p q = p.1 (q.0 refl)
 same_answer false false W p q = refl
 
-index_is : {A : Type 0} (xs : List A) (k : ℕ) (x y : A) → slice_get xs k ≡ Some x
-    → slice_index_or xs k y ≡ x
-index_is [] k x y at = absurd cc
-index_is (z ∷ xs) zero x y at = cc
-index_is (z ∷ xs) (suc k) x y at = index_is xs k x y at
-
 wants_is : (d : DomainValue) (lan flow : ℕ) (row : List Bool) (b : Bool)
     → slice_get d.wants lan ≡ Some row
     → slice_get row flow ≡ Some b → wants_of d flow lan ≡ b
 wants_is d lan flow row b at here =
-    ap (λ (bs : List Bool). slice_index_or bs flow false) (index_is d.wants lan row [] at)
-    ∙ index_is row flow b false here
+    ap (λ (bs : List Bool). slice_index_or bs flow false) (get_or_from_slice_get d.wants lan row [] at)
+    ∙ get_or_from_slice_get row flow b false here
 
 wants_same : (v : InputValue) (d e : DomainValue) → IsDomain d → IsDomain e
     → length v.reports ≡ length v.topology.lans → IsAssembled v.topology v.tables v.reports d
@@ -62,11 +53,11 @@ wants_same v d e ok_d ok_e count is_d is_e =
     ok_d.flows lan row at ∙ ap (λ (t : TopologyValue). length t.flows) is_d.topology in
     let flows_e : length other ≡ length v.topology.flows =
     ok_e.flows lan other at' ∙ ap (λ (t : TopologyValue). length t.flows) is_e.topology in
-    let lt = within d.wants lan row at in
-    let records = at_place v.reports lan (omega (arith, lt, lans_d, count)) in
+    let lt = slice_get_within d.wants lan row at in
+    let records = some-at v.reports lan (omega (arith, lt, lans_d, count)) in
     lists_same row other (flows_d ∙ sym flows_e) (λ flow a b here here'.
-    let less = within row flow a here in
-    let f = at_place v.topology.flows flow (omega (arith, less, flows_d)) in
+    let less = slice_get_within row flow a here in
+    let f = some-at v.topology.flows flow (omega (arith, less, flows_d)) in
     let W : Type 0 = Wants records.0 f.0.group f.0.source in
     same_answer a b W
     (subst (λ (x : Bool). IsTrue x ↔ W) (wants_is d lan flow row a at here)
@@ -109,17 +100,3 @@ one_of_files files d e m n =
     same_of m.input n.input None m.stands.parts d e
     (one_input_of_files files m.input n.input m.stands n.stands) m.stands.stand m.rules n.rules
     m.assembled n.assembled
-
-pub some_is : {A : Type 0} {x y : A} → (let o : Option A = Some x in o) ≡ Some y → x ≡ y
-some_is e = cc
-
-pub one_of_certified : (text : List ℕ) (d e : DomainValue) (xs ys : List Tree)
-    → MeansCertified text d xs → MeansCertified text e ys → (d ≡ e) × (xs ≡ ys)
-one_of_certified text d e xs ys m n =
-    let same = one_of_bundle text (Some m.certificate) (Some n.certificate) d e refl m.domain
-    n.domain in
-    let theirs = subst (λ (c : List ℕ). CertificateStands d.topology c ys)
-    (sym (some_is same.1))
-    (subst (λ (x : DomainValue). CertificateStands x.topology n.certificate ys) (sym same.0)
-    n.lists_stand) in
-    (same.0, one_certificate d.topology m.certificate xs ys m.lists_stand theirs)

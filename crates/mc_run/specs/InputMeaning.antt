@@ -1,30 +1,24 @@
--- What a bundle means to a run: a domain, and the lists of a certificate for its flows; or why it
--- is refused.
+-- What a run's input means beside a domain, the lists of a certificate for its flows; and why a
+-- bundle, or a folder's files, are refused.
 use Rattle.std.specs.Prelude.{◌≡◌, ℕ, Bool, IsTrue, List, Option, Some, None, Err, ⊤}
 use Rattle.mc_forward.specs.Domains.{DomainValue}
 use Rattle.mc_cert.specs.Certificate.{Tree}
 use Rattle.mc_cert.specs.Stands.{CertificateStands}
 use Rattle.mc_cert.specs.Reading.{reading_of}
 use Rattle.mc_cert.specs.declared.fault.CertFault.{CertFault}
-use Rattle.mc_domain.specs.Input.{InputStands}
+use Rattle.mc_layout.specs.Files.{FileText}
+use Rattle.mc_domain.specs.FilesReading.{files_of}
 use Rattle.mc_domain.specs.InputReading.{input_of}
+use Rattle.mc_domain.specs.Meaning.{MeansDomain}
+use Rattle.mc_domain.specs.declared.files_fault.FilesFault.{FilesFault}
 use Rattle.mc_domain.specs.declared.fault.InputFault.TheVariants as input
-use Rattle.mc_run.specs.OfDomain.{Means}
 use Rattle.mc_run.specs.declared.fault.RunFault.{RunFault}
 use Rattle.mc_run.specs.declared.fault.RunFault.TheVariants.{Bundle, Parts, Topology, Vif, Cache}
 use Rattle.mc_run.specs.declared.fault.RunFault.TheVariants.{PartReports, Reports, Certificate}
 use Rattle.mc_run.specs.declared.fault.RunFault.TheVariants.{NoSuchFlow, Read, Write, Memory}
+use Rattle.mc_run.specs.RunFault.{of_files}
 
 -- ---- what it means
-
--- the bundle's parts tell the domain, and this is the text of its certificate, where one is to be
--- there
-abbrev pub MeansDomain : List ℕ → (certificate : Option (List ℕ)) → DomainValue → Type 0
-MeansDomain text certificate d = Means (λ t input. InputStands t input certificate) text d
-
--- the same, where there is to be none
-abbrev pub MeansUncertified : List ℕ → DomainValue → Type 0
-MeansUncertified text d = MeansDomain text None d
 
 -- The bundle's parts tell the domain, and its certificate a list of entries for each of the
 -- domain's flows.
@@ -69,3 +63,12 @@ IsRefusedFor certified text (NoSuchFlow number) = ⊥
 IsRefusedFor certified text Read = ⊤
 IsRefusedFor certified text Write = ⊤
 IsRefusedFor certified text Memory = ⊤
+
+-- A run on the files answers this of them: their first fault, in the order in which they are read.
+-- What devices do and want of memory say nothing of the files.
+abbrev pub AreRefusedFor : List FileText → RunFault → Type 0
+AreRefusedFor files Read = ⊤
+AreRefusedFor files Write = ⊤
+AreRefusedFor files Memory = ⊤
+AreRefusedFor files fault =
+    (cause : FilesFault) × (files_of files ≡ Err cause) × (fault ≡ of_files cause)

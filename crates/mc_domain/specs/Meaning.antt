@@ -1,0 +1,35 @@
+-- What a bundle, or a folder's files, mean: a domain; and what is said of it.
+use Rattle.std.specs.Prelude.{ℕ, List, Option, None}
+use Rattle.mc_layout.specs.Files.{FileText}
+use Rattle.mc_forward.specs.Assembling.{IsAssembled}
+use Rattle.mc_forward.specs.Domains.{DomainValue, IsDomain}
+use Rattle.mc_domain.specs.FilesInput.{FilesStand}
+use Rattle.mc_domain.specs.Input.{InputValue, InputStands}
+
+-- It stands for an input, and the domain is put together of that.
+pub record Means {X : Type 0} (Stands : X → InputValue → Type 0) (x : X) (d : DomainValue) : Type 0
+  where
+    pub input : InputValue
+    pub stands : Stands x input
+    pub assembled : IsAssembled input.topology input.tables input.reports d
+    pub rules : IsDomain d
+
+-- the bundle's parts tell the domain, and this is the text of its certificate, where one is to be
+-- there
+abbrev pub MeansDomain : List ℕ → (certificate : Option (List ℕ)) → DomainValue → Type 0
+MeansDomain text certificate d = Means (λ t input. InputStands t input certificate) text d
+
+-- the same, where there is to be none
+abbrev pub MeansUncertified : List ℕ → DomainValue → Type 0
+MeansUncertified text d = MeansDomain text None d
+
+-- the files tell the domain
+abbrev pub MeansFiles : List FileText → DomainValue → Type 0
+MeansFiles = Means FilesStand
+
+-- It means a domain, of which this holds.
+pub record OfDomain {X D : Type 0} (Means : X → D → Type 0) (Holds : D → Type 0) (x : X) : Type 0
+  where
+    pub domain : D
+    pub means : Means x domain
+    pub holds : Holds domain

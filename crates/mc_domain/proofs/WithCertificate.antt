@@ -1,5 +1,5 @@
 -- A bundle with a certificate as one part more means the domain that it means without.
-use Rattle.std.proofs.Common.{◌≡◌, ℕ, List, [], ◌∷◌, ◌++◌, Some, None, ap, subst}
+use Rattle.std.proofs.Common.{ℕ, List, [], ◌∷◌, ◌++◌, Some, None, ap, subst}
 use Rattle.mc_text.specs.Bundle.{PartText, IsBundle}
 use Rattle.mc_text.proofs.BundleLaws.{same_parts}
 use Rattle.mc_igmp.specs.declared.record.Record.{Record}

@@ -1,8 +1,8 @@
 -- What a run shows of what it was handed, of its devices, and of what it says.
 use Rattle.std.proofs.Common.{◌≡◌, ◌≢◌, ℕ, Bool, true, false, List, [], ◌∷◌, ◌++◌, length, take, drop}
 use Rattle.std.proofs.Common.{inl, inr, Option, Some, None, Result, Ok, Err}
-use Rattle.std.proofs.Common.{refl, sym, ap, subst, ◌∙◌, arith, append_assoc, length-take}
-use Rattle.std.specs.Prelude.{◌+◌, cond, IfErr, IfOk, IfSome, IsTrue, codes, is_some}
+use Rattle.std.proofs.Common.{refl, sym, ap, subst, ◌∙◌, arith, append_assoc}
+use Rattle.std.specs.Prelude.{◌+◌, cond, IfErr, IfOk, IfSome, IsTrue, codes}
 use Rattle.std.specs.String.{string_bytes}
 use Rattle.std.specs.Io.KnownBytes.{Appends}
 use Rattle.std.proofs.lemmas.Bool.{false≢true}
@@ -19,7 +19,7 @@ use Rattle.mc_run.specs.declared.fault.RunFault.TheVariants.{Bundle, Parts, Topo
 use Rattle.mc_run.specs.declared.fault.RunFault.TheVariants.{PartReports, Reports, Certificate}
 use Rattle.mc_run.specs.declared.fault.RunFault.TheVariants.{NoSuchFlow, Read, Write, Memory}
 use Rattle.mc_run.specs.declared.said.Said.{Said}
-use Rattle.mc_domain.specs.Meaning.{MeansDomain, OfDomain}
+use Rattle.mc_domain.specs.Meaning.{OfDomain}
 use Rattle.mc_run.specs.InputMeaning.{IsRefusedFor, MeansCertified}
 use Rattle.mc_run.specs.CheckRun.{IsLineStart, SaysYes, WroteYes}
 use Rattle.mc_text.specs.Device.{counted}

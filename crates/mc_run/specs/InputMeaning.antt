@@ -1,6 +1,6 @@
 -- What a run's input means beside a domain, the lists of a certificate for its flows; and why a
 -- bundle, or a folder's files, are refused.
-use Rattle.std.specs.Prelude.{◌≡◌, ℕ, Bool, IsTrue, List, Option, Some, None, Err, ⊤}
+use Rattle.std.specs.Prelude.{◌≡◌, ℕ, Bool, IsTrue, List, Some, Err, ⊤}
 use Rattle.mc_forward.specs.Domains.{DomainValue}
 use Rattle.mc_cert.specs.Certificate.{Tree}
 use Rattle.mc_cert.specs.Stands.{CertificateStands}

@@ -1,7 +1,7 @@
 -- A table that grows by a row at a time is the table of all the rows.
 use Rattle.std.proofs.Common.{◌≡◌, ℕ, true, false, List, [], ◌∷◌, ◌++◌, Option}
 use Rattle.std.proofs.Common.{Some, None, Ok, Err, refl, sym, ap, ◌∙◌, inl, inr}
-use Rattle.std.specs.Prelude.{not, is_some}
+use Rattle.std.specs.Prelude.{not, is_some, map as map_list}
 use Rattle.std.specs.Option.{option_map}
 use Rattle.std.specs.List.{filter_map, cons_option}
 use Rattle.std.specs.Ordering.{nat_cmp}
@@ -10,7 +10,7 @@ use Rattle.std.specs.FinMap.{nat_cmp-IsAntisymmetric}
 use Rattle.std.specs.FinSet as set
 use Rattle.std.proofs.lemmas.Bool.{cases_Bool}
 use Rattle.std.proofs.lemmas.Cmp.{nat_cmp_total}
-use Rattle.std.proofs.lemmas.List.{append-nil}
+use Rattle.std.proofs.lemmas.List.{append-nil, map-append}
 use Rattle.std.proofs.lemmas.List.Elements.{filter_map-append}
 use Rattle.mc_tables.specs.declared.entry.Entry.{Entry}
 use Rattle.mc_tables.specs.declared.fault.TableFaultKind.TheVariants.{RepeatedEntry}
@@ -20,7 +20,8 @@ use Rattle.mc_tables.specs.TableLines.{is_among}
 use Rattle.mc_tables.specs.CacheTable.{RowText, CacheText, key_cmp, same_key, exact_entry, key_of}
 use Rattle.mc_tables.specs.CacheTable.{wildcard_of, table_of}
 use Rattle.mc_tables.specs.CacheReading.{entry_repeats}
-use Rattle.mc_tables.specs.CacheSteps.{has_key, with_exact, with_wildcard, row_added, entry_added}
+use Rattle.mc_tables.specs.CacheSteps.{has_key, with_exact, with_number, with_wildcard, row_added}
+use Rattle.mc_tables.specs.CacheSteps.{entry_added}
 use Rattle.mc_tables.proofs.CacheLemmas.{key_total}
 use Rattle.mc_tables.proofs.CacheLookupLemmas.{key_among}
 use Rattle.mc_tables.proofs.CacheMapLemmas.{key_antisymmetric}
@@ -28,21 +29,20 @@ use Rattle.mc_tables.proofs.CacheMapLemmas.{key_antisymmetric}
 -- ---- one row
 
 -- an entry whose key is there is refused
-pub entry_repeated : (table : CacheText) (key : ℕ × ℕ) (entry : Entry) (old : Option Entry) →
-    old ≡ map.get table.entries key → is_some old ≡ true
-    → entry_added table key entry ≡ Err RepeatedEntry
-entry_repeated table key entry old is there =
-    let repeats : is_some (map.get table.entries key) ≡ true = ap is_some (sym is) ∙ there in
-    rw repeats refl
+pub entry_repeated : (table : CacheText) (key : ℕ × ℕ) (entry : Entry)
+    → is_some (map.get table.entries key) ≡ true → entry_added table key entry ≡ Err RepeatedEntry
+entry_repeated table key entry repeats = rw repeats refl
 
 -- an entry whose key is new is added
-pub entry_entered : (table : CacheText) (key : ℕ × ℕ) (entry : Entry) (old : Option Entry)
-    (more : map.FinMap key_cmp Entry) → old ≡ map.get table.entries key → is_some old ≡ false →
+pub entry_entered : (table : CacheText) (key : ℕ × ℕ) (entry : Entry)
+    (more : map.FinMap key_cmp Entry) → is_some (map.get table.entries key) ≡ false →
     more ≡ map.insert table.entries key entry →
-    entry_added table key entry ≡ Ok (record { entries = more; wildcards = table.wildcards })
-entry_entered table key entry old more is none grown =
-    let new : is_some (map.get table.entries key) ≡ false = ap is_some (sym is) ∙ none in
-    rw (new, grown) refl
+    entry_added table key entry ≡ Ok (record {
+      entries = more;
+      numbered = table.numbered ++ entry ∷ [];
+      wildcards = table.wildcards;
+    })
+entry_entered table key entry more new grown = rw (new, grown) refl
 
 -- the map has a row's key where an earlier row has it
 key_repeats : (exact : Option ((ℕ × ℕ) × Entry)) (rows : List RowText) →
@@ -68,6 +68,13 @@ entries_grow (Some exact) es new =
     map.from_entries_push key_total key_antisymmetric es exact.0 exact.1
     (sym (map.get-from_entries key_total es exact.0)
     ∙ none_is (map.get (map.from_entries {R = key_cmp} es) exact.0) new)
+
+-- the same by number
+numbers_grow : (exact : Option ((ℕ × ℕ) × Entry)) (es : List ((ℕ × ℕ) × Entry)) →
+    map_list (λ e. e.1) (es ++ cons_option exact [])
+    ≡ with_number (map_list (λ e. e.1) es) exact
+numbers_grow None es = ap (map_list (λ e. e.1)) (append-nil es)
+numbers_grow (Some exact) es = map-append (λ e. e.1) es (exact ∷ [])
 
 -- the groups of one row more
 groups_grow : (wildcard : Option ℕ) (groups : List ℕ) →
@@ -96,5 +103,9 @@ row_follows rows row =
           ≡ with_wildcard (set.from_list (filter_map wildcard_of rows)) (wildcard_of row) =
           ap (set.from_list {R = nat_cmp}) (filter_map-append wildcard_of rows (row ∷ []))
           ∙ groups_grow (wildcard_of row) (filter_map wildcard_of rows) in
-          rw (same ∙ new, new, entries, groups) refl
+          let numbered : map_list (λ e. e.1) (filter_map exact_entry (rows ++ row ∷ []))
+          ≡ with_number (map_list (λ e. e.1) (filter_map exact_entry rows)) (exact_entry row) =
+          ap (map_list (λ e. e.1)) (filter_map-append exact_entry rows (row ∷ []))
+          ∙ numbers_grow (exact_entry row) (filter_map exact_entry rows) in
+          rw (same ∙ new, new, entries, numbered, groups) refl
     ]

@@ -183,9 +183,3 @@ found_stands key (row ∷ rows) stands =
     find_stands key (exact_entry row) (filter_map exact_entry rows)
     (exact_stands (row.origin == 0) (row.origin, row.group) row.entry stands.0)
     (found_stands key rows stands.1)
-
--- a reference to an entry
-pub copied_stands : (o : Option (Bor Entry)) → IfSome (option_copied o) IsEntry
-    → IfSome o (λ entry. IsEntry entry.now)
-copied_stands None stands = tt
-copied_stands (Some entry) stands = stands

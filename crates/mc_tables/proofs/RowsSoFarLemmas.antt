@@ -29,7 +29,7 @@ use Rattle.mc_tables.specs.CacheTable.{exact_entry, key_of, wildcard_of, table_o
 use Rattle.mc_tables.specs.CacheReading.{row_in_words, entry_repeats, row_in_line, row_at}
 use Rattle.mc_tables.specs.CacheReading.{cache_rows_in, cache_in}
 use Rattle.mc_tables.specs.CacheSteps.{row_with_room, row_added, has_key, with_exact}
-use Rattle.mc_tables.specs.CacheSteps.{with_wildcard}
+use Rattle.mc_tables.specs.CacheSteps.{with_number, with_wildcard}
 use Rattle.mc_tables.specs.ListedRows.{Listed, is_listed, is_kept_key, is_kept, kept_rows, listed_in}
 use Rattle.mc_tables.specs.RowsSoFar.{other_keys, RowsSoFar, rows_so_far, other_added, kept_added}
 use Rattle.mc_tables.specs.RowsSoFar.{one_added, ListedSoFar, listed_so_far, listed_added, row_step}
@@ -377,17 +377,19 @@ exact_keeps entries source group entry apart stands all none = (
 
 -- and so may a row's
 entry_keeps : (table : CacheText) (source group : ℕ) (b : Bool) (entry : Option Entry)
-    (wildcards : set.FinSet nat_cmp) → eqb source 0 ≡ b → IfSome entry IsEntry → IsCache table
+    (numbered : List Entry) (wildcards : set.FinSet nat_cmp) → eqb source 0 ≡ b
+    → IfSome entry IsEntry → IsCache table
     → IsCache (record {
       entries = with_exact table.entries
           (cond b None (option_map (λ e. ((source, group), e)) entry));
+      numbered = numbered;
       wildcards = wildcards;
     })
-entry_keeps table source group true entry wildcards is stands rules =
+entry_keeps table source group true entry numbered wildcards is stands rules =
     record { entries = rules.entries; sources = rules.sources }
-entry_keeps table source group false None wildcards is stands rules =
+entry_keeps table source group false None numbered wildcards is stands rules =
     record { entries = rules.entries; sources = rules.sources }
-entry_keeps table source group false (Some entry) wildcards is stands rules =
+entry_keeps table source group false (Some entry) numbered wildcards is stands rules =
     let kept = exact_keeps table.entries source group entry is stands rules.entries rules.sources in
     record { entries = kept.0; sources = kept.1 }
 
@@ -397,12 +399,13 @@ taken_keeps : (table new : CacheText) (row : RowText) → row_added table row �
 taken_keeps table new row is stands rules =
     let grown : CacheText = record {
       entries = with_exact table.entries (exact_entry row);
+      numbered = with_number table.numbered (exact_entry row);
       wildcards = with_wildcard table.wildcards (wildcard_of row);
     } in
     let demanded = demand_then (not (has_key table.entries (exact_entry row))) RepeatedEntry
     (λ _. Ok grown) new is in
     let keeps : IsCache grown = entry_keeps table row.origin row.group (eqb row.origin 0) row.entry
-    grown.wildcards refl stands rules in
+    grown.numbered grown.wildcards refl stands rules in
     subst IsCache (ok_is {E = TableFaultKind} grown new demanded.1) keeps
 
 -- and so do rows that took one, kept or not

@@ -1,5 +1,5 @@
 -- A cache that grows by a row at a time, while its lines are read.
-use Rattle.std.specs.Prelude.{ℕ, nat_lt, Bool, false, not, Option, Some, None}
+use Rattle.std.specs.Prelude.{ℕ, nat_lt, Bool, false, not, List, [], ◌∷◌, ◌++◌, Option, Some, None}
 use Rattle.std.specs.Prelude.{is_some, Result, Ok}
 use Rattle.std.specs.FinMap as map
 use Rattle.std.specs.FinSet as set
@@ -27,6 +27,11 @@ abbrev pub with_exact : map.FinMap key_cmp Entry → Option ((ℕ × ℕ) × Ent
 with_exact entries None = entries
 with_exact entries (Some exact) = map.insert entries exact.0 exact.1
 
+-- one entry more by number, if it is one
+abbrev pub with_number : List Entry → Option ((ℕ × ℕ) × Entry) → List Entry
+with_number entries None = entries
+with_number entries (Some exact) = entries ++ exact.1 ∷ []
+
 -- one group more, if it is one
 abbrev pub with_wildcard : set.FinSet nat_cmp → Option ℕ → set.FinSet nat_cmp
 with_wildcard groups None = groups
@@ -38,6 +43,7 @@ row_added table row = do
   _ ← demand (not (has_key table.entries (exact_entry row))) RepeatedEntry
   Ok (record {
     entries = with_exact table.entries (exact_entry row);
+    numbered = with_number table.numbered (exact_entry row);
     wildcards = with_wildcard table.wildcards (wildcard_of row);
   })
 
@@ -45,12 +51,19 @@ row_added table row = do
 abbrev pub entry_added : CacheText → ℕ × ℕ → Entry → Result CacheText TableFaultKind
 entry_added table key entry = do
   _ ← demand (not (is_some (map.get table.entries key))) RepeatedEntry
-  Ok (record { entries = map.insert table.entries key entry; wildcards = table.wildcards })
+  Ok (record {
+    entries = map.insert table.entries key entry;
+    numbered = table.numbered ++ entry ∷ [];
+    wildcards = table.wildcards;
+  })
 
 -- a group more
 abbrev pub group_added : CacheText → ℕ → CacheText
-group_added table group =
-    record { entries = table.entries; wildcards = set.insert table.wildcards group }
+group_added table group = record {
+  entries = table.entries;
+  numbered = table.numbered;
+  wildcards = set.insert table.wildcards group;
+}
 
 -- the row of a line after so many others
 abbrev pub row_with_room : Order → ℕ → LineText → Result RowText TableFaultKind

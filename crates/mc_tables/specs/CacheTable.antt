@@ -102,14 +102,17 @@ pub record AreCacheRows (order : Order) (text : List ℕ) (rows : List RowText) 
 
 -- ---- the table
 
--- the entries by source and group, and the groups of the rows for every source
+-- the entries by source and group, the same entries in the order of their lines, so that each has a
+-- number, and the groups of the rows for every source
 pub record CacheText : Type 0 where
   pub entries : map.FinMap key_cmp Entry
+  pub numbered : List Entry
   pub wildcards : set.FinSet nat_cmp
 
 abbrev pub table_of : List RowText → CacheText
 table_of rows = record {
   entries = map.from_entries (filter_map exact_entry rows);
+  numbered = map_list (λ exact. exact.1) (filter_map exact_entry rows);
   wildcards = set.from_list (filter_map wildcard_of rows);
 }
 
@@ -146,6 +149,8 @@ entry_code =
 
 abbrev pub cache_code : Coded CacheText
 cache_code =
-    code_by (map.FinMap key_cmp Entry × set.FinSet nat_cmp)
-    (coded× (map.code (coded× coded_ℕ coded_ℕ) entry_code) (set.code coded_ℕ))
-    (λ t. (t.entries, t.wildcards)) (λ p. record { entries = p.0; wildcards = p.1 }) (λ _. refl)
+    code_by (map.FinMap key_cmp Entry × (List Entry × set.FinSet nat_cmp))
+    (coded× (map.code (coded× coded_ℕ coded_ℕ) entry_code)
+    (coded× (coded_list entry_code) (set.code coded_ℕ)))
+    (λ t. (t.entries, (t.numbered, t.wildcards)))
+    (λ p. record { entries = p.0; numbered = p.1.0; wildcards = p.1.1 }) (λ _. refl)

@@ -11,6 +11,7 @@ pub mod CacheTable
 pub mod CacheReading
 pub mod OutgoingSteps
 pub mod CacheSteps
+pub mod CacheNumbers
 pub mod ListedRows
 pub mod RowsSoFar
 pub use Rattle.mc_text.specs.Addr

@@ -1,6 +1,7 @@
 //! The forwarding cache, `/proc/net/ip_mr_cache`.
 
-ghost use Rattle.std.specs.Prelude.{◌≡◌, ◌≢◌, ◌<◌, ◌||◌, OnOk, IfOk, IfSome, Ok, Err, None};
+ghost use Rattle.std.specs.Prelude.{◌≡◌, ◌≢◌, ◌<◌, ◌||◌, OnOk, IfOk, IfSome, Ok, Err, None, Some};
+ghost use Rattle.std.specs.Prelude.{length, slice_get, option_and_then};
 ghost use Rattle.std.specs.Option.{option_copied};
 ghost use Rattle.std.specs.FinMap as map;
 ghost use Rattle.std.specs.FinSet as set;
@@ -87,7 +88,29 @@ impl CacheTable {
         ensures unspecified { source ≡ 0 → result ≡ None }
         ensures rules { IsCache self.now }
     {
-        self.rows.exact(source, group)
+        match self.number_of(source, group) {
+            Some(number) => Some(self.entry_at(number)),
+            None => None,
+        }
+    }
+
+    /// The number of that entry among the table's, which count from 0 in the order of their lines.
+    pub fn number_of(&self, source: Addr, group: Addr) -> Option<u32>
+        ensures within { IfSome result (λ number. number < length self.now.numbered) }
+        ensures entry { option_and_then (slice_get self.now.numbered) result
+            ≡ map.get self.now.entries (source, group) }
+        ensures rules { IsCache self.now }
+    {
+        self.rows.number_of(source, group)
+    }
+
+    /// The entry with this number.
+    pub fn entry_at(&self, number: u32) -> &Entry
+        requires { number < length self.now.numbered }
+        ensures entry { slice_get self.now.numbered number ≡ Some result.now }
+        ensures rules { IsCache self.now }
+    {
+        self.rows.entry_at(number)
     }
 
     /// Whether a resolved row of source 0.0.0.0 has this group or the group 0.0.0.0.

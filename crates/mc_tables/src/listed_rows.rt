@@ -30,6 +30,7 @@ pub struct ListedRows {
 }
 
 impl Model for ListedRows {
+    ghost use Rattle.std.specs.Prelude.{◌≤◌, length};
     ghost use Rattle.std.specs.Coded.{codes};
     ghost use Rattle.mc_text.specs.contracts.text.addr.Order as orders;
     ghost use Rattle.mc_tables.specs.RowsSoFar.{ListedSoFar, rows_code};
@@ -43,6 +44,8 @@ impl Model for ListedRows {
       listed = s.listed;
       rows = record { table = s.kept; others = s.others; count = s.count };
     } };
+
+    ghost invariant = { λ s. (length s.kept.numbered ≤ s.count) × (s.count ≤ 65536) };
 }
 
 impl ListedRows {

@@ -10,3 +10,4 @@ pub mod PlaceLemmas
 pub mod WantsLemmas
 pub mod RunLemmas
 pub mod FirstLemmas
+pub mod RowNoLemmas

@@ -8,7 +8,9 @@ use Rattle.mc_tables.specs.CacheTable.{CacheText, cache_code}
 use Rattle.mc_topology.specs.Topology.{TopologyValue, topology_code}
 use Rattle.mc_theory.specs.Lists.{below}
 use Rattle.mc_theory.specs.Nets.{Interface, interfaces}
+use Rattle.mc_forward.specs.declared.row.RowNo.{RowNo}
 use Rattle.mc_forward.specs.Domains.{TablesValue, DomainValue, IsDomain, placed_of, net_of}
+use Rattle.mc_forward.specs.RowNumbers.{AreRowsOf}
 
 -- a router's tables, and a domain, are stored as their fields
 abbrev pub tables_code : Coded TablesValue
@@ -38,7 +40,8 @@ interfaces_of d = map (interfaces (net_of d 0)) (below (length d.topology.lans))
 
 -- what was worked out belongs to the domain
 pub record IsWorkedOut (d : DomainValue) (ps : List (List (Option ℕ)))
-    (is : List (List Interface)) : Type 0 where
+    (is : List (List Interface)) (rs : List (List RowNo)) : Type 0 where
   pub domain : IsDomain d
   pub places : ps ≡ places_of d
   pub interfaces : is ≡ interfaces_of d
+  pub rows : AreRowsOf d.topology.flows d.tables rs

@@ -1,6 +1,7 @@
 pub mod Domains
-pub mod DomainParts
 pub mod Assembling
+pub mod RowNumbers
+pub mod DomainParts
 pub mod Rows
 pub mod Journeys
 pub mod Outcomes

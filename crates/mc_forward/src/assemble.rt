@@ -11,6 +11,8 @@ use crate::interfaces::interfaces_of_lans;
 use crate::items::Items;
 use crate::places::{Places, places_of_routers};
 use crate::refused::{DomainFault, Refused};
+use crate::row::RowNo;
+use crate::row_numbers::rows_of_routers;
 use crate::tables::Tables;
 use crate::wants::wants_of_lans;
 use mc_igmp::ReportList;
@@ -24,6 +26,7 @@ struct WorkedOut {
     wants: Vec<Items<bool>>,
     places: Vec<Places>,
     interfaces: Vec<Items<(RouterNo, u8)>>,
+    rows: Vec<Items<RowNo>>,
 }
 
 fn work_out(
@@ -35,17 +38,19 @@ fn work_out(
     requires { AreCounted topology.now tables.now reports.now }
     ensures worked_out { IfOk result (λ w.
         IsWorkedOut (domain_with topology.now tables.now w.wants.items)
-        w.places.items w.interfaces.items) }
+        w.places.items w.interfaces.items w.rows.items) }
     ensures assembled { IfOk result (λ w. IsAssembled topology.now tables.now reports.now
         (domain_with topology.now tables.now w.wants.items)) }
 {
     let wants = wants_of_lans(alloc, topology, reports)?;
     let places = places_of_routers(alloc, topology, tables)?;
     let interfaces = interfaces_of_lans(alloc, topology.lans(), &places)?;
+    let rows = rows_of_routers(alloc, topology, tables)?;
     Ok(WorkedOut {
         wants,
         places,
         interfaces,
+        rows,
     })
 }
 
@@ -88,8 +93,9 @@ impl Domain {
                     wants,
                     places,
                     interfaces,
+                    rows,
                 },
-            ) => Ok(Domain::new(topology, tables, wants, places, interfaces)),
+            ) => Ok(Domain::new(topology, tables, wants, places, interfaces, rows)),
             Err(Memory) => Err(Refused {
                 topology,
                 tables,

@@ -9,7 +9,7 @@ ghost use Rattle.mc_forward.specs.Rows.{row_seen, EntryStands};
 use crate::interfaces::Interfaces;
 use crate::items::Items;
 use crate::places::Places;
-use crate::row::RowFor;
+use crate::row::{RowFor, RowNo};
 use crate::tables::Tables;
 use mc_topology::{LanNo, RouterNo, Topology};
 use std::marker::Model;
@@ -22,6 +22,7 @@ pub struct Domain {
     wants: Vec<Items<bool>>,
     places: Vec<Places>,
     interfaces: Vec<Items<(RouterNo, u8)>>,
+    rows: Vec<Items<RowNo>>,
 }
 
 impl Model for Domain {
@@ -35,7 +36,7 @@ impl Model for Domain {
     ghost view = { λ d. domain_with d.topology d.tables.items d.wants.items };
 
     ghost invariant = { λ d. IsWorkedOut (domain_with d.topology d.tables.items d.wants.items)
-        d.places.items d.interfaces.items };
+        d.places.items d.interfaces.items d.rows.items };
 }
 
 fn place_of(places: &[Option<LanNo>], vif: u8) -> Option<LanNo>
@@ -55,9 +56,10 @@ impl Domain {
         wants: Vec<Items<bool>>,
         places: Vec<Places>,
         interfaces: Vec<Items<(RouterNo, u8)>>,
+        rows: Vec<Items<RowNo>>,
     ) -> Domain
         requires { IsWorkedOut (domain_with topology tables.items wants.items) places.items
-            interfaces.items }
+            interfaces.items rows.items }
         ensures { result ≡ domain_with topology tables.items wants.items }
     {
         Domain {
@@ -66,6 +68,7 @@ impl Domain {
             wants,
             places,
             interfaces,
+            rows,
         }
     }
 
@@ -96,17 +99,13 @@ impl Domain {
         ensures row { row_seen result ≡ row_of self.now flow router }
         ensures stands { EntryStands result }
     {
-        let cache = &self.tables[router.0 as usize].cache;
-        let flow = self.topology.flow(flow);
-        match cache.exact(flow.source, flow.group) {
-            Some(entry) => RowFor::Exact(entry),
-            None => {
-                if cache.wildcard(flow.group) {
-                    RowFor::Open
-                } else {
-                    RowFor::NoRow
-                }
+        let rows = &self.rows[router.0 as usize];
+        match rows.items[flow as usize] {
+            RowNo::Exact(number) => {
+                RowFor::Exact(self.tables[router.0 as usize].cache.entry_at(number))
             }
+            RowNo::Open => RowFor::Open,
+            RowNo::NoRow => RowFor::NoRow,
         }
     }
 

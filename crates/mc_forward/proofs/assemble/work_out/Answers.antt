@@ -37,6 +37,7 @@ returns-clause-worked_out c =
     record {
       domain = ok;
       places = c.in_ok-places.ensures.places;
+      rows = c.in_ok-rows.ensures;
       interfaces = c.in_ok-interfaces.ensures ∙ ap (λ ps. by ps c.lans.result) c.deref.ensures.value
           ∙ ap (by c.in_ok-places.places.items) c.lans.ensures.count
           ∙ interfaces-worked_out d c.in_ok-places.places.items ok c.in_ok-places.ensures.places;

@@ -1,0 +1,34 @@
+-- The rows of routers, as a domain keeps them: an entry by its number among those of its table.
+use Rattle.std.specs.Prelude.{◌≡◌, ℕ, List, length, Some, slice_get}
+use Rattle.std.specs.FinMap as finite
+use Rattle.mc_tables.specs.declared.entry.Entry.{Entry}
+use Rattle.mc_tables.specs.CacheTable.{CacheText}
+use Rattle.mc_topology.specs.declared.flow.Flow.{Flow}
+use Rattle.mc_theory.specs.Nets.Row.{Open as open_row, NoRow as no_row}
+use Rattle.mc_forward.specs.declared.row.RowNo.{RowNo}
+use Rattle.mc_forward.specs.declared.row.RowNo.TheVariants.{Exact, Open, NoRow}
+use Rattle.mc_forward.specs.Domains.{TablesValue, row_in}
+use Rattle.mc_forward.specs.Assembling.{EachAt}
+
+-- the number is that of the flow's entry in the cache
+pub record IsNumberOf (cache : CacheText) (f : Flow) (number : ℕ) : Type 0 where
+  pub entry : Entry
+  pub found : finite.get cache.entries (f.source, f.group) ≡ Some entry
+  pub numbered : slice_get cache.numbered number ≡ Some entry
+
+-- what is kept is what a cache has for a flow
+abbrev pub IsRowNo : CacheText → Flow → RowNo → Type 0
+IsRowNo cache f (Exact number) = IsNumberOf cache f number
+IsRowNo cache f Open = row_in cache f ≡ open_row
+IsRowNo cache f NoRow = row_in cache f ≡ no_row
+
+-- a router's rows for the flows
+pub record AreRowNos (flows : List Flow) (t : TablesValue) (rows : List RowNo) : Type 0 where
+  pub count : length rows ≡ length flows
+  pub each : EachAt (IsRowNo t.cache) flows rows
+
+-- the rows of all routers
+pub record AreRowsOf (flows : List Flow) (ts : List TablesValue) (rs : List (List RowNo))
+    : Type 0 where
+  pub count : length rs ≡ length ts
+  pub each : EachAt (AreRowNos flows) ts rs

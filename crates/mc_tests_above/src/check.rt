@@ -1,7 +1,7 @@
 //! What the checker says of entries that no certificate holds, and of names that no topology has.
 //! The other lists of entries are rows of the command line's tables `check_*`.
 
-use crate::samples::{VIFS, WANTED, with_domain};
+use crate::samples::{CHAIN, FORWARDS, Network, VIFS, WANTED, with_domain};
 use mc_cert::Reached;
 use mc_check::{Reason, Verdict, check_flow};
 use mc_forward::Domain;
@@ -11,30 +11,18 @@ use std::fmt::Write;
 use std::process::Abort;
 use std::test::Fail;
 
-/// LANs l0 to l2, r1 from l0 to l1, r2 from l1 to l2, and two flows.
-const TOPOLOGY: &str = r#"version = 1
-lans = ["l0", "l1", "l2"]
-router = [{name = "r1"}, {name = "r2"}]
-interface = [
-{router = "r1", device = "eth0", lan = "l0"},
-{router = "r1", device = "eth1", lan = "l1"},
-{router = "r2", device = "eth0", lan = "l1"},
-{router = "r2", device = "eth1", lan = "l2"},
-]
-source = [{address = "10.0.0.5", lan = "l0"}, {address = "10.0.0.6", lan = "l0"}]
-flow = [
-{source = "10.0.0.5", group = "239.1.2.3", ttl = 3},
-{source = "10.0.0.6", group = "239.1.2.3", ttl = 3},
-]
-"#;
+/// The chain of two routers, with two flows.
+const NETWORK: Network<'static> = Network {
+    sources: "10.0.0.5 l0; 10.0.0.6 l0",
+    flows: "10.0.0.5 239.1.2.3 3; 10.0.0.6 239.1.2.3 3",
+    ..CHAIN
+};
 
-/// Both routers forward the first flow, and r1 alone the second.
+/// r1 forwards both flows. r2 forwards the first one alone.
 const FIRST: (&str, &str) = (
     VIFS,
     "030201EF 0500000A 0 0 0 0 1:1\n030201EF 0600000A 0 0 0 0 1:1\n",
 );
-
-const SECOND: (&str, &str) = (VIFS, "030201EF 0500000A 0 0 0 0 1:1\n");
 
 /// The entry of the source's LAN, with this need.
 fn of_source(need: u8) -> Reached {
@@ -74,54 +62,45 @@ fn judges(
     Ok(())
 }
 
-/// The verdict on the entry of the source's LAN with this need, that of l1 and this one of l2.
+/// The verdict for a flow on the entry of the source's LAN with a need, that of l1 and one of l2.
 fn says(
     rt: &impl Abort,
     alloc: Global,
     domain: &Domain,
-    flow: u32,
-    entries: (u8, Reached),
+    case: (u32, u8, Reached),
     wanted: &str,
 ) -> Result<(), Fail> {
-    let entries = [of_source(entries.0), behind(1, 2, 0, 1), entries.1];
+    let (flow, need, last) = case;
+    let entries = [of_source(need), behind(1, 2, 0, 1), last];
     judges(rt, alloc, domain, flow, &entries, wanted)
 }
 
 /// Needs of 0, routers that the topology hasn't, and a vif past the greatest.
 fn judges_entries(rt: &impl Abort, alloc: Global, domain: &Domain) -> Result<(), Fail> {
     let nowhere = behind(2, 3, 2, 1);
+    let beyond = behind(2, 3, u32::MAX, 255);
     says(
         rt,
         alloc,
         domain,
-        0,
-        (0, behind(2, 3, 1, 1)),
+        (0, 0, behind(2, 3, 1, 1)),
         "no BadSource",
     )?;
-    says(rt, alloc, domain, 0, (1, nowhere), "no Extra r2 1 l2")?;
+    says(rt, alloc, domain, (0, 1, nowhere), "no Extra r2 1 l2")?;
     says(
         rt,
         alloc,
         domain,
-        0,
-        (1, behind(2, 0, 1, 1)),
+        (0, 1, behind(2, 0, 1, 1)),
         "no WrongNeed l2",
     )?;
-    says(rt, alloc, domain, 1, (1, nowhere), "no Unfed l2")?;
+    says(rt, alloc, domain, (1, 1, nowhere), "no Unfed l2")?;
+    says(rt, alloc, domain, (1, 1, beyond), "no Unfed l2")?;
     says(
         rt,
         alloc,
         domain,
-        1,
-        (1, behind(2, 3, u32::MAX, 255)),
-        "no Unfed l2",
-    )?;
-    says(
-        rt,
-        alloc,
-        domain,
-        1,
-        (1, behind(2, 3, 0, 255)),
+        (1, 1, behind(2, 3, 0, 255)),
         "no Unfed l2",
     )
 }
@@ -155,7 +134,7 @@ fn shows_reasons(rt: &impl Abort, alloc: Global, topology: &Topology) -> Result<
 fn entries_that_no_certificate_holds(rt: HostRuntime) -> Result<(), Fail> {
     let alloc = rt.alloc();
     let lans = ["", "", WANTED];
-    with_domain(alloc, TOPOLOGY, &[FIRST, SECOND], &lans, |domain| {
+    with_domain(alloc, &NETWORK, &[FIRST, FORWARDS], &lans, |domain| {
         judges_entries(&rt, alloc, domain)
     })
 }
@@ -164,7 +143,7 @@ fn entries_that_no_certificate_holds(rt: HostRuntime) -> Result<(), Fail> {
 fn names_that_the_topology_has_not(rt: HostRuntime) -> Result<(), Fail> {
     let alloc = rt.alloc();
     let lans = ["", "", WANTED];
-    with_domain(alloc, TOPOLOGY, &[FIRST, SECOND], &lans, |domain| {
+    with_domain(alloc, &NETWORK, &[FIRST, FORWARDS], &lans, |domain| {
         shows_reasons(&rt, alloc, domain.topology())
     })
 }

@@ -1,7 +1,7 @@
 //! The entries that `make` answers for flows of a small network. What is found of flows that can
 //! have none, the command line's cases and tables show.
 
-use crate::samples::{VIFS, WANTED, with_domain};
+use crate::samples::{CHAIN, Network, VIFS, WANTED, with_domain};
 use mc_cert::Reached;
 use mc_forward::Domain;
 use mc_maker::make;
@@ -10,47 +10,24 @@ use std::fmt::Write;
 use std::process::Abort;
 use std::test::Fail;
 
-/// The chain of r1 and r2 from l0 over l1 to l2, and r3 from l0 to l2.
-const TOPOLOGY: &str = r#"version = 1
-lans = ["l0", "l1", "l2"]
-router = [{name = "r1"}, {name = "r2"}, {name = "r3"}]
-interface = [
-{router = "r1", device = "eth0", lan = "l0"},
-{router = "r1", device = "eth1", lan = "l1"},
-{router = "r2", device = "eth0", lan = "l1"},
-{router = "r2", device = "eth1", lan = "l2"},
-{router = "r3", device = "eth0", lan = "l0"},
-{router = "r3", device = "eth1", lan = "l2"},
-]
-source = [
-{address = "10.0.0.5", lan = "l0"},
-{address = "10.0.0.6", lan = "l0"},
-{address = "10.0.0.7", lan = "l0"},
-{address = "10.0.0.8", lan = "l0"},
-{address = "10.0.0.9", lan = "l0"},
-{address = "10.0.0.10", lan = "l0"},
-]
-flow = [
-# Along the chain.
-{source = "10.0.0.5", group = "239.1.2.3", ttl = 3},
-# No row, where nobody wants it.
-{source = "10.0.0.5", group = "239.1.2.4", ttl = 3},
-# What a packet needs for l1, it needs for l2 as well.
-{source = "10.0.0.6", group = "239.1.2.3", ttl = 255},
-# A pair that no packet passes makes no entry.
-{source = "10.0.0.6", group = "239.1.2.4", ttl = 3},
-# r3 sends from l0 to l2, and r2 from there to l1, which carries its copy after l2.
-{source = "10.0.0.7", group = "239.1.2.3", ttl = 3},
-# The tree of the first flow.
-{source = "10.0.0.7", group = "239.1.2.4", ttl = 3},
-# A TTL below the need of l2.
-{source = "10.0.0.8", group = "239.1.2.3", ttl = 2},
-# Two ways to l2.
-{source = "10.0.0.9", group = "239.1.2.3", ttl = 3},
-# None.
-{source = "10.0.0.10", group = "239.1.2.3", ttl = 3},
-]
-"#;
+/// The chain of r1 and r2 from l0 over l1 to l2, and r3 from l0 to l2. Of the flows
+/// - the first goes along the chain;
+/// - the second has no row, where nobody wants it;
+/// - what a packet of the third needs for l1, it needs for l2 as well;
+/// - a pair that no packet passes makes no entry of the fourth;
+/// - of the fifth r3 sends from l0 to l2, and r2 from there to l1, which carries its copy after l2;
+/// - the sixth has the tree of the first;
+/// - the seventh has a TTL below the need of l2;
+/// - the eighth has two ways to l2;
+/// - the ninth has none.
+const NETWORK: Network<'static> = Network {
+    routers: "l0 l1; l1 l2; l0 l2",
+    sources: "10.0.0.5 l0; 10.0.0.6 l0; 10.0.0.7 l0; 10.0.0.8 l0; 10.0.0.9 l0; 10.0.0.10 l0",
+    flows: "10.0.0.5 239.1.2.3 3; 10.0.0.5 239.1.2.4 3; 10.0.0.6 239.1.2.3 255; \
+            10.0.0.6 239.1.2.4 3; 10.0.0.7 239.1.2.3 3; 10.0.0.7 239.1.2.4 3; \
+            10.0.0.8 239.1.2.3 2; 10.0.0.9 239.1.2.3 3; 10.0.0.10 239.1.2.3 3",
+    ..CHAIN
+};
 
 /// What the routers hold.
 const ROUTERS: [(&str, &str); 3] = [
@@ -142,7 +119,7 @@ fn makes_each(rt: &impl Abort, alloc: Global, domain: &Domain) -> Result<(), Fai
 #[test]
 fn entries_of_each_flow(rt: HostRuntime) -> Result<(), Fail> {
     let alloc = rt.alloc();
-    with_domain(alloc, TOPOLOGY, &ROUTERS, &["", "", WANTED], |domain| {
+    with_domain(alloc, &NETWORK, &ROUTERS, &["", "", WANTED], |domain| {
         makes_each(&rt, alloc, domain)
     })
 }

@@ -1,6 +1,6 @@
 //! Travels by pickers that no command has. The others are cases and rows of the command line's.
 
-use crate::samples::{BESIDE, FORWARDS, WANTED, two_flows, with_domain};
+use crate::samples::{CHAIN, FORWARDS, Network, WANTED, with_domain};
 use mc_forward::Domain;
 use mc_replay::{First, Numbers, Picker, Travel, replay, shown_event};
 use mc_topology::Topology;
@@ -67,13 +67,19 @@ Clean",
     )
 }
 
-/// Each router forwards: r3 from l0 to l2, beside the chain of r1 and r2.
+/// r3 from l0 to l2, beside the chain of r1 and r2, and two flows.
+const BESIDE: Network<'static> = Network {
+    routers: "l0 l1; l1 l2; l0 l2",
+    flows: "10.0.0.5 239.1.2.3 3; 10.0.0.5 239.1.2.4 3",
+    ..CHAIN
+};
+
+/// Each router forwards the first flow.
 #[test]
 fn numbers_pick_and_a_picker_is_lent(rt: HostRuntime) -> Result<(), Fail> {
     let alloc = rt.alloc();
-    let topology = two_flows(alloc, BESIDE, 3)?;
     let routers = [FORWARDS, FORWARDS, FORWARDS];
-    with_domain(alloc, &topology, &routers, &["", "", WANTED], |domain| {
+    with_domain(alloc, &BESIDE, &routers, &["", "", WANTED], |domain| {
         picks(&rt, alloc, domain)
     })
 }

@@ -2,7 +2,7 @@
 //! and which LAN wants what. Where the routers send, the command line's cases show of the same texts
 //! (`make_kernel_texts_*`).
 
-use crate::samples::{WANTED, with_domain};
+use crate::samples::{CHAIN, Network, WANTED, with_domain};
 use mc_forward::Domain;
 use mc_topology::{LanNo, RouterNo};
 use std::alloc::Global;
@@ -11,22 +11,12 @@ use std::test::Fail;
 
 /// A router with a register vif that no flow uses. As a Linux kernel printed its vifs and its
 /// cache.
-const REGISTER_TOPOLOGY: &str = r#"version = 1
-lans = ["l0", "l1"]
-router = [
-{name = "r1"},
-]
-interface = [
-{router = "r1", device = "eth0", lan = "l0"},
-{router = "r1", device = "eth1", lan = "l1"},
-]
-source = [
-{address = "10.0.0.5", lan = "l0"},
-]
-flow = [
-{source = "10.0.0.5", group = "239.1.2.3", ttl = 2},
-]
-"#;
+const REGISTER: Network<'static> = Network {
+    lans: "l0 l1",
+    routers: "l0 l1",
+    flows: "10.0.0.5 239.1.2.3 2",
+    ..CHAIN
+};
 
 const REGISTER_VIFS: &str = "Interface      BytesIn  PktsIn  BytesOut PktsOut Flags Local    Remote
  0 eth0              0       0         0       0 00000 010014AC 00000000
@@ -41,29 +31,13 @@ const REGISTER_CACHE: &str = "Group    Origin   Iif     Pkts    Bytes    Wrong O
 
 /// A router from l0 to l1 and l2, with five flows. As a Linux kernel printed its vifs and its
 /// cache.
-const FILTERS_TOPOLOGY: &str = r#"version = 1
-lans = ["l0", "l1", "l2"]
-router = [
-{name = "r1"},
-]
-interface = [
-{router = "r1", device = "eth0", lan = "l0"},
-{router = "r1", device = "eth1", lan = "l1"},
-{router = "r1", device = "eth2", lan = "l2"},
-]
-source = [
-{address = "10.0.0.5", lan = "l0"},
-{address = "10.0.0.6", lan = "l0"},
-{address = "10.0.0.7", lan = "l0"},
-]
-flow = [
-{source = "10.0.0.5", group = "239.1.2.3", ttl = 2},
-{source = "10.0.0.6", group = "239.1.2.3", ttl = 2},
-{source = "10.0.0.7", group = "239.1.2.3", ttl = 2},
-{source = "10.0.0.5", group = "232.1.1.1", ttl = 2},
-{source = "10.0.0.6", group = "232.1.1.1", ttl = 2},
-]
-"#;
+const FILTERS: Network<'static> = Network {
+    routers: "l0 l1 l2",
+    sources: "10.0.0.5 l0; 10.0.0.6 l0; 10.0.0.7 l0",
+    flows: "10.0.0.5 239.1.2.3 2; 10.0.0.6 239.1.2.3 2; 10.0.0.7 239.1.2.3 2; \
+            10.0.0.5 232.1.1.1 2; 10.0.0.6 232.1.1.1 2",
+    ..CHAIN
+};
 
 const FILTERS_VIFS: &str = "Interface      BytesIn  PktsIn  BytesOut PktsOut Flags Local    Remote
  0 eth0              0       0         0       0 00000 010014AC 00000000
@@ -111,16 +85,10 @@ fn has_two_placed(rt: &impl Abort, domain: &Domain) {
 #[test]
 fn register_vif_lies_on_no_lan(rt: HostRuntime) -> Result<(), Fail> {
     let tables = (REGISTER_VIFS, REGISTER_CACHE);
-    with_domain(
-        rt.alloc(),
-        REGISTER_TOPOLOGY,
-        &[tables],
-        &["", WANTED],
-        |domain| {
-            has_two_placed(&rt, domain);
-            Ok(())
-        },
-    )
+    with_domain(rt.alloc(), &REGISTER, &[tables], &["", WANTED], |domain| {
+        has_two_placed(&rt, domain);
+        Ok(())
+    })
 }
 
 /// A LAN has one interface, at this vif of the first router, and it wants the flows, from the first
@@ -143,7 +111,7 @@ fn has_and_wants(rt: &impl Abort, domain: &Domain, lan: u32, vif: u8, words: &st
 fn reports_of_three_hosts(rt: HostRuntime) -> Result<(), Fail> {
     let tables = (FILTERS_VIFS, FILTERS_CACHE);
     let lans = [FILTERS_L0, FILTERS_L1, FILTERS_L2];
-    with_domain(rt.alloc(), FILTERS_TOPOLOGY, &[tables], &lans, |domain| {
+    with_domain(rt.alloc(), &FILTERS, &[tables], &lans, |domain| {
         has_and_wants(&rt, domain, 0, 0, "no - - - no");
         has_and_wants(&rt, domain, 1, 1, "yes yes no yes no");
         has_and_wants(&rt, domain, 2, 2, "yes no yes no yes");

@@ -1,7 +1,7 @@
 //! Losses, and orders of handling, in three networks of one domain.
 
 use super::network::*;
-use crate::samples::{VIFS, WANTED, with_domain};
+use crate::samples::{Network, VIFS, WANTED, with_domain};
 use mc_forward::{Domain, Flight};
 use std::alloc::Global;
 use std::process::Abort;
@@ -10,41 +10,12 @@ use std::test::Fail;
 /// The chain of r1 and r2 from l0 over l1 to l2; branches, of r3 and r4 from l3 over l4 to l5, and
 /// of r5 from l3 to l6; and two ways, of r6 and r7 from l7 over l8 to l9, and of r8 from l7 to l9.
 /// Each has its flow.
-const TOPOLOGY: &str = r#"version = 1
-lans = ["l0", "l1", "l2", "l3", "l4", "l5", "l6", "l7", "l8", "l9"]
-router = [
-{name = "r1"}, {name = "r2"}, {name = "r3"}, {name = "r4"},
-{name = "r5"}, {name = "r6"}, {name = "r7"}, {name = "r8"},
-]
-interface = [
-{router = "r1", device = "eth0", lan = "l0"},
-{router = "r1", device = "eth1", lan = "l1"},
-{router = "r2", device = "eth0", lan = "l1"},
-{router = "r2", device = "eth1", lan = "l2"},
-{router = "r3", device = "eth0", lan = "l3"},
-{router = "r3", device = "eth1", lan = "l4"},
-{router = "r4", device = "eth0", lan = "l4"},
-{router = "r4", device = "eth1", lan = "l5"},
-{router = "r5", device = "eth0", lan = "l3"},
-{router = "r5", device = "eth1", lan = "l6"},
-{router = "r6", device = "eth0", lan = "l7"},
-{router = "r6", device = "eth1", lan = "l8"},
-{router = "r7", device = "eth0", lan = "l8"},
-{router = "r7", device = "eth1", lan = "l9"},
-{router = "r8", device = "eth0", lan = "l7"},
-{router = "r8", device = "eth1", lan = "l9"},
-]
-source = [
-{address = "10.0.0.5", lan = "l0"},
-{address = "10.0.0.6", lan = "l3"},
-{address = "10.0.0.7", lan = "l7"},
-]
-flow = [
-{source = "10.0.0.5", group = "239.1.2.3", ttl = 3},
-{source = "10.0.0.6", group = "239.1.2.3", ttl = 3},
-{source = "10.0.0.7", group = "239.1.2.3", ttl = 3},
-]
-"#;
+const NETWORK: Network<'static> = Network {
+    lans: "l0 l1 l2 l3 l4 l5 l6 l7 l8 l9",
+    routers: "l0 l1; l1 l2; l3 l4; l4 l5; l3 l6; l7 l8; l8 l9; l7 l9",
+    sources: "10.0.0.5 l0; 10.0.0.6 l3; 10.0.0.7 l7",
+    flows: "10.0.0.5 239.1.2.3 3; 10.0.0.6 239.1.2.3 3; 10.0.0.7 239.1.2.3 3",
+};
 
 /// A router that forwards all three flows from vif 0 to vif 1.
 const ROUTER: (&str, &str) = (
@@ -127,7 +98,7 @@ fn flights_end(rt: &impl Abort, alloc: Global, domain: &Domain) -> Result<(), Fa
 fn orders_and_losses(rt: HostRuntime) -> Result<(), Fail> {
     let alloc = rt.alloc();
     let lans = ["", "", WANTED, "", "", WANTED, WANTED, "", "", WANTED];
-    with_domain(alloc, TOPOLOGY, &[ROUTER; 8], &lans, |domain| {
+    with_domain(alloc, &NETWORK, &[ROUTER; 8], &lans, |domain| {
         flights_end(&rt, alloc, domain)
     })
 }

@@ -4,7 +4,7 @@
 //! left.
 
 use super::network::*;
-use crate::samples::{Parts, VIFS, WANTED, assembled, parts_of};
+use crate::samples::{CHAIN, Network, Parts, VIFS, WANTED, assembled, parts_of, topology_of};
 use mc_forward::{Carried, Domain, DomainFault, Event, Flight, Outcome, Refused, Stray};
 use mc_topology::{LanNo, Topology};
 use std::alloc::{AllocError, Global};
@@ -12,29 +12,11 @@ use std::process::Abort;
 use std::test::Fail;
 
 /// r1 from l0 to l1 and l2, and five routers from l1 to l2.
-const WIDE: &str = r#"version = 1
-lans = ["l0", "l1", "l2"]
-router = [
-{name = "r1"}, {name = "r2"}, {name = "r3"}, {name = "r4"}, {name = "r5"}, {name = "r6"},
-]
-interface = [
-{router = "r1", device = "eth0", lan = "l0"},
-{router = "r1", device = "eth1", lan = "l1"},
-{router = "r1", device = "eth2", lan = "l2"},
-{router = "r2", device = "eth0", lan = "l1"},
-{router = "r2", device = "eth1", lan = "l2"},
-{router = "r3", device = "eth0", lan = "l1"},
-{router = "r3", device = "eth1", lan = "l2"},
-{router = "r4", device = "eth0", lan = "l1"},
-{router = "r4", device = "eth1", lan = "l2"},
-{router = "r5", device = "eth0", lan = "l1"},
-{router = "r5", device = "eth1", lan = "l2"},
-{router = "r6", device = "eth0", lan = "l1"},
-{router = "r6", device = "eth1", lan = "l2"},
-]
-source = [{address = "10.0.0.5", lan = "l0"}]
-flow = [{source = "10.0.0.5", group = "239.1.2.3", ttl = 5}]
-"#;
+const WIDE: Network<'static> = Network {
+    routers: "l0 l1 l2; l1 l2; l1 l2; l1 l2; l1 l2; l1 l2",
+    flows: "10.0.0.5 239.1.2.3 5",
+    ..CHAIN
+};
 
 /// r1's vifs and its row, which also sends to a vif that isn't there.
 const FIRST: (&str, &str) = (
@@ -75,33 +57,22 @@ fn assembled_at_last(
     }
 }
 
-/// The domain of a topology's text and these parts, at the second try where the first is refused.
+/// The domain of a network and these parts, at the second try where the first is refused.
 fn assembled_over(
     rt: &impl Abort,
     alloc: Global,
-    topology: &str,
+    network: &Network<'_>,
     parts: Parts,
 ) -> Result<Domain, Fail> {
-    let topology = Topology::read(alloc, topology.as_bytes())?;
+    let topology = topology_of(alloc, network)?;
     assembled_at_last(rt, alloc, topology, parts)
-}
-
-/// The domain of these texts, at the second try where the first is refused.
-fn domain_at_last(
-    rt: &impl Abort,
-    alloc: Global,
-    topology: &str,
-    routers: &[(&str, &str)],
-    lans: &[&str],
-) -> Result<Domain, Fail> {
-    let parts = parts_of(alloc, routers, lans)?;
-    assembled_over(rt, alloc, topology, parts)
 }
 
 /// The wide domain, of which l1 wants the flow.
 fn wide(rt: &impl Abort, alloc: Global) -> Result<Domain, Fail> {
     let routers = [FIRST, OTHER, OTHER, OTHER, OTHER, OTHER];
-    domain_at_last(rt, alloc, WIDE, &routers, &["", WANTED, ""])
+    let parts = parts_of(alloc, &routers, &["", WANTED, ""])?;
+    assembled_over(rt, alloc, &WIDE, parts)
 }
 
 /// Whether a LAN wants the flow, and how many interfaces it has.

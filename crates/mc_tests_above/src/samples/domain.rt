@@ -1,5 +1,6 @@
 //! Domains put together of their texts.
 
+use super::network::Network;
 use super::tables::tables_of;
 use mc_forward::{Domain, Tables};
 use mc_igmp::ReportList;
@@ -36,35 +37,41 @@ pub(crate) fn assembled(alloc: Global, topology: Topology, parts: Parts) -> Resu
     Ok(Domain::assemble(alloc, topology, parts.0, parts.1)?)
 }
 
-/// The domain of a topology's text and these parts.
-fn domain_over(alloc: Global, topology: &str, parts: Parts) -> Result<Domain, Fail> {
-    let topology = Topology::read(alloc, topology.as_bytes())?;
+/// The topology of a network.
+pub(crate) fn topology_of(alloc: Global, network: &Network<'_>) -> Result<Topology, Fail> {
+    let text = network.text(alloc)?;
+    Ok(Topology::read(alloc, text.as_bytes())?)
+}
+
+/// The domain of a network and these parts.
+fn domain_over(alloc: Global, network: &Network<'_>, parts: Parts) -> Result<Domain, Fail> {
+    let topology = topology_of(alloc, network)?;
     assembled(alloc, topology, parts)
 }
 
-/// The domain of these texts: the topology, each router's vifs and cache, which may go without its
+/// The domain of a network and these texts: each router's vifs and cache, which may go without its
 /// header, and each LAN's reports.
 fn domain_of(
     alloc: Global,
-    topology: &str,
+    network: &Network<'_>,
     routers: &[(&str, &str)],
     lans: &[&str],
 ) -> Result<Domain, Fail> {
     let parts = parts_of(alloc, routers, lans)?;
-    domain_over(alloc, topology, parts)
+    domain_over(alloc, network, parts)
 }
 
-/// What is told of the domain of these texts, which is lent: the one place that drops a domain.
+/// What is told of the domain of a network and these texts, which is lent: the one place that drops a domain.
 pub(crate) fn with_domain<F: FnOnce(&Domain) -> Result<(), Fail> + Drop>(
     alloc: Global,
-    topology: &str,
+    network: &Network<'_>,
     routers: &[(&str, &str)],
     lans: &[&str],
     told: F,
 ) -> Result<(), Fail>
     requires { F.IsAlwaysCallable told }
 {
-    match domain_of(alloc, topology, routers, lans) {
+    match domain_of(alloc, network, routers, lans) {
         Ok(domain) => told(&domain),
         Err(fail) => Err(fail),
     }

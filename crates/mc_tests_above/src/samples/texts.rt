@@ -1,18 +1,4 @@
-//! The texts of a chain of two routers.
-
-/// LANs l0 to l2, r1 from l0 to l1, r2 from l1 to l2, and a flow from l0.
-pub(crate) const CHAIN: &str = r#"version = 1
-lans = ["l0", "l1", "l2"]
-router = [{name = "r1"}, {name = "r2"}]
-interface = [
-{router = "r1", device = "eth0", lan = "l0"},
-{router = "r1", device = "eth1", lan = "l1"},
-{router = "r2", device = "eth0", lan = "l1"},
-{router = "r2", device = "eth1", lan = "l2"},
-]
-source = [{address = "10.0.0.5", lan = "l0"}]
-flow = [{source = "10.0.0.5", group = "239.1.2.3", ttl = 3}]
-"#;
+//! The texts of a router's tables, and of a report.
 
 /// A router's vifs: 0 is eth0 and 1 is eth1.
 pub(crate) const VIFS: &str = "Interface BytesIn PktsIn BytesOut PktsOut Flags Local Remote

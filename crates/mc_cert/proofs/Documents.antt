@@ -21,10 +21,10 @@ use Rattle.mc_theory.specs.Nets.{Interface}
 use Rattle.mc_theory.specs.Certificates.{Entry}
 use Rattle.mc_topology.specs.declared.flow.Flow.{Flow}
 use Rattle.mc_topology.specs.Rows.{RouterRow}
-use Rattle.mc_topology.specs.Topology.{TopologyValue, IsTopology}
+use Rattle.mc_topology.specs.Topology.{TopologyValue, IsTopology, lan_name, router_name}
 use Rattle.mc_topology.proofs.NameLemmas.{number_of_lan, number_of_router}
 use Rattle.mc_cert.specs.Certificate.{Tree}
-use Rattle.mc_cert.specs.CertificateText.{lan_name, router_name, listed_after, listed}
+use Rattle.mc_cert.specs.CertificateText.{listed_after, listed}
 use Rattle.mc_cert.specs.CertificateText.{forwarder_text, entry_text, tree_text, flow_text}
 use Rattle.mc_cert.specs.CertificateText.{flow_texts, text_of}
 use Rattle.mc_cert.specs.Entries.{entry_keys}

@@ -7,10 +7,10 @@ use Rattle.mc_text.specs.Addr.{dotted}
 use Rattle.mc_topology.specs.declared.flow.Flow.{Flow}
 use Rattle.mc_topology.specs.Names.{index_of}
 use Rattle.mc_topology.specs.Routers.{router_no_of}
-use Rattle.mc_topology.specs.Topology.{TopologyValue}
+use Rattle.mc_topology.specs.Topology.{TopologyValue, lan_name, router_name}
 use Rattle.mc_topology.proofs.NameLemmas.{name_of_lan, name_of_router}
 use Rattle.mc_cert.specs.Certificate.{Tree}
-use Rattle.mc_cert.specs.CertificateText.{lan_name, router_name, listed, flow_text, flow_texts}
+use Rattle.mc_cert.specs.CertificateText.{listed, flow_text, flow_texts}
 use Rattle.mc_cert.specs.CertificateText.{tree_text, text_of}
 
 -- ---- numbers

@@ -1,22 +1,14 @@
 -- The JSON text of a certificate, in version 2: compact, on one line without a line feed, the keys
 -- of each object in their order. Names and addresses have no byte that JSON escapes.
-use Rattle.std.specs.Prelude.{ℕ, List, [], ◌∷◌, ◌++◌, map, codes, decimal, slice_get, Option, Some}
-use Rattle.std.specs.Prelude.{None, option_map, unwrap_or}
+use Rattle.std.specs.Prelude.{ℕ, List, [], ◌∷◌, ◌++◌, map, codes, decimal, Option, Some, None}
 use Rattle.std.specs.List.{zip}
 use Rattle.mc_text.specs.Addr.{dotted}
 use Rattle.mc_theory.specs.Nets.{Interface}
 use Rattle.mc_theory.specs.Certificates.{Entry}
 use Rattle.mc_topology.specs.declared.flow.Flow.{Flow}
-use Rattle.mc_topology.specs.Topology.{TopologyValue}
+use Rattle.mc_topology.specs.Topology.{TopologyValue, lan_name, router_name}
 use Rattle.mc_cert.specs.Certificate.{Tree}
 use Rattle.mc_cert.specs.Distinct.{distinct_trees, place_of}
-
--- the name of a LAN and of a router
-abbrev pub lan_name : TopologyValue → ℕ → List ℕ
-lan_name t lan = unwrap_or (slice_get t.lans lan) []
-
-abbrev pub router_name : TopologyValue → ℕ → List ℕ
-router_name t router = unwrap_or (option_map (λ r. r.name) (slice_get t.routers router)) []
 
 -- texts one after the other, the first one behind this separator and each other one behind a comma
 abbrev pub listed_after : List ℕ → List (List ℕ) → List ℕ

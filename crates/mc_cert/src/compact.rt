@@ -4,7 +4,8 @@
 ghost use Rattle.std.specs.Prelude.{◌≡◌, ◌++◌, ◌<◌, ◌≤◌, ◌⊎◌, [], ◌∷◌, true, All, length, vec_len};
 ghost use Rattle.std.specs.Prelude.{map, codes, decimal, IfSome, IfOk};
 ghost use Rattle.mc_text.specs.Addr.{dotted};
-ghost use Rattle.mc_cert.specs.CertificateText.{lan_name, router_name, listed, forwarder_text};
+ghost use Rattle.mc_topology.specs.Topology.{lan_name, router_name};
+ghost use Rattle.mc_cert.specs.CertificateText.{listed, forwarder_text};
 ghost use Rattle.mc_cert.specs.CertificateText.{entry_text, tree_text, flow_text, flow_texts};
 ghost use Rattle.mc_cert.specs.Stands.{CertificateStands};
 ghost use Rattle.mc_cert.specs.Writable.{IsWritableFor, IsWritableTreeFor};

@@ -91,7 +91,14 @@ fn entry_of(topology: &Topology, value: &Value) -> Result<Reached, CertFaultKind
     })
 }
 
-impl Rows for At {
+/// The entries of the flow or the tree at a place.
+#[derive(Drop)]
+struct Entries<'t> {
+    topology: &'t Topology,
+    list: At,
+}
+
+impl<'t> Rows for Entries<'t> {
     ghost use Rattle.mc_cert.specs.declared.entry.TheConstants.{MAX_ENTRIES};
     ghost use Rattle.mc_theory.specs.Certificates.{Entry};
 
@@ -101,20 +108,16 @@ impl Rows for At {
 
     ghost seen = { λ entry. entry };
 
-    ghost may = { λ _ _ n. n < MAX_ENTRIES };
+    ghost may = { λ _ n. n < MAX_ENTRIES };
 
-    ghost one = { λ list t n d. place (entry_place list (n + 1)) (entry_of t d) };
+    ghost one = { λ entries n d.
+        place (entry_place entries.list (n + 1)) (entry_of entries.topology.now d) };
 
-    /// Reads an entry of the list at this place, and adds to a fault its own.
-    fn read_row(
-        &self,
-        _alloc: Global,
-        topology: &Topology,
-        number: usize,
-        value: &Value,
-    ) -> Result<Reached, CertFault> {
+    /// Reads an entry, and adds to a fault its place.
+    fn read_row(&self, number: usize, value: &Value) -> Result<Reached, CertFault> {
         let number = number as u32 + 1;
-        entry_of(topology, value).map_err(|kind| kind.at(self.entry(number)))
+        let place = self.list.entry(number);
+        entry_of(self.topology, value).map_err(|kind| kind.at(place))
     }
 }
 
@@ -130,5 +133,5 @@ pub(crate) fn entries_of(
     ensures { Gives (λ entries. entries.items) result
         (entries_of topology.now list (map view rows.now)) }
 {
-    each(alloc, topology, &list, rows)
+    each(alloc, &Entries { topology, list }, rows)
 }

@@ -3,12 +3,10 @@
 ghost use Rattle.std.specs.Prelude.{◌≡◌, ℕ, ◌<◌, [], length, vec_len, map, Result, IfOk};
 ghost use Rattle.serde_json.specs.Data.{Data};
 ghost use Rattle.serde_json.specs.View.{view};
-ghost use Rattle.mc_topology.specs.Topology.{TopologyValue};
 ghost use Rattle.mc_cert.specs.declared.fault.CertFault.{CertFault};
 ghost use Rattle.mc_cert.specs.Answer.{Gives, each};
 
 use crate::fault::CertFault;
-use mc_topology::Topology;
 use serde_json::Value;
 use std::alloc::Global;
 
@@ -23,38 +21,31 @@ pub(crate) trait Rows {
     ghost seen: { Self.Item → Row };
 
     // whether a row may have this number
-    ghost may: { Self → TopologyValue → ℕ → Type 0 };
+    ghost may: { Self → ℕ → Type 0 };
 
     // the row with this number
-    ghost one: { Self → TopologyValue → ℕ → Data → Result Row CertFault };
+    ghost one: { Self → ℕ → Data → Result Row CertFault };
 
     /// Reads the row with this number, counted from 0.
-    fn read_row(
-        &self,
-        alloc: Global,
-        topology: &Topology,
-        number: usize,
-        value: &Value,
-    ) -> Result<Self::Item, CertFault>
-        requires { may self.now topology.now number }
-        ensures { Gives seen result (one self.now topology.now number (view value.now)) };
+    fn read_row(&self, number: usize, value: &Value) -> Result<Self::Item, CertFault>
+        requires { may self.now number }
+        ensures { Gives seen result (one self.now number (view value.now)) };
 }
 
 /// The rows, one after the other.
 pub(crate) fn each<R: Rows>(
     alloc: Global,
-    topology: &Topology,
     rows: &R,
     values: &[Value],
 ) -> Result<Vec<R::Item>, CertFault>
-    requires { (n : ℕ) → n < length values.now → R.may rows.now topology.now n }
+    requires { (n : ℕ) → n < length values.now → R.may rows.now n }
     ensures rows { Gives (λ items. map R.seen items.items) result
-        (each (R.one rows.now topology.now) [] (map view values.now)) }
+        (each (R.one rows.now) [] (map view values.now)) }
     ensures count { IfOk result (λ items. vec_len items ≡ length values.now) }
 {
     let mut items = Vec::with_capacity(alloc, values.len())?;
     for value in values {
-        let item = rows.read_row(alloc, topology, items.len(), value)?;
+        let item = rows.read_row(items.len(), value)?;
         items.push(item)?;
     }
     Ok(items)

@@ -79,9 +79,12 @@ fn reached_of<'a>(flow: &Flow, value: &'a Value) -> Result<&'a [Value], CertFaul
 
 /// The flows, each with its list of entries.
 #[derive(Drop)]
-struct FlowLists;
+struct FlowLists<'t> {
+    alloc: Global,
+    topology: &'t Topology,
+}
 
-impl Rows for FlowLists {
+impl<'t> Rows for FlowLists<'t> {
     ghost use Rattle.mc_cert.specs.declared.version_one.TheConstants.{MAX_FLOWS};
     ghost use Rattle.mc_cert.specs.Certificate.{Tree};
 
@@ -91,22 +94,16 @@ impl Rows for FlowLists {
 
     ghost seen = { λ entries. entries.items };
 
-    ghost may = { λ _ t n. (n < MAX_FLOWS) × (n < length t.flows) };
+    ghost may = { λ lists n. (n < MAX_FLOWS) × (n < length lists.topology.now.flows) };
 
-    ghost one = { λ _. flow_of };
+    ghost one = { λ lists. flow_of lists.topology.now };
 
     #[tactic(auto, unfolding(crate::specs::VersionOne::flow_of))]
-    fn read_row(
-        &self,
-        alloc: Global,
-        topology: &Topology,
-        number: usize,
-        value: &Value,
-    ) -> Result<Vec<Reached>, CertFault> {
+    fn read_row(&self, number: usize, value: &Value) -> Result<Vec<Reached>, CertFault> {
         let place = At::Flow(number as u32 + 1);
-        let flow = topology.flow(number as u32);
+        let flow = self.topology.flow(number as u32);
         let rows = reached_of(flow, value).map_err(|kind| kind.at(place))?;
-        entries_of(alloc, topology, place, rows)
+        entries_of(self.alloc, self.topology, place, rows)
     }
 }
 
@@ -120,6 +117,6 @@ pub(crate) fn flows_in(
     ensures { Gives (λ c. c) result (flows_in topology.now (members_view object.now.entries)) }
 {
     let rows = flow_rows(topology, object).map_err(|kind| kind.at(At::Top))?;
-    let flows = each(alloc, topology, &FlowLists, rows)?;
+    let flows = each(alloc, &FlowLists { alloc, topology }, rows)?;
     Ok(Certificate::from_flows(flows))
 }

@@ -1,5 +1,6 @@
 -- What a topology is.
-use Rattle.std.specs.Prelude.{◌≡◌, ℕ, ◌<◌, ◌≤◌, IsTrue, List, length, refl, Some, slice_get}
+use Rattle.std.specs.Prelude.{◌≡◌, ℕ, ◌<◌, ◌≤◌, IsTrue, List, [], length, refl, Some, slice_get}
+use Rattle.std.specs.Prelude.{option_map, unwrap_or}
 use Rattle.std.specs.Coded.{Coded, code_by, coded×, coded_ℕ, coded_list}
 use Rattle.mc_text.specs.Addr.{IsAddr, IsSource, IsForwardedGroup}
 use Rattle.mc_topology.specs.declared.flow.Flow.{Flow}
@@ -30,6 +31,13 @@ topology_of s = record {
   interfaces = s.interfaces;
   flows = s.flows;
 }
+
+-- the name of a LAN, and of a router; empty for a number that the topology hasn't
+abbrev pub lan_name : TopologyValue → ℕ → List ℕ
+lan_name t lan = unwrap_or (slice_get t.lans lan) []
+
+abbrev pub router_name : TopologyValue → ℕ → List ℕ
+router_name t router = unwrap_or (option_map (λ r. r.name) (slice_get t.routers router)) []
 
 -- What tells two rows of a section apart: the name of a LAN and of a router,
 abbrev pub lan_key : List ℕ → List ℕ

@@ -2,6 +2,7 @@
 //! on which LAN, and the flows.
 #![tactic(auto)]
 
+mod at;
 mod fault;
 mod flow;
 mod flows;
@@ -16,6 +17,7 @@ mod routers;
 mod sources;
 mod topology;
 
+pub use at::{AtLan, AtVif};
 pub use fault::{Section, TopologyFault, TopologyFaultKind};
 pub use flow::Flow;
 pub use interface::Interface;

@@ -6,6 +6,7 @@ ghost use Rattle.mc_topology.specs.Interfaces.{lan_of_interface};
 ghost use Rattle.mc_topology.specs.Names.{is_name, index_of};
 ghost use Rattle.mc_topology.specs.Routers.{router_no_of};
 ghost use Rattle.mc_topology.specs.Topology.{IsInterfaceAmong, IsFlowAmong, IsTopology};
+ghost use Rattle.mc_topology.specs.Topology.{lan_name, router_name};
 
 use crate::fault::TopologyFault;
 use crate::flow::Flow;
@@ -190,6 +191,28 @@ impl Topology {
         ensures named { IsTrue (is_name result.now) }
     {
         self.lans.name(lan)
+    }
+
+    /// The name of a router, empty where the topology has no such number.
+    pub fn router_name_or_empty(&self, router: RouterNo) -> &str
+        ensures { result.now ≡ router_name self.now router }
+    {
+        if router.0 < self.routers() {
+            self.router_name(router)
+        } else {
+            ""
+        }
+    }
+
+    /// The name of a LAN, empty where the topology has no such number.
+    pub fn lan_name_or_empty(&self, lan: LanNo) -> &str
+        ensures { result.now ≡ lan_name self.now lan }
+    {
+        if lan.0 < self.lans() {
+            self.lan_name(lan)
+        } else {
+            ""
+        }
     }
 
     /// The number of the router with the name. None where no router has it.

@@ -10,7 +10,7 @@ returns-in_err-item-clause-rows g c =
     c.from_residual-in_err-item.ensures.1 in
     let long : c.len.result ≡ length c.loop-value.items.items = omega arith in
     rw (p.1, p.2) (λ some. sym c.loop-value.invariant.rows
-    ∙ each_refused (g.R.Rows.one c.args.rows.now c.args.topology.now) view g.R.Rows.seen
+    ∙ each_refused (g.R.Rows.one c.args.rows.now) view g.R.Rows.seen
     c.loop-value.items.items c.args.values.now c.loop-value.value-index
     c.value-item.result c.in_err-item.field-0.0 c.loop-value-test.true c.value-item.is
     (rw (← long) (c.in_err-item.ensures some)))
@@ -18,7 +18,7 @@ returns-in_err-item-clause-rows g c =
 pub loop-value-preserved : goal.loop-value-preserved
 loop-value-preserved g c =
     let long : c.len.result ≡ length c.loop-value.items.items = omega arith in
-    let next = each_next (g.R.Rows.one c.args.rows.now c.args.topology.now) view g.R.Rows.seen
+    let next = each_next (g.R.Rows.one c.args.rows.now) view g.R.Rows.seen
     c.loop-value.items.items c.args.values.now c.loop-value.value-index c.value-item.result
     c.in_ok-item.item c.loop-value-test.true c.value-item.is (rw (← long) c.in_ok-item.ensures) in
     record {
@@ -28,5 +28,5 @@ loop-value-preserved g c =
 
 pub returns-clause-rows : goal.returns-clause-rows
 returns-clause-rows g c = sym c.loop-value.invariant.rows
-    ∙ each_done (g.R.Rows.one c.args.rows.now c.args.topology.now) view g.R.Rows.seen
+    ∙ each_done (g.R.Rows.one c.args.rows.now) view g.R.Rows.seen
     c.loop-value.items.items c.args.values.now c.loop-value.value-index c.loop-value-test.false

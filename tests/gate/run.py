@@ -31,6 +31,10 @@ MARK = "MCAUDIT_GATE"
 TESTS = [f"crates/{name}/out/{name}_tests" for name in ("mc_tests_below", "mc_tests_above")]  # as `rt ci` builds them
 TICK = os.sysconf("SC_CLK_TCK")
 COUNTS = re.compile(r"(\d+) passed, (\d+) failed")
+CORES = len(os.sched_getaffinity(0))
+# `rt ci` then runs as many checks beside each other as there are cores. One that has four cores to itself ends no
+# sooner where others wait for theirs, and takes half as much processor time again.
+ONE_JOB_A_CHECK = {"RT_JOBS": str(CORES)}
 
 
 class Prover:
@@ -96,7 +100,7 @@ class Gate:
         print(f"== {name}: {' '.join(words)}", flush=True)
         before, begun, counts = processor_time(), time.monotonic(), None
         how = {"stdin": subprocess.DEVNULL, "stdout": subprocess.PIPE, "text": True, "errors": "replace"}
-        marked = {**os.environ, MARK: self.room, "PYTHONUNBUFFERED": "1"}
+        marked = {**os.environ, MARK: self.room, "PYTHONUNBUFFERED": "1", **ONE_JOB_A_CHECK}
         running = subprocess.Popen(words, cwd=self.room, env=marked, **how)
         for line in running.stdout:
             counts = COUNTS.fullmatch(line.strip()) or counts
@@ -145,7 +149,7 @@ def report(gate, crates, begun):
     wall = sum(it[2] for it in gate.steps)
     lines = ["# What the gate takes", ""]
     day = time.strftime("%Y-%m-%d", time.gmtime(begun))
-    lines += [f"`make test` on {day}, {len(os.sched_getaffinity(0))} cores: {sum_of_steps:,.0f} processor-seconds in {wall / 60:.0f} minutes.", ""]
+    lines += [f"`make test` on {day}, {CORES} cores: {sum_of_steps:,.0f} processor-seconds in {wall / 60:.0f} minutes.", ""]
     lines += ["| Step | processor-seconds | minutes |", "|---|---|---|"]
     lines += [f"| {name} | {seconds:,.0f} | {minutes / 60:.1f} |" for name, seconds, minutes in gate.steps]
     lines += ["", "Of these the prover, by crate, in processor-seconds:", "", "| Crate | proof | edits | tests |", "|---|---|---|---|"]

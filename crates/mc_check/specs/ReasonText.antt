@@ -1,19 +1,12 @@
 -- How a reason and a verdict are written, by the names of a topology.
-use Rattle.std.specs.Prelude.{ℕ, List, [], ◌++◌, codes, decimal, slice_get, option_map, unwrap_or}
-use Rattle.mc_topology.specs.Topology.{TopologyValue}
+use Rattle.std.specs.Prelude.{List, ◌++◌, codes, decimal}
+use Rattle.mc_topology.specs.Topology.{TopologyValue, lan_name, router_name}
 use Rattle.mc_check.specs.declared.verdict.Reason.{Reason}
 use Rattle.mc_check.specs.declared.verdict.Reason.TheVariants.{TwoEntries, BadSource, Wildcard}
 use Rattle.mc_check.specs.declared.verdict.Reason.TheVariants.{Stray, Extra, WrongRank, WrongNeed}
 use Rattle.mc_check.specs.declared.verdict.Reason.TheVariants.{Unfed, Missed, Low}
 use Rattle.mc_check.specs.declared.verdict.Verdict.{Verdict}
 use Rattle.mc_check.specs.declared.verdict.Verdict.TheVariants.{Yes, No}
-
--- the name of a LAN, and of a router; empty for a number that the topology hasn't
-abbrev pub lan_name : TopologyValue → ℕ → List ℕ
-lan_name t lan = unwrap_or (slice_get t.lans lan) []
-
-abbrev pub router_name : TopologyValue → ℕ → List ℕ
-router_name t router = unwrap_or (option_map (λ r. r.name) (slice_get t.routers router)) []
 
 abbrev pub reason_text : TopologyValue → Reason → List ℕ
 reason_text t (TwoEntries lan) = codes "TwoEntries " ++ lan_name t lan

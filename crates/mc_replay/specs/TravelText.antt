@@ -1,18 +1,11 @@
 -- How an event and a finding are written, by the names of a topology.
-use Rattle.std.specs.Prelude.{ℕ, List, [], ◌++◌, codes, decimal, slice_get, option_map, unwrap_or}
-use Rattle.mc_topology.specs.Topology.{TopologyValue}
+use Rattle.std.specs.Prelude.{List, ◌++◌, codes, decimal}
+use Rattle.mc_topology.specs.Topology.{TopologyValue, lan_name, router_name}
 use Rattle.mc_theory.specs.Events.{Event, Outcome}
 use Rattle.mc_theory.specs.Events.Outcome.{Open, NoRow, OtherVif, Sent}
 use Rattle.mc_replay.specs.declared.finding.Finding.{Finding}
 use Rattle.mc_replay.specs.declared.finding.Finding.TheVariants.{Clean, Duplicate, Loop, Stray}
 use Rattle.mc_replay.specs.declared.finding.Finding.TheVariants.{Missed}
-
--- the name of a LAN, and of a router; empty for a number that the topology hasn't
-abbrev pub lan_name : TopologyValue → ℕ → List ℕ
-lan_name t lan = unwrap_or (slice_get t.lans lan) []
-
-abbrev pub router_name : TopologyValue → ℕ → List ℕ
-router_name t router = unwrap_or (option_map (λ r. r.name) (slice_get t.routers router)) []
 
 abbrev pub outcome_text : Outcome → List ℕ
 outcome_text Open = codes "open"

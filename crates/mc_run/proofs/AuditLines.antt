@@ -6,12 +6,12 @@ use Rattle.std.specs.Prelude.{codes, slice_index, decimal}
 use Rattle.std.proofs.lemmas.Bool.{eq-eqb, false≢true}
 use Rattle.mc_text.proofs.BundleWords.{Without}
 use Rattle.mc_topology.specs.declared.flow.Flow.{Flow}
-use Rattle.mc_topology.specs.Topology.{TopologyValue, IsTopology}
+use Rattle.mc_topology.specs.Topology.{TopologyValue, IsTopology, router_name}
 use Rattle.mc_theory.specs.Events.{Event, Outcome}
 use Rattle.mc_theory.specs.Events.Outcome.{Open, NoRow, OtherVif, Sent}
 use Rattle.mc_check.specs.declared.verdict.Verdict.{Verdict}
 use Rattle.mc_check.specs.declared.verdict.Verdict.TheVariants.{Yes}
-use Rattle.mc_replay.specs.TravelText.{event_text, finding_text, outcome_text, router_name}
+use Rattle.mc_replay.specs.TravelText.{event_text, finding_text, outcome_text}
 use Rattle.mc_replay.specs.declared.finding.Finding.{Finding}
 use Rattle.mc_replay.specs.declared.finding.Finding.TheVariants.{Clean, Duplicate, Loop, Stray}
 use Rattle.mc_replay.specs.declared.finding.Finding.TheVariants.{Missed}

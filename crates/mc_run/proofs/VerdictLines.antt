@@ -13,8 +13,8 @@ use Rattle.mc_text.proofs.BundleWords.{Without, Without-append, Without-from_lis
 use Rattle.mc_topology.specs.declared.flow.Flow.{Flow}
 use Rattle.mc_topology.specs.Names.{is_name, is_name_byte}
 use Rattle.mc_topology.specs.Rows.{RouterRow}
-use Rattle.mc_topology.specs.Topology.{TopologyValue, IsTopology}
-use Rattle.mc_check.specs.ReasonText.{lan_name, router_name, reason_text, verdict_text}
+use Rattle.mc_topology.specs.Topology.{TopologyValue, IsTopology, lan_name, router_name}
+use Rattle.mc_check.specs.ReasonText.{reason_text, verdict_text}
 use Rattle.mc_check.specs.declared.verdict.Reason.{Reason}
 use Rattle.mc_check.specs.declared.verdict.Reason.TheVariants.{TwoEntries, BadSource, Wildcard}
 use Rattle.mc_check.specs.declared.verdict.Reason.TheVariants.{Stray, Extra, WrongRank, WrongNeed}

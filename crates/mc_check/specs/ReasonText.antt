@@ -1,5 +1,5 @@
 -- How a reason and a verdict are written, by the names of a topology.
-use Rattle.std.specs.Prelude.{List, ◌++◌, codes, decimal}
+use Rattle.std.specs.Prelude.{ℕ, List, ◌++◌, codes, decimal}
 use Rattle.mc_topology.specs.Topology.{TopologyValue, lan_name, router_name}
 use Rattle.mc_check.specs.declared.verdict.Reason.{Reason}
 use Rattle.mc_check.specs.declared.verdict.Reason.TheVariants.{TwoEntries, BadSource, Wildcard}

@@ -2,6 +2,7 @@
 """Tries the wrong bodies in crates/*/must-fail, which the prover must refuse, many in one check.
 
   python3 tests/edits/try.py [NAME..]     tries the edits of these crates, or of all
+  python3 tests/edits/try.py --whole ..   does so in whole copies: each has to be refused by the same goals
   python3 tests/edits/try.py --selftest   holds this script to edits of its own
 
 It runs at the top of the repository, over what `rt check` and `rt lib` left there, or `rt ci`.
@@ -9,9 +10,9 @@ It runs at the top of the repository, over what `rt check` and `rt lib` left the
 An edit has the form that `rt` reads (`rt doc`). It changes the body of one function, or a definition
 of specs/ that a law pins, and counts as refused only where a goal of this function is not proved. A check goes on past a refused function
 and holds its callers to its contract, so edits of different functions are tried in one copy of
-the crate, and there the bodies of all other functions are cut, since a goal rests on the contract of
-what is called and never on its body. One that such a check says nothing of is tried alone, in a
-whole copy. Two lines more can stand in an edit:
+the crate. There the bodies of all other functions are cut (but where a developer's own checks have
+kept them), since a goal rests on the contract of what is called and never on its body. One that such
+a check says nothing of is tried alone, in a whole copy. Two lines more can stand in an edit:
 
   fn: PATH       the function, where the edit changes text outside of bodies, as a definition (such an
                  edit is tried alone), or where the prover names the function otherwise than its
@@ -60,7 +61,7 @@ def text_of(file):
 # --- Which function an edit changes, by the layout that `rt fmt` gives ---
 
 HEAD = re.compile(r"^( *)(?:pub(?:\([^)]*\))? )?(?:const )?fn (\w+)", re.M)
-OWNER = re.compile(r"^( *)(?:impl|(?:pub )?trait)\b(.*)", re.M)
+OWNER = re.compile(r"^( *)(?:impl|(?:pub(?:\([^)]*\))? )?trait)\b(.*)", re.M)
 
 
 def owner_name(head):
@@ -73,26 +74,32 @@ def owner_name(head):
 
 
 def functions_of(path, text):
-    """Returns the functions of a file: of each its name as the prover says it, its head, and where its body stands."""
-    found = []
+    """Returns the functions of a file, none inside another: its name as the prover says it, its head, its body's place."""
+    found, end = [], 0
     heads = list(HEAD.finditer(text))
     for head, before in zip(heads, [*(it.start() for it in heads[1:]), len(text)]):
         depth = head[1]
         opening = re.compile(rf"^{depth}(?:\S.*)?{{$", re.M).search(text, head.start(), before)
-        if not opening:
+        if not opening or head.start() < end:
             continue
         names = [it for it in path[4:-3].split("/") if it not in ("lib", "main")]
-        if depth:
-            owners = [it for it in OWNER.finditer(text, 0, head.start()) if len(it[1]) < len(depth)]
-            names.append(owner_name(owners[-1][2]))
-        body = opening.end(), text.find(f"\n{depth}}}", opening.end())
-        found.append(("::".join([*names, head[2]]), head, body))
+        if owner := owner_of(text, head):
+            names.append(owner_name(owner[2]))
+        end = text.find(f"\n{depth}}}", opening.end())
+        found.append(("::".join([*names, head[2]]), head, (opening.end(), end)))
     return found
+
+
+def owner_of(text, head):
+    """Returns the head of the impl or the trait that a function stands in, or None."""
+    owners = [it for it in OWNER.finditer(text, 0, head.start()) if len(it[1]) < len(head[1])]
+    return owners[-1] if owners else None
 
 
 def function_around(path, text, first, last):
     """Returns the function in whose body all of a part of a file stands, or None."""
-    around = [name for name, _, body in functions_of(path, text) if body[0] <= first and last <= body[1]]
+    found = functions_of(path, text)
+    around = [name for name, _, body in found if body[0] <= first and last <= body[1]]
     return around[-1] if around else None
 
 
@@ -110,37 +117,48 @@ def changed_functions(folder, texts):
 
 # --- The functions that no edit of a check changes ---
 
+BESIDE_CUT = " (beside cut bodies)"
 TACTICS = re.compile(r"\n *#\[tactic\((?:[^()]|\([^()]*\))*\)\]\n\Z")
 
 
 def cut_others(folder, edited):
     """Cuts the bodies of a copy's functions that are not edited, and takes their proofs away.
 
-    What calls such a function is judged by its contract alone, as it is beside a whole one, so its body and
-    its proof, which is the dear part, needn't be read. Left whole are those in whose proofs another
-    looks, and those that the compiler may run."""
-    proofs = {file: text_of(file) for file in antt_files(f"{folder}/proofs")}
-    for base, _, names in os.walk(f"{folder}/src"):
-        for file in (f"{base}/{it}" for it in names if it.endswith(".rt")):
-            text = text_of(file)
-            for name, head, body in reversed(functions_of(os.path.relpath(file, folder), text)):
-                own = f"{folder}/proofs/{name.replace('::', '/')}/"
-                is_named = any(f".proofs.{name.replace('::', '.')}." in it for at, it in proofs.items() if not at.startswith(own))
-                if name not in edited and not is_named and is_cut_off(text, head, body):
-                    text = cut_body(text, head, body)
+    What calls such a function is judged by its contract alone, as it is beside a whole one, so its body
+    and its proof, which is the dear part, needn't be read. Left whole are those in whose proofs another
+    text looks, and those that the compiler may run."""
+    texts = {file: text_of(file) for file in files_of(folder)}
+    for file in (it for it in texts if it.startswith(f"{folder}/src/")):
+        text = texts[file]
+        for name, head, body in reversed(functions_of(os.path.relpath(file, folder), text)):
+            own = f"{folder}/proofs/{name.replace('::', '/')}/"
+            if name not in edited and can_be_cut(text, head, body) and not is_cited(name, own, texts):
+                text = cut_body(text, head, body)
+                if not any(it.startswith(f"{name}::") for it in edited):
                     shutil.rmtree(own, ignore_errors=True)
-            with open(file, "w", encoding="utf-8") as opened:
-                opened.write(text)
+        with open(file, "w", encoding="utf-8") as opened:
+            opened.write(text)
 
 
-def antt_files(folder):
-    return [f"{base}/{it}" for base, _, names in os.walk(folder) for it in names if it.endswith(".antt")]
+def files_of(folder):
+    """Returns a crate's files of code, definitions and proofs."""
+    found = []
+    for base, _, names in os.walk(folder):
+        if not f"{base}/".startswith(f"{folder}/out/"):
+            found += [f"{base}/{it}" for it in names if it.endswith((".rt", ".antt"))]
+    return found
 
 
-def is_cut_off(text, head, body):
-    """Returns whether a function's body can go: it has one, the compiler runs it not, and no trait hands it on."""
-    owners = [it for it in OWNER.finditer(text, 0, head.start()) if len(it[1]) < len(head[1])]
-    is_of_trait = bool(owners) and "trait" in owners[-1][0].split()[:2]
+def is_cited(name, own, texts):
+    """Returns whether a text outside of a function's proofs names them."""
+    cited = f"proofs.{name.replace('::', '.')}.", f"proofs::{name}::"
+    return any(not at.startswith(own) and any(it in text for it in cited) for at, text in texts.items())
+
+
+def can_be_cut(text, head, body):
+    """Returns whether a function has a body that the compiler doesn't run and no trait hands on."""
+    owner = owner_of(text, head)
+    is_of_trait = owner and not owner[0].lstrip().startswith("impl")
     return bool(text[body[0]:body[1]].strip()) and "const fn" not in head[0] and not is_of_trait
 
 
@@ -176,6 +194,9 @@ GONE = re.compile(r"is not in scope|has no (?:field|`)|is no name|was not (?:adm
 ERROR = re.compile(r"(?:\./)?(proofs/\S+):\d+:\d+: error(?:\[[\w-]+\])?: `([^`]*)`: (.*)")
 
 
+ANY_ERROR = re.compile(r"(?:\./)?((?:proofs|specs|src)/\S+?):\d+:\d+: error")
+
+
 class Said:
     """What a check said of the functions that its edits change."""
 
@@ -184,6 +205,7 @@ class Said:
         self.is_proved = status == 0 and lines[-1].startswith(("logic=proved ", "only="))
         is_refused = status == 1 and lines[-1].startswith(("logic=not-proved", "only="))
         self.reached_prover = self.is_proved or is_refused
+        self.strange = {found[1] for found in map(ANY_ERROR.match, lines) if found}
         self.first_fault = next((it for it in lines if "error" in it), lines[-1])[:200]
         self.functions = dict(re.findall(r"^fn (\S+): (.*)", text, re.M))
         # a long error goes on in the next line
@@ -207,9 +229,10 @@ class Said:
         return goals
 
     def has_stray_errors(self, edits):
-        """Returns whether a proof fails that is not one of the functions that these edits change."""
-        own = tuple(f"proofs/{it.function.partition('::')[2].replace('::', '/')}" for it in edits)
-        return any(not path.startswith(own) for path, _, _ in self.errors)
+        """Returns whether an error stands elsewhere than in the proofs of the functions that edits change."""
+        paths = [it.function.partition("::")[2].replace("::", "/") for it in edits]
+        own = tuple(f"proofs/{it}/" for it in paths)
+        return any(not it.startswith(own) for it in self.strange)
 
     def refusal(self, edit):
         """Returns the goals that refuse an edit as it asks, in a few words, or nothing."""
@@ -242,10 +265,11 @@ def is_within(name, function):
 class Crate:
     """A crate with the edits to try on it, and the work that its checks keep."""
 
-    def __init__(self, made, home, room):
+    def __init__(self, made, home, room, is_whole):
         self.made, self.name, self.folder = made, made.name, made.folder
         self.kept, self.cost = f"{room}/{made.name}", 0.0
         self.has_kept = os.path.isdir(f"{made.folder}/out/incremental")
+        self.is_whole = is_whole or self.has_kept  # (where whole bodies are kept, they cost less than cut ones)
         files, strange = rt.edits_of(types.SimpleNamespace(folder=home))
         self.edits = [Edit(made, it) for it in files]
         self.strange = [os.path.basename(it) for it in strange]
@@ -263,14 +287,15 @@ class Crate:
         return None
 
     def check(self, edits, is_cut=False):
-        """Checks a copy of the crate with these edits, over a copy of what is kept; cut, with no other body."""
+        """Checks a copy of the crate with these edits, and cut with no other body, over a copy of what is kept."""
         with tempfile.TemporaryDirectory(dir=os.path.dirname(self.kept)) as room:
             shutil.copytree(self.kept, f"{room}/out")
             for part in rt.rtlib.PARTS:
                 if os.path.isdir(f"{self.folder}/{part}"):
                     shutil.copytree(f"{self.folder}/{part}", f"{room}/{part}")
             if is_cut:
-                cut_others(room, {name for it in edits for name in [*it.places, it.function.partition("::")[2]]})
+                names = [[*it.places, it.function.partition("::")[2]] for it in edits]
+                cut_others(room, {name for its in names for name in its})
             for edit in edits:
                 # (one that doesn't fit beside the others is then tried alone)
                 for path, text in (rt.read_edit(edit.file, room)[0] or {}).items():
@@ -310,12 +335,15 @@ class Crate:
                     os.rename(f"{folder}/{name}", f"{to}/{name}")
 
     def judge_cut(self, edits):
-        """Tries edits in one check, the other bodies cut; what that doesn't refuse is tried alone, beside whole ones."""
+        """Tries edits in one check, all other bodies cut. What that doesn't refuse is tried alone, in a whole copy."""
         said = self.check(edits, is_cut=True)
+        if not said.reached_prover and len(edits) > 1:
+            half = len(edits) // 2
+            return self.judge_cut(edits[:half]) + self.judge_cut(edits[half:])
         if not said.reached_prover or said.has_stray_errors(edits):
             return self.judge(edits)
         tried = [(it, said.refusal(it)) for it in edits]
-        found = [(edit, True, goals) for edit, goals in tried if goals]
+        found = [(edit, True, goals + BESIDE_CUT) for edit, goals in tried if goals]
         for edit in (it for it, goals in tried if not goals):
             found += self.judge([edit])
         return found
@@ -346,8 +374,7 @@ class Crate:
         if good and (why := self.prepare()):
             return [*found, *((it.name, False, f"NOT TRIED: {why}") for it in good)]
         for group in groups_of(good):
-            # (where whole bodies are kept, they cost less than cut ones)
-            judge = self.judge if self.has_kept or group[0].is_alone else self.judge_cut
+            judge = self.judge if self.is_whole or group[0].is_alone else self.judge_cut
             found += [(edit.name, refused, why) for edit, refused, why in judge(group)]
         shutil.rmtree(self.kept, ignore_errors=True)
         return found
@@ -377,14 +404,14 @@ def groups_of(edits):
 
 # --- The whole ---
 
-def try_all(names, jobs, home):
+def try_all(names, jobs, home=None, is_whole=False):
     """Tries the edits of crates, several crates beside each other, the longest first."""
     made = [it for it in rt.rtlib.crates_below(os.getcwd()) if not names or it.name in names]
     if unknown := {*names} - {it.name for it in made}:
         sys.exit(f"try.py: there is no crate {min(unknown)}")
     made.sort(key=lambda it: -it.count(rb"\n"))
     with ROOM, ThreadPoolExecutor(jobs) as pool:
-        crates = [Crate(it, home or it.folder, ROOM.name) for it in made]
+        crates = [Crate(it, home or it.folder, ROOM.name, is_whole) for it in made]
         found = list(zip(crates, pool.map(Crate.try_edits, crates)))
     for crate in crates:
         if crate.edits:
@@ -395,7 +422,7 @@ def try_all(names, jobs, home):
 
 # Edits that this script must judge rightly, each with what it must say of it.
 SAMPLES = """
-== callee_wrong: refused
+== callee_wrong: refused (beside cut bodies)
 file: src/filter.rt
 old:             mode: Mode::Include,
 new:             mode: Mode::Exclude,
@@ -447,7 +474,8 @@ def selftest(jobs):
         found = try_all([HOUSE], jobs, home)
     right = 0
     for name, refused, why in found:
-        is_right = ("refused" if refused else why).startswith(wanted[name])
+        told = f"refused{BESIDE_CUT if why.endswith(BESIDE_CUT) else ''}" if refused else why
+        is_right = told.startswith(wanted[name])
         print(f"{'judged rightly' if is_right else 'WRONGLY JUDGED'}: {name}: {why}")
         right += is_right
     print(f"{right} passed, {len(wanted) - right} failed")
@@ -459,6 +487,7 @@ def main():
     words = argparse.ArgumentParser(description=__doc__, formatter_class=how)
     words.add_argument("names", nargs="*", metavar="NAME")
     words.add_argument("--selftest", action="store_true")
+    words.add_argument("--whole", action="store_true")
     words.add_argument("--jobs", type=int)
     given = words.parse_args()
     rt.rtlib.guarded()  # (from here on all that is started ends with this script)
@@ -467,7 +496,7 @@ def main():
     jobs = given.jobs or max(1, min(rt.processors(), rt.free() // MEMORY_OF_CHECK))
     if given.selftest:
         return selftest(jobs)
-    found = try_all(given.names, jobs, None)
+    found = try_all(given.names, jobs, is_whole=given.whole)
     for name, refused, why in found:
         print(f"{'refused' if refused else 'ERROR'} {name}: {why}")
     failed = sum(not it[1] for it in found)

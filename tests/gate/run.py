@@ -32,9 +32,7 @@ TESTS = [f"crates/{name}/out/{name}_tests" for name in ("mc_tests_below", "mc_te
 TICK = os.sysconf("SC_CLK_TCK")
 COUNTS = re.compile(r"(\d+) passed, (\d+) failed")
 CORES = len(os.sched_getaffinity(0))
-# `rt ci` then runs as many checks beside each other as there are cores. One that has four cores to itself ends no
-# sooner where others wait for theirs, and takes half as much processor time again.
-ONE_JOB_A_CHECK = {"RT_JOBS": str(CORES)}
+MEMORY_OF_CHECK = 4_000_000_000
 
 
 class Prover:
@@ -100,7 +98,7 @@ class Gate:
         print(f"== {name}: {' '.join(words)}", flush=True)
         before, begun, counts = processor_time(), time.monotonic(), None
         how = {"stdin": subprocess.DEVNULL, "stdout": subprocess.PIPE, "text": True, "errors": "replace"}
-        marked = {**os.environ, MARK: self.room, "PYTHONUNBUFFERED": "1", **ONE_JOB_A_CHECK}
+        marked = {"RT_JOBS": str(checks_at_once()), **os.environ, MARK: self.room, "PYTHONUNBUFFERED": "1"}
         running = subprocess.Popen(words, cwd=self.room, env=marked, **how)
         for line in running.stdout:
             counts = COUNTS.fullmatch(line.strip()) or counts
@@ -110,6 +108,16 @@ class Gate:
         self.passed += passed
         self.failed += failed or (0 if is_well else 1)
         self.steps.append((name, processor_time() - before, time.monotonic() - begun))
+
+
+def checks_at_once():
+    """Returns how many checks `rt ci` shall run beside each other, each in one process.
+
+    One that has four cores to itself ends hardly sooner where others wait for theirs, and takes half as much
+    processor time again."""
+    with open("/proc/meminfo", encoding="ascii") as file:
+        free = next(int(it.split()[1]) * 1024 for it in file if it.startswith("MemAvailable:"))
+    return max(1, min(CORES, free // MEMORY_OF_CHECK))
 
 
 def copy_repository(root, room):

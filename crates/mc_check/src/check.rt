@@ -15,24 +15,23 @@ use crate::routers::routers_reason;
 use crate::served::{has_source, lans_reason};
 use crate::verdict::{Reason, Verdict};
 use mc_cert::{Certificate, Reached};
-use mc_forward::{Domain, FlowRows, FlowView, PerLan};
+use mc_forward::{Domain, FlowView, PerLan};
 use mc_text::Memory;
 use std::alloc::Global;
 
 /// The first reason to refuse a flow's entries, no two of which name one LAN.
-fn reason_of(rows: &FlowRows<'_>, named: &Named<'_>) -> Option<Reason>
+fn reason_of(view: &FlowView<'_>, named: &Named<'_>) -> Option<Reason>
     requires once { twice [] named.now ≡ None }
-    ensures { reason_seen result ≡ first_reason (net_in rows.now)
-        (length rows.now.domain.topology.lans) named.now }
+    ensures { reason_seen result ≡ first_reason (net_in view.now)
+        (length view.now.domain.topology.lans) named.now }
 {
-    let view = rows.view();
     if !has_source(view, named) {
         return Some(Reason::BadSource);
     }
-    if let Some(reason) = routers_reason(rows, named) {
+    if let Some(reason) = routers_reason(view, named) {
         return Some(reason);
     }
-    if let Some(reason) = fed_reason(rows, named) {
+    if let Some(reason) = fed_reason(view, named) {
         return Some(reason);
     }
     lans_reason(view, named)
@@ -51,12 +50,11 @@ fn first_reason_of(
         first_reason (net_of domain.now flow) (length domain.now.topology.lans) entries.now) }
 {
     let mut firsts = PerLan::new(alloc, domain.topology().lans())?;
-    let rows = FlowView::new(domain, flow).look_up_all(alloc)?;
     if let Some(reason) = put_firsts(&mut firsts, entries) {
         return Ok(Some(reason));
     }
     let named = Named::new(entries, firsts);
-    Ok(reason_of(&rows, &named))
+    Ok(reason_of(&FlowView::new(domain, flow), &named))
 }
 
 /// The verdict by the first reason, if there is one.

@@ -10,7 +10,7 @@ ghost use Rattle.mc_check.specs.Reasons.{reason_seen};
 use crate::firsts::Named;
 use crate::verdict::Reason;
 use mc_cert::Reached;
-use mc_forward::{FlowRows, RowFor};
+use mc_forward::{FlowView, RowFor};
 use mc_tables::Oif;
 use mc_topology::RouterNo;
 
@@ -27,12 +27,12 @@ fn feeds(base: &Reached, vif: u8, oifs: &[Oif]) -> bool
 }
 
 /// Whether a router's row sends by a vif what comes from a named LAN.
-fn row_feeds(rows: &FlowRows<'_>, named: &Named<'_>, router: RouterNo, vif: u8) -> bool
-    ensures { result ≡ row_feeds (net_in rows.now) named.now router vif
-        ((net_in rows.now).row router) }
+fn row_feeds(view: &FlowView<'_>, named: &Named<'_>, router: RouterNo, vif: u8) -> bool
+    ensures { result ≡ row_feeds (net_in view.now) named.now router vif
+        ((net_in view.now).row router) }
 {
-    match rows.row(router) {
-        RowFor::Exact(entry) => match named.at(rows.view().placed(router, entry.iif)) {
+    match view.row(router) {
+        RowFor::Exact(entry) => match named.at(view.placed(router, entry.iif)) {
             Some(base) => feeds(&base, vif, entry.oifs.as_slice()),
             None => false,
         },
@@ -41,29 +41,29 @@ fn row_feeds(rows: &FlowRows<'_>, named: &Named<'_>, router: RouterNo, vif: u8) 
 }
 
 /// Whether an entry's forwarder, if it has one, sends on its LAN.
-fn is_fed(rows: &FlowRows<'_>, named: &Named<'_>, entry: &Reached) -> bool
-    ensures { result ≡ is_fed (net_in rows.now) named.now entry.now.lan entry.now.forwarder }
+fn is_fed(view: &FlowView<'_>, named: &Named<'_>, entry: &Reached) -> bool
+    ensures { result ≡ is_fed (net_in view.now) named.now entry.now.lan entry.now.forwarder }
 {
     match entry.forwarder {
         Some((router, vif)) => {
-            let placed = match rows.view().placed(router, vif) {
+            let placed = match view.placed(router, vif) {
                 Some(lan) => lan.0 == entry.lan.0,
                 None => false,
             };
-            row_feeds(rows, named, router, vif) && placed
+            row_feeds(view, named, router, vif) && placed
         }
         None => true,
     }
 }
 
 /// The first entry that isn't fed.
-pub(crate) fn fed_reason(rows: &FlowRows<'_>, named: &Named<'_>) -> Option<Reason>
+pub(crate) fn fed_reason(view: &FlowView<'_>, named: &Named<'_>) -> Option<Reason>
     ensures { reason_seen result ≡ first_of (λ entry.
-        unless (is_fed (net_in rows.now) named.now entry.lan entry.forwarder) (Unfed entry.lan))
+        unless (is_fed (net_in view.now) named.now entry.lan entry.forwarder) (Unfed entry.lan))
         named.now }
 {
     for entry in named.entries() {
-        if !is_fed(rows, named, entry) {
+        if !is_fed(view, named, entry) {
             return Some(Reason::Unfed(entry.lan));
         }
     }

@@ -11,7 +11,7 @@ ghost use Rattle.mc_check.specs.Reasons.{reason_seen};
 use crate::firsts::Named;
 use crate::verdict::Reason;
 use mc_cert::Reached;
-use mc_forward::{FlowRows, FlowView, RowFor};
+use mc_forward::{FlowView, RowFor};
 use mc_tables::Oif;
 use mc_topology::{LanNo, RouterNo};
 
@@ -101,12 +101,11 @@ fn wildcard_reason(view: &FlowView<'_>, named: &Named<'_>, router: RouterNo) -> 
 }
 
 /// What is wrong with a router.
-fn router_reason(rows: &FlowRows<'_>, named: &Named<'_>, router: RouterNo) -> Option<Reason>
-    ensures { reason_seen result ≡ row_reason (net_in rows.now) named.now router
-        ((net_in rows.now).row router) }
+fn router_reason(view: &FlowView<'_>, named: &Named<'_>, router: RouterNo) -> Option<Reason>
+    ensures { reason_seen result ≡ row_reason (net_in view.now) named.now router
+        ((net_in view.now).row router) }
 {
-    let view = rows.view();
-    match rows.row(router) {
+    match view.row(router) {
         RowFor::Exact(entry) => match named.at(view.placed(router, entry.iif)) {
             Some(base) => pairs_reason(view, named, &base, router, entry.oifs.as_slice()),
             None => None,
@@ -117,13 +116,13 @@ fn router_reason(rows: &FlowRows<'_>, named: &Named<'_>, router: RouterNo) -> Op
 }
 
 /// What is wrong with the routers, the first.
-pub(crate) fn routers_reason(rows: &FlowRows<'_>, named: &Named<'_>) -> Option<Reason>
+pub(crate) fn routers_reason(view: &FlowView<'_>, named: &Named<'_>) -> Option<Reason>
     ensures { reason_seen result ≡ first_of (λ router.
-        row_reason (net_in rows.now) named.now router ((net_in rows.now).row router))
-        (below (net_in rows.now).routers) }
+        row_reason (net_in view.now) named.now router ((net_in view.now).row router))
+        (below (net_in view.now).routers) }
 {
-    for number in 0..rows.view().routers() {
-        if let Some(reason) = router_reason(rows, named, RouterNo(number)) {
+    for number in 0..view.routers() {
+        if let Some(reason) = router_reason(view, named, RouterNo(number)) {
             return Some(reason);
         }
     }

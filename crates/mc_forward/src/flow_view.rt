@@ -1,17 +1,15 @@
 //! A domain as the packets of one flow meet it.
 
-ghost use Rattle.std.specs.Prelude.{◌≡◌, ◌<◌, IfOk, IfSome, length};
+ghost use Rattle.std.specs.Prelude.{◌≡◌, ◌<◌, IfSome, length};
 ghost use Rattle.mc_theory.specs.Nets.{interfaces};
 ghost use Rattle.mc_theory.specs.Findings.{from_lan, taken_from};
 ghost use Rattle.mc_forward.specs.Journeys.{net_in, IsFlowIn};
-ghost use Rattle.mc_forward.specs.Rows.{row_seen, AreRows, EntryStands};
+ghost use Rattle.mc_forward.specs.Rows.{row_seen, EntryStands};
 
 use crate::domain::Domain;
 use crate::interfaces::Interfaces;
 use crate::row::RowFor;
-use mc_text::Memory;
 use mc_topology::{LanNo, RouterNo, Topology};
-use std::alloc::Global;
 use std::marker::Model;
 
 /// A flow of a domain. Its value in contracts is the domain and the flow's number.
@@ -141,72 +139,6 @@ impl<'d> FlowView<'d> {
         match sender {
             Some((router, _)) => self.taken_from(router),
             None => None,
-        }
-    }
-
-    /// The flow with the row of each router, each looked up once.
-    ///
-    /// # Errors
-    ///
-    /// `Memory` where a growth was refused.
-    pub fn look_up_all(self, alloc: Global) -> Result<FlowRows<'d>, Memory>
-        ensures { IfOk result (λ rows. rows ≡ self.entry) }
-    {
-        let rows = rows_of(alloc, &self)?;
-        Ok(FlowRows { view: self, rows })
-    }
-}
-
-/// The row of each router for a flow.
-fn rows_of<'d>(alloc: Global, view: &FlowView<'d>) -> Result<Vec<RowFor<'d>>, Memory>
-    ensures { IfOk result (λ rows.
-        AreRows view.now (length view.now.domain.topology.routers) rows.items) }
-{
-    let mut rows = Vec::with_capacity(alloc, view.routers() as usize)?;
-    for number in 0..view.routers() {
-        rows.push(view.row(RouterNo(number)))?;
-    }
-    Ok(rows)
-}
-
-/// A flow of a domain, with the row of each router at hand. Its value in contracts is the domain
-/// and the flow's number.
-#[derive(Drop)]
-pub struct FlowRows<'d> {
-    view: FlowView<'d>,
-    rows: Vec<RowFor<'d>>,
-}
-
-impl<'d> Model for FlowRows<'d> {
-    ghost use Rattle.std.specs.Prelude.{length};
-    ghost use Rattle.mc_forward.specs.Journeys.{FlowIn, flow_in_code};
-    ghost use Rattle.mc_forward.specs.Rows.{AreRows};
-
-    ghost Value = { FlowIn };
-
-    ghost coded = { flow_in_code };
-
-    ghost view = { λ r. r.view };
-
-    ghost invariant = { λ r. AreRows r.view (length r.view.domain.topology.routers) r.rows.items };
-}
-
-impl<'d> FlowRows<'d> {
-    /// The flow.
-    pub fn view(&self) -> &FlowView<'d>
-        ensures { result.now ≡ self.now }
-    {
-        &self.view
-    }
-
-    /// What a router has for the flow. No row for a router that the topology hasn't.
-    pub fn row(&self, router: RouterNo) -> RowFor<'d>
-        ensures { row_seen result ≡ (net_in self.now).row router }
-    {
-        if router.0 < self.view.routers() {
-            self.rows[router.0 as usize]
-        } else {
-            RowFor::NoRow
         }
     }
 }

@@ -31,7 +31,7 @@ pub use flow_laws::{
     clean_travels_certify_a_flow, every_complete_run_of_a_flow_delivers,
     every_run_of_a_flow_is_safe, no_reason_accepts_the_list,
 };
-pub use flow_view::{FlowRows, FlowView};
+pub use flow_view::FlowView;
 pub use interfaces::Interfaces;
 pub use laws::{domains_are_nets, outgoing_vifs_ascend};
 pub use per_lan::PerLan;

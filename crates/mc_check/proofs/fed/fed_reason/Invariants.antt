@@ -7,7 +7,7 @@ use Rattle.mc_check.proofs.fed.fed_reason.Given as goal
 
 abbrev pub invariant-loop-entry : goal.invariant-loop-entry
 invariant-loop-entry l =
-    first_of (λ (e : Entry). unless (is_fed (net_in l.fn.rows) l.fn.named e.lan e.forwarder)
+    first_of (λ (e : Entry). unless (is_fed (net_in l.fn.view) l.fn.named e.lan e.forwarder)
     (Unfed e.lan)) (drop l.entry-index l.entry-items)
-    ≡ first_of (λ (e : Entry). unless (is_fed (net_in l.fn.rows) l.fn.named e.lan e.forwarder)
+    ≡ first_of (λ (e : Entry). unless (is_fed (net_in l.fn.view) l.fn.named e.lan e.forwarder)
     (Unfed e.lan)) l.fn.named

@@ -6,5 +6,5 @@ use Rattle.mc_check.proofs.routers.routers_reason.Given as goal
 
 abbrev pub invariant-loop-number : goal.invariant-loop-number
 invariant-loop-number l =
-    first_of (λ router. row_reason (net_in l.fn.rows) l.fn.named router
-    ((net_in l.fn.rows).row router)) (below l.number) ≡ None
+    first_of (λ router. row_reason (net_in l.fn.view) l.fn.named router
+    ((net_in l.fn.view).row router)) (below l.number) ≡ None

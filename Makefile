@@ -1,7 +1,7 @@
 # make            builds the proved program, crates/mcaudit/out/mcaudit
 # make example    shows an audit of a fault and of its mending, and the whole way to a verdict; by the program if it is built
 # make test       the gate: every proof, the edits that must fail, the tests, the command-line cases, and those of tools/;
-#                 REPORT=bench/gate.md writes what each part took
+#                 REPORT=FILE writes what each part took
 # make bench      runs the program on large domains, and writes what that took into bench/RESULTS.md (it needs python3);
 #                 BEFORE=PATH, an earlier build of the program, runs beside it. It fails where a certificate as `make`
 #                 writes it isn't read in a seventh of the time that the same takes behind one space

@@ -52,12 +52,14 @@ rule 'the most bytes of a part (MAX_PART)' 1 "$(lines 'const MAX_PART:' $sources
 rule 'a file taken as a part (FilePart)' 1 "$(lines 'struct FilePart' $sources)"
 
 # --- a flow, and a run ---
-rule 'a view of a flow' 1 "$(lines 'struct (FlowView|FlowNet|FlowTables|Followed)' $sources)"
+rule 'a view of a flow' 1 "$(lines 'struct (FlowView|FlowRows|FlowNet|FlowTables|Followed)' $sources)"
 rule 'an item for each LAN, in a vector' 1 "$(lines ': Vec<Option<' $sources)"
 rule 'what a run has to say' 1 "$(lines 'struct (Said|Told|Verdicts) ' $sources)"
 rule 'lines that prove what the runs answer' 180 "$(cat crates/*/proofs/*/run_*/Answers.antt | wc -l)"
 
 # --- names ---
+rule "a LAN's name by its number, and a router's" 2 "$(lines "${head}(lan_name|router_name) :" $specs)"
+rule "a word with a LAN's name, and with a router and its vif" 2 "$(lines 'struct At(Lan|Vif)' $sources)"
 rule 'facts by the name IsKept' 0 "$(lines "${head}(record )?IsKept" $specs)"
 rule 'files of definitions of at most 15 lines' 12 "$(small 15 $specs)"
 rule 'lemmas and definitions that nothing leads to' 0 "$(python3 tests/house/uncited.py | wc -l)"

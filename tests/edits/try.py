@@ -8,9 +8,9 @@
 It runs at the top of the repository, over what `rt check` and `rt lib` left there, or `rt ci`.
 
 An edit has the form that `rt` reads (`rt doc`). It changes the body of one function, or a definition
-of specs/ that a law pins, and counts as refused only where a goal of this function is not proved. A check goes on past a refused function
-and holds its callers to its contract, so edits of different functions are tried in one copy of
-the crate. There the bodies of all other functions are cut (but where a developer's own checks have
+of specs/ that a law pins, and counts as refused only where a goal of this function is not proved. A
+check goes on past a refused function and holds its callers to its contract, so edits of different
+functions are tried in one copy of the crate. There the bodies of all other functions are cut (but where a developer's own checks have
 kept them), since a goal rests on the contract of what is called and never on its body. One that such
 a check says nothing of is tried alone, in a whole copy. Two lines more can stand in an edit:
 
@@ -74,7 +74,9 @@ def owner_name(head):
 
 
 def functions_of(path, text):
-    """Returns the functions of a file, none inside another: its name as the prover says it, its head, its body's place."""
+    """Returns the functions of a file, but none inside another.
+
+    Of each its name as the prover says it, its head, and where its body stands."""
     found, end = [], 0
     heads = list(HEAD.finditer(text))
     for head, before in zip(heads, [*(it.start() for it in heads[1:]), len(text)]):
@@ -269,7 +271,8 @@ class Crate:
         self.made, self.name, self.folder = made, made.name, made.folder
         self.kept, self.cost = f"{room}/{made.name}", 0.0
         self.has_kept = os.path.isdir(f"{made.folder}/out/incremental")
-        self.is_whole = is_whole or self.has_kept  # (where whole bodies are kept, they cost less than cut ones)
+        # (where whole bodies are kept, they cost less than cut ones)
+        self.is_whole = is_whole or self.has_kept
         files, strange = rt.edits_of(types.SimpleNamespace(folder=home))
         self.edits = [Edit(made, it) for it in files]
         self.strange = [os.path.basename(it) for it in strange]
@@ -287,7 +290,7 @@ class Crate:
         return None
 
     def check(self, edits, is_cut=False):
-        """Checks a copy of the crate with these edits, and cut with no other body, over a copy of what is kept."""
+        """Checks a copy of the crate with these edits over a copy of what is kept; cut, with no other body."""
         with tempfile.TemporaryDirectory(dir=os.path.dirname(self.kept)) as room:
             shutil.copytree(self.kept, f"{room}/out")
             for part in rt.rtlib.PARTS:
@@ -335,7 +338,7 @@ class Crate:
                     os.rename(f"{folder}/{name}", f"{to}/{name}")
 
     def judge_cut(self, edits):
-        """Tries edits in one check, all other bodies cut. What that doesn't refuse is tried alone, in a whole copy."""
+        """Tries edits in one check, all other bodies cut. What that doesn't refuse is tried alone, beside whole ones."""
         said = self.check(edits, is_cut=True)
         if not said.reached_prover and len(edits) > 1:
             half = len(edits) // 2

@@ -10,9 +10,9 @@ It runs at the top of the repository, over what `rt check` and `rt lib` left the
 An edit has the form that `rt` reads (`rt doc`). It changes the body of one function, or a definition
 of specs/ that a law pins, and counts as refused only where a goal of this function is not proved. A
 check goes on past a refused function and holds its callers to its contract, so edits of different
-functions are tried in one copy of the crate. There the bodies of all other functions are cut (but where a developer's own checks have
-kept them), since a goal rests on the contract of what is called and never on its body. One that such
-a check says nothing of is tried alone, in a whole copy. Two lines more can stand in an edit:
+functions are tried in one copy of the crate. There the bodies of all other functions are cut (but
+where a developer's own checks have kept them), since a goal rests on the contract of what is called
+and never on its body. One that such a check says nothing of is tried alone, in a whole copy. Two lines more can stand in an edit:
 
   fn: PATH       the function, where the edit changes text outside of bodies, as a definition (such an
                  edit is tried alone), or where the prover names the function otherwise than its

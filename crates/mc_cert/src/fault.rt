@@ -51,7 +51,7 @@ impl fmt::Display for At {
 }
 
 /// What is wrong with a certificate.
-#[derive(Clone, Copy, Debug, PartialEq, Eq, Error)]
+#[derive(Clone, Copy, Debug, PartialEq, Eq)]
 pub enum CertFaultKind {
     /// (1) The text is no UTF-8 or no JSON (`top`).
     NotJson,
@@ -75,13 +75,6 @@ pub enum CertFaultKind {
     Memory,
 }
 
-impl fmt::Display for CertFaultKind {
-    /// Writes the kind by its name.
-    fn fmt<W: fmt::Write>(&self, f: &mut fmt::Formatter<W>) -> fmt::Result {
-        fmt::Debug::fmt(self, f)
-    }
-}
-
 impl CertFaultKind {
     /// The fault of this kind at a place.
     pub(crate) fn at(self, place: At) -> CertFault
@@ -93,7 +86,7 @@ impl CertFaultKind {
 
 /// The first fault of a certificate.
 #[derive(Clone, Copy, Debug, PartialEq, Eq, Error)]
-#[error("{place}: {kind}")]
+#[error("{place}: {kind:?}")]
 pub struct CertFault {
     /// The place.
     pub place: At,

@@ -2,17 +2,15 @@
 use Rattle.std.proofs.Common.{◌≡◌, ℕ, suc, ◌<◌, ◌≤◌, ◌^◌, inl, inr, All, List, [], ◌∷◌}
 use Rattle.std.proofs.Common.{map, length, Option, Some, None, refl, sym, subst, ◌∙◌, arith}
 use Rattle.std.proofs.lemmas.List.{length-map}
-use Rattle.mc_theory.specs.Lists.{In, below}
+use Rattle.mc_theory.specs.Lists.{In}
 use Rattle.mc_theory.specs.Nets.{Net, IsNet, WantsBelow}
 use Rattle.mc_theory.specs.Certificates.{Entry, IsAccepted}
 use Rattle.mc_theory.specs.Reasons.{first_reason}
-use Rattle.mc_theory.proofs.InLists.{in-below}
-use Rattle.mc_theory.proofs.Counts.{total, total-within, total-ones}
 use Rattle.mc_theory.proofs.Judged.{judged}
 use Rattle.mc_theory.proofs.Delivery.{safe, delivered_all, right}
 use Rattle.mc_theory.proofs.Headline.{headline}
 use Rattle.mc_forward.specs.Domains.{DomainValue, IsDomain, net_of}
-use Rattle.mc_forward.proofs.BelowLemmas.{length-below}
+use Rattle.mc_forward.proofs.BelowLemmas.{few-different}
 use Rattle.mc_forward.proofs.DomainLemmas.{net-of_domain, wanting-within, ttl-from}
 use Rattle.mc_check.specs.Reasons.{reason_seen}
 use Rattle.mc_check.specs.Verdicts.{verdict_by, IsExact, HasCopies, HasFirstReason, YesIsSafe}
@@ -83,18 +81,9 @@ named-below (e ∷ es) count l all (inr h) = named-below es count l
 pub few-entries : (n : Net) (es : List Entry) (count : ℕ) → IsAccepted n es
     → All (λ e. e.lan < count) es → length es ≤ count
 few-entries n es count acc all =
-    let ls : List ℕ = map (λ (e : Entry). e.lan) es in
-    let bound : total {A = ℕ} (λ _. 1) ls ≤ total {A = ℕ} (λ _. 1) (below count) =
-    total-within {A = ℕ} (λ _. 1) ls (below count) acc.is_tree.one_entry
-    (λ l h. in-below l count (named-below es count l all h)) in
-    omega (
-      arith,
-      bound,
-      total-ones ls,
-      total-ones (below count),
-      length-map es (λ (e : Entry). e.lan),
-      length-below count,
-    )
+    let few = few-different (map (λ (e : Entry). e.lan) es) count acc.is_tree.one_entry
+    (λ l h. named-below es count l all h) in
+    omega (arith, few, length-map es (λ (e : Entry). e.lan))
 
 pub judge : (d : DomainValue) (flow : ℕ) (es : List Entry) (o : Option Reason) → IsDomain d
     → flow < length d.topology.flows

@@ -1,9 +1,11 @@
 -- Lists over the numbers below n.
-use Rattle.std.proofs.Common.{◌≡◌, ℕ, zero, suc, ◌+◌, ◌<◌, ◌⊎◌, inl, inr, List, [], ◌∷◌, ◌++◌, map}
+use Rattle.std.proofs.Common.{◌≡◌, ℕ, zero, suc, ◌+◌, ◌<◌, ◌≤◌, ◌⊎◌, inl, inr, List, [], ◌∷◌, ◌++◌, map}
 use Rattle.std.proofs.Common.{length, slice_get, Some, option_map, refl, ap, subst, ◌∙◌, arith}
 use Rattle.std.proofs.Common.{add-one, length-append}
 use Rattle.std.proofs.lemmas.Option.{slice_get-map}
-use Rattle.mc_theory.specs.Lists.{below}
+use Rattle.mc_theory.specs.Lists.{In, Distinct, below}
+use Rattle.mc_theory.proofs.InLists.{in-below}
+use Rattle.mc_theory.proofs.Counts.{total, total-within, total-ones}
 
 pub length-below : (n : ℕ) → length (below n) ≡ n
 unfolding below
@@ -55,3 +57,10 @@ map-push f (y ∷ xs) x = ap (λ ys. f y ∷ ys) (map-push f xs x)
 pub by_number-more : {A : Type 0} (f : ℕ → A) (n : ℕ)
     → map f (below (n + 1)) ≡ map f (below n) ++ f n ∷ []
 by_number-more f n = ap (map f) (below-more n) ∙ map-push f (below n) n
+
+-- different numbers below n are at most n
+pub few-different : (xs : List ℕ) (n : ℕ) → Distinct xs → ((x : ℕ) → In x xs → x < n) → length xs ≤ n
+few-different xs n distinct below_n =
+    let within : total {A = ℕ} (λ _. 1) xs ≤ total {A = ℕ} (λ _. 1) (below n) =
+    total-within {A = ℕ} (λ _. 1) xs (below n) distinct (λ x h. in-below x n (below_n x h)) in
+    omega (arith, within, total-ones xs, total-ones (below n), length-below n)

@@ -1,20 +1,21 @@
 -- The rows that a domain keeps by number are those of its caches.
-use Rattle.std.proofs.Common.{◌≡◌, ℕ, ◌<◌, Bool, true, false, List, length, get_or, Option, Some}
-use Rattle.std.proofs.Common.{None, refl, sym, ap, subst, ◌∙◌, arith}
-use Rattle.std.specs.Prelude.{◌||◌, IfSome, slice_get, option_and_then}
+use Rattle.std.proofs.Common.{◌≡◌, ℕ, ◌<◌, Bool, List, length, get_or, Option, Some}
+use Rattle.std.proofs.Common.{sym, ap, subst, ◌∙◌, arith}
+use Rattle.std.specs.Prelude.{◌||◌, IfSome, slice_get}
 use Rattle.std.specs.FinMap as finite
 use Rattle.std.specs.FinSet as set
 use Rattle.std.proofs.lemmas.Option.{get_or_from_slice_get, slice_get_within}
 use Rattle.mc_tables.specs.declared.entry.Entry.{Entry}
 use Rattle.mc_tables.specs.CacheTable.{CacheText, IsEntry}
 use Rattle.mc_topology.specs.declared.flow.Flow.{Flow}
-use Rattle.mc_theory.specs.Nets.{Row}
-use Rattle.mc_theory.specs.Nets.Row.{Exact as exact, Open as open_row, NoRow as no_row}
+use Rattle.mc_theory.specs.Nets.{Interface, Row}
+use Rattle.mc_theory.specs.Nets.Row.{Exact as exact}
 use Rattle.mc_forward.specs.declared.row.RowNo.{RowNo}
 use Rattle.mc_forward.specs.declared.row.RowNo.TheVariants.{Exact}
 use Rattle.mc_forward.specs.Domains.{TablesValue, DomainValue, IsDomain, pairs_of, row_by, row_in}
 use Rattle.mc_forward.specs.Domains.{row_at, row_of}
-use Rattle.mc_forward.specs.RowNumbers.{IsNumberOf, IsRowNo, AreRowsOf}
+use Rattle.mc_forward.specs.DomainParts.{IsWorkedOut}
+use Rattle.mc_forward.specs.RowNumbers.{IsRowNo, AreRowsOf}
 use Rattle.mc_forward.proofs.EachLemmas.{some-at, read-at}
 
 -- whether a cache has a row for every source that takes the flow
@@ -69,11 +70,38 @@ kept-width d rs router own ok rows in_routers read_own =
     let own_at = read-at rs router own (omega (arith, in_routers, sized, counted)) read_own in
     (rows.each router t.0 own t.1 own_at).count
 
+-- what is read of the rows that were worked out, where their domain is seen as this one
+pub row-read : {parts d : DomainValue} {ps : List (List (Option ℕ))} {is : List (List Interface)}
+    {rs : List (List RowNo)} {k router flow : ℕ} {own xs : List RowNo} {held : RowNo}
+    → IsWorkedOut parts ps is rs → parts ≡ d → k ≡ router → xs ≡ own
+    → router < length d.topology.routers → flow < length d.topology.flows
+    → own ≡ get_or rs k own → held ≡ get_or xs flow held → IsKeptRow d flow router held
+row-read {parts} {d} {ps} {is} {rs} {k} {router} {flow} {own} {xs} {held} worked seen at of_own
+    in_routers in_flows read_own read_no =
+    kept-row d rs flow router own held (subst IsDomain seen worked.domain)
+    (subst (λ (e : DomainValue). AreRowsOf e.topology.flows e.tables rs) seen worked.rows)
+    in_routers in_flows (read_own ∙ ap (λ (j : ℕ). get_or rs j own) at)
+    (read_no ∙ ap (λ (ys : List RowNo). get_or ys flow held) of_own)
+
+-- and of its tables
+pub tables-read : {parts d : DomainValue} {k router : ℕ} {t : TablesValue} → parts ≡ d → k ≡ router
+    → t ≡ get_or parts.tables k t → t ≡ get_or d.tables router t
+tables-read {parts} {d} {k} {router} {t} seen at read =
+    read ∙ ap (λ (j : ℕ). get_or parts.tables j t) at
+    ∙ ap (λ (e : DomainValue). get_or e.tables router t) seen
+
 -- the tables that were read are those of the router
 same-tables : (d : DomainValue) (flow router : ℕ) (held : RowNo) (t : TablesValue)
     (kept : IsKeptRow d flow router held) → t ≡ get_or d.tables router t → t ≡ kept.tables
 same-tables d flow router held t kept read =
     read ∙ get_or_from_slice_get d.tables router kept.tables t kept.at_tables
+
+-- what was read behind a reference to these tables
+pub read-behind : {b t : TablesValue} (number : ℕ) {entry : Entry} → b ≡ t
+    → slice_get b.cache.numbered number ≡ Some entry
+    → slice_get t.cache.numbered number ≡ Some entry
+read-behind {b} {t} number {entry} same read =
+    subst (λ (own : TablesValue). slice_get own.cache.numbered number ≡ Some entry) same read
 
 -- a number that is kept is of an entry of those tables
 pub number-within : (d : DomainValue) (flow router number : ℕ) (held : RowNo) (t : TablesValue)

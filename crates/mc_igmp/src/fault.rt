@@ -4,11 +4,10 @@ ghost use Rattle.std.specs.Prelude.{◌≡◌};
 ghost use Rattle.mc_igmp.specs.ReadingList.{IsMemory};
 
 use std::alloc::{AllocError, AllocFailed};
-use std::fmt;
 use thiserror::Error;
 
 /// What is wrong with a report list.
-#[derive(Clone, Copy, Debug, PartialEq, Eq, Error)]
+#[derive(Clone, Copy, Debug, PartialEq, Eq)]
 pub enum ListFaultKind {
     /// (1) The line is no hexadecimal of whole bytes.
     BadHex,
@@ -30,17 +29,10 @@ pub enum ListFaultKind {
     Memory,
 }
 
-impl fmt::Display for ListFaultKind {
-    /// Writes the kind by its name.
-    fn fmt<W: fmt::Write>(&self, f: &mut fmt::Formatter<W>) -> fmt::Result {
-        fmt::Debug::fmt(self, f)
-    }
-}
-
 /// Why a text is no report list, with the line and the record that it is about. Both count from 1,
 /// and are 0 where no line or no record is meant.
 #[derive(Clone, Copy, Debug, PartialEq, Eq, Error)]
-#[error("line {line} record {record_no}: {kind}")]
+#[error("line {line} record {record_no}: {kind:?}")]
 pub struct ListFault {
     /// The line, or 0.
     pub line: u32,

@@ -8,7 +8,7 @@ use std::marker::Model;
 
 /// Group records, from the first. Its value in contracts is the list of those that are left.
 #[derive(Debug, Drop)]
-pub(crate) struct GroupRecords<'a> {
+pub struct GroupRecords<'a> {
     left: usize,
     bytes: &'a [u8],
 }

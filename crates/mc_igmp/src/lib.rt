@@ -12,6 +12,7 @@ mod record;
 mod records;
 
 pub use fault::{ListFault, ListFaultKind};
+pub use group_records::GroupRecords;
 pub use laws::{lists_are_read_as_they_stand, messages_are_read_as_they_stand};
 pub use list::{ListRecords, ReportList};
 pub use message::{Message, MessageFault};

@@ -106,6 +106,9 @@ fn records_taken(line_number: u32, bytes: &[u8]) -> Result<Option<Records<'_>>, 
     }
 }
 
+/// The records of a list that are left to be walked, from the first.
+pub type ListRecords<'a> = GroupRecords<'a>;
+
 /// The records of a LAN's reports, in the order of the list. Its value in contracts is the list of
 /// them.
 #[derive(Debug, Drop)]
@@ -200,38 +203,6 @@ impl ReportList {
     pub fn records(&self) -> ListRecords<'_>
         ensures { result ≡ self.now }
     {
-        ListRecords {
-            group_records: GroupRecords::new(self.count, &self.bytes),
-        }
-    }
-}
-
-/// The records of a list, from the first. Its value in contracts is the list of those that are
-/// left.
-#[derive(Debug, Drop)]
-pub struct ListRecords<'a> {
-    group_records: GroupRecords<'a>,
-}
-
-impl<'a> Model for ListRecords<'a> {
-    ghost use Rattle.std.specs.Prelude.{List};
-    ghost use Rattle.mc_igmp.specs.declared.record.Record.{Record};
-
-    ghost Value = { List Record };
-
-    ghost view = { λ s. s.group_records };
-}
-
-impl<'a> Iterator for ListRecords<'a> {
-    type Item = Record<'a>;
-
-    ghost use Rattle.std.specs.Iterator.{YieldsFirst, item_count};
-
-    ghost next_gives = { YieldsFirst (λ left. left) };
-
-    ghost remaining = { item_count (λ left. left) };
-
-    fn next(&mut self) -> Option<Record<'a>> {
-        self.group_records.next()
+        GroupRecords::new(self.count, &self.bytes)
     }
 }

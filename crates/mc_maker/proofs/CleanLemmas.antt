@@ -3,7 +3,7 @@ use Rattle.std.proofs.Common.{◌≡◌, ℕ, ◌<◌, ◌≤◌, inl, inr, All,
 use Rattle.std.proofs.Common.{length, Option, Some, None, refl, ap, sym, subst, ◌∙◌, arith}
 use Rattle.std.specs.Prelude.{IfSome}
 use Rattle.std.proofs.lemmas.List.{length-map}
-use Rattle.mc_theory.specs.Lists.{In, Distinct, below}
+use Rattle.mc_theory.specs.Lists.{In, Distinct}
 use Rattle.mc_theory.specs.Nets.{Net, IsNet, Interface}
 use Rattle.mc_theory.specs.Flights.{Copy, Flight, start, run}
 use Rattle.mc_theory.specs.Certificates.{Entry, IsTree, IsSafe, IsReordering, lans}
@@ -12,12 +12,11 @@ use Rattle.mc_theory.specs.Findings.{Finding, IsTravel, from_lan, handles}
 use Rattle.mc_theory.specs.Findings.Finding.{Clean}
 use Rattle.mc_theory.specs.Made.{entry_after, entries_after, entries_of, need_after, need_over}
 use Rattle.mc_theory.specs.Made.{pairs_of, threshold_of}
-use Rattle.mc_theory.proofs.InLists.{in-below, in-map, in-map_cases, in-push_cases, same-by_image}
-use Rattle.mc_theory.proofs.Counts.{total, total-within, total-ones}
+use Rattle.mc_theory.proofs.InLists.{in-map, in-map_cases, in-push_cases, same-by_image}
 use Rattle.mc_theory.proofs.Delivery.{safe}
 use Rattle.mc_theory.proofs.Travels.{travel-range, tree_made}
 use Rattle.mc_forward.specs.Domains.{DomainValue, IsDomain, net_of}
-use Rattle.mc_forward.proofs.BelowLemmas.{length-below}
+use Rattle.mc_forward.proofs.BelowLemmas.{few-different}
 use Rattle.mc_forward.proofs.DomainLemmas.{net-of_domain}
 use Rattle.mc_cert.specs.Certificate.{IsWritable, IsList, IsEntryOf}
 use Rattle.mc_replay.specs.declared.travel.Travel.{Travel}
@@ -132,21 +131,11 @@ small-vif n es e (Some i) net tree h q =
 few-entries : (d : DomainValue) (es : List Entry) → Distinct (map (λ (e : Entry). e.lan) es)
     → All (IsEntryOf d.topology) es → length es ≤ length d.topology.lans
 few-entries d es once all =
-    let count = length d.topology.lans in
-    let ls : List ℕ = map (λ (e : Entry). e.lan) es in
-    let bound : total {A = ℕ} (λ _. 1) ls ≤ total {A = ℕ} (λ _. 1) (below count) =
-    total-within {A = ℕ} (λ _. 1) ls (below count) once (λ l h.
+    let few = few-different (map (λ (e : Entry). e.lan) es) (length d.topology.lans) once (λ l h.
     let e = in-map_cases (λ (e : Entry). e.lan) l es h in
-    in-below l count (subst (λ (k : ℕ). k < count) e.2
-    (all-in (IsEntryOf d.topology) es all e.0 e.1).lan)) in
-    omega (
-      arith,
-      bound,
-      total-ones ls,
-      total-ones (below count),
-      length-map es (λ (e : Entry). e.lan),
-      length-below count,
-    )
+    subst (λ (k : ℕ). k < length d.topology.lans) e.2
+    (all-in (IsEntryOf d.topology) es all e.0 e.1).lan) in
+    omega (arith, few, length-map es (λ (e : Entry). e.lan))
 
 pub made-list : (d : DomainValue) (flow : ℕ) (cs : List Copy) (es : List Entry) → IsDomain d
     → AreClean d flow cs → IsReordering (entries_of (net_of d flow) cs) es → IsList es

@@ -143,6 +143,12 @@ way-end n lans c0 f0 c f es x way shows =
     subst (λ (xs : List Event). Goes n lans c0 f0 xs f x) (append-nil es)
     (way.travel [] f x (record { picks = []; travel = shows; events = refl; ends = refl }))
 
+-- what a picker picked among so many, where as many wait
+pub picked-of : (c : Choices) (count waiting pick : ℕ) → pick ≡ choice count c.numbers c.last
+    → count ≡ waiting → pick ≡ choice waiting c.numbers c.last
+picked-of c count waiting pick picked same =
+    picked ∙ ap (λ (n : ℕ). choice n c.numbers c.last) same
+
 -- there is room for one event more
 pub way-room : (n : Net) (lans : ℕ) (c0 : Choices) (f0 : Flight) (c : Choices) (f : Flight)
     (es : List Event) (pick : ℕ)

@@ -1,22 +1,24 @@
 -- What a run of `mcaudit make` shows of the text that it read.
 use Rattle.std.proofs.Common.{◌≡◌, ◌≢◌, ℕ, zero, suc, ◌+◌, ◌<◌, ◌≤◌, ◌⊎◌, inl, inr, All, Bool, true}
 use Rattle.std.proofs.Common.{false, List, [], ◌∷◌, ◌++◌}
-use Rattle.std.proofs.Common.{Global, Vec, length, Some, refl}
+use Rattle.std.proofs.Common.{Global, Vec, length, map, Some, refl}
 use Rattle.std.proofs.Common.{sym, ap, subst, ◌∙◌, arith}
 use Rattle.std.proofs.Common.{append_assoc, append-nil, length-append}
 use Rattle.std.specs.Prelude.{◌↔◌, ◌==◌, IsTrue, codes, slice_get}
+use Rattle.std.specs.List.Sorted.{IsStrictlyIncreasing}
 use Rattle.std.proofs.lemmas.Bool.{and_parts, eq-eqb, eqb-true, false≢true}
 use Rattle.std.proofs.lemmas.Option.{slice_get_within}
 use Rattle.mc_topology.specs.declared.flow.Flow.{Flow}
 use Rattle.mc_topology.specs.Topology.{TopologyValue}
-use Rattle.mc_theory.specs.Certificates.{IsRight}
+use Rattle.mc_theory.specs.Certificates.{IsAccepted, IsRight}
 use Rattle.mc_forward.specs.Domains.{DomainValue, net_of}
 use Rattle.mc_forward.proofs.EachLemmas.{some-at}
 use Rattle.mc_cert.specs.declared.reached.Reached.{Reached}
 use Rattle.mc_cert.specs.Certificate.{Tree, BelongsTo, IsEntryOf, IsList}
 use Rattle.mc_cert.specs.CertificateText.{certificate_text}
 use Rattle.mc_replay.specs.declared.travel.Travel.{Travel}
-use Rattle.mc_maker.specs.Examined.{IfCertified, is_certified}
+use Rattle.mc_maker.specs.Examined.{FindsFault, IfCertified, IfFound, IsOfTravel, IsTravelOfFirst}
+use Rattle.mc_maker.specs.Examined.{IsTtlOfFault, is_certified}
 use Rattle.mc_maker.specs.declared.examination.Examined.{Examined}
 use Rattle.mc_maker.specs.declared.examination.Examined.TheVariants.{Certified, Found}
 use Rattle.mc_run.specs.MakeRun.{AreExamined, AreMade, AreRight, IsExamined, IsMadeText}
@@ -24,6 +26,26 @@ use Rattle.mc_run.specs.MakeRun.{IsTextOfMade, SaysAllRight, are_certified, foun
 use Rattle.mc_run.specs.MakeRun.{lines_of_flow, lists_of}
 
 -- ---- flow by flow
+
+-- what an examination says, fact by fact, as one
+pub examined-of : {d : DomainValue} {flow : ℕ} {x : Examined}
+    → IfCertified (IsAccepted (net_of d flow)) x
+    → IfCertified (λ es. IsStrictlyIncreasing (map (λ e. e.lan) es)) x
+    → IfCertified (All (IsEntryOf d.topology)) x → IfCertified IsList x
+    → IfCertified (IsOfTravel d flow) x → IfFound (IsTravelOfFirst d flow) x
+    → IfFound (λ ttl travel. FindsFault travel) x → IfFound (λ ttl travel. IsTtlOfFault d flow ttl) x
+    → (IsTrue (is_certified x) ↔ IsRight (net_of d flow)) → IsExamined d flow x
+examined-of accepted ascending listed list made travel fault ttl right = record {
+  accepted = accepted;
+  ascending = ascending;
+  listed = listed;
+  list = list;
+  made = made;
+  travel = travel;
+  fault = fault;
+  ttl = ttl;
+  right = right;
+}
 
 -- the lists and the lines of the first flows
 pub record AreMadeTo (d : DomainValue) (k : ℕ) (lists : List Tree) (lines : List ℕ) : Type 0 where

@@ -2,9 +2,9 @@
 use Rattle.std.proofs.Common.{◌≡◌, ◌≢◌, ℕ, suc, ◌+◌, ◌<◌, ◌≤◌, true, false, eqb, cond, List, [], ◌∷◌, ◌++◌}
 use Rattle.std.proofs.Common.{length, take, drop, get_or, Some, None, Result, Ok, Err, refl}
 use Rattle.std.proofs.Common.{sym, ap, ◌∙◌, arith, append_assoc, length-take, inl, inr}
-use Rattle.std.specs.Prelude.{position}
+use Rattle.std.specs.Prelude.{nat_lt, position}
 use Rattle.std.specs.List.{slice_split, position_or_len}
-use Rattle.std.proofs.lemmas.Bool.{cases_Bool, eqb-true}
+use Rattle.std.proofs.lemmas.Bool.{cases_Bool, eqb-true, ltb-true, ltb-false}
 use Rattle.std.proofs.lemmas.Bool.Decides.{nat_tests}
 use Rattle.std.proofs.lemmas.List.{append-nil, drop_more, take-append-drop, get_or-take, length-append}
 use Rattle.std.proofs.lemmas.List.Elements.{All-from_recursion}
@@ -14,7 +14,8 @@ use Rattle.std.proofs.lemmas.List.Sums.{fails_before_first}
 use Rattle.mc_text.specs.Lines.{LineText, numbered, lines_from}
 use Rattle.mc_tables.specs.declared.fault.TableFault.{TableFault}
 use Rattle.mc_tables.specs.declared.fault.TableFaultKind.{TableFaultKind}
-use Rattle.mc_tables.specs.declared.fault.TableFaultKind.TheVariants.{NoHeader, Unended, Memory}
+use Rattle.mc_tables.specs.declared.fault.TableFaultKind.TheVariants.{NoHeader, Unended, TooLarge}
+use Rattle.mc_tables.specs.declared.fault.TableFaultKind.TheVariants.{Memory}
 use Rattle.mc_tables.specs.Steps.{out_of_memory, fault_at}
 use Rattle.mc_text.specs.Steps.{◌>>=◌}
 use Rattle.mc_tables.specs.Steps.{at_line}
@@ -270,3 +271,36 @@ module _ {S A : Type 0} (first : List ℕ) (read : S → List LineText → Resul
       read_after first (read new) (with_ended begun) (drop (end + 1) rest ++ more))
       (fault_said (line_after first (step state) state lines.ended (line_begun begun))
       (lines.ended + 1) kind refused there)
+
+-- ---- a text in one piece
+
+-- What reading ends with, if these bytes come: before the piece and behind it. The whole text is
+-- read as it would be before it.
+module _ {A : Type 0} (before behind : List ℕ → Result A TableFault) (whole : Result A TableFault)
+    (text : List ℕ) (size : ℕ) (none : size ≡ 0)
+    (reads : length text ≤ 16777216 → before text ≡ whole)
+    (goes_on : size + length (text ++ []) ≤ 16777216 → behind [] ≡ before (text ++ [])) where
+  only_piece : length text ≤ 16777216 → behind [] ≡ whole
+  only_piece fits = goes_on (omega (arith, fits, none, length-append text []))
+      ∙ ap before (append-nil text) ∙ reads fits
+
+  -- a fault of the only piece is that of the text
+  pub whole_refused : (fault : TableFault)
+      → (nat_lt 16777216 (length text) ≡ true → whole ≡ Err (fault_at 0 TooLarge))
+      → behind [] ≡ Err fault → (16777216 < size + length text → fault ≡ fault_at 0 TooLarge)
+      → whole ≡ Err fault
+  whole_refused fault over is too_large = elim (cases_Bool (nat_lt 16777216 (length text))) [
+    | inl more ↦
+        let large = ltb-true 16777216 (length text) more in
+        over more ∙ ap Err (sym (too_large (omega (arith, large, none))))
+    | inr fits ↦ sym (only_piece (ltb-false 16777216 (length text) fits)) ∙ is
+  ]
+
+  -- and a text of the only piece is read whole
+  pub whole_taken : (16777216 < size + length text → ⊥) → behind [] ≡ whole
+  whole_taken small = elim (cases_Bool (nat_lt 16777216 (length text))) [
+    | inl more ↦
+        let large = ltb-true 16777216 (length text) more in
+        absurd (small (omega (arith, large, none)))
+    | inr fits ↦ only_piece (ltb-false 16777216 (length text) fits)
+  ]

@@ -1,7 +1,7 @@
 -- A cache whose text comes in pieces, of which the rows of listed sources and groups are kept.
-use Rattle.std.proofs.Common.{◌≡◌, ℕ, ◌+◌, ◌<◌, ◌≤◌, Bool, true, false, cond, eqb, List, [], ◌∷◌, ◌++◌}
+use Rattle.std.proofs.Common.{◌≡◌, ℕ, ◌+◌, ◌≤◌, Bool, true, false, cond, eqb, List, [], ◌∷◌, ◌++◌}
 use Rattle.std.proofs.Common.{length, Option, Some, None, Result, Ok, Err, refl, sym, ap, subst, ◌∙◌}
-use Rattle.std.proofs.Common.{inl, inr, arith}
+use Rattle.std.proofs.Common.{inl, inr}
 use Rattle.std.specs.Prelude.{nat_lt, not, filter, codes, IfSome}
 use Rattle.std.specs.List.{filter_map, cons_option, list_any}
 use Rattle.std.specs.Option.{option_map}
@@ -9,7 +9,7 @@ use Rattle.std.specs.Ordering.{nat_cmp}
 use Rattle.std.specs.FinMap as map
 use Rattle.std.specs.FinSet as set
 use Rattle.std.specs.Cmp.{Equal-is}
-use Rattle.std.proofs.lemmas.Bool.{cases_Bool, le-ltb, ltb-true, ltb-false}
+use Rattle.std.proofs.lemmas.Bool.{cases_Bool, le-ltb}
 use Rattle.std.proofs.lemmas.List.{append-nil, length-append}
 use Rattle.std.proofs.lemmas.List.Elements.{filter-append, filter_map-append}
 use Rattle.mc_text.specs.declared.text.addr.Order.{Order}
@@ -21,8 +21,7 @@ use Rattle.mc_tables.specs.declared.fault.TableFaultKind.{TableFaultKind}
 use Rattle.mc_tables.specs.declared.fault.TableFaultKind.TheVariants.{Unended, RepeatedEntry}
 use Rattle.mc_tables.specs.declared.fault.TableFaultKind.TheVariants.{TooLarge}
 use Rattle.mc_text.specs.Steps.{◌>>=◌}
-use Rattle.mc_tables.specs.Steps.{demand, at_line, unless_fault}
-use Rattle.mc_tables.specs.Steps.{fault_at}
+use Rattle.mc_tables.specs.Steps.{demand, at_line}
 use Rattle.mc_tables.specs.TableLines.{is_among, header_in, rows_after}
 use Rattle.mc_tables.specs.CacheTable.{RowText, CacheText, IsEntry, IsCache, key_cmp, same_key}
 use Rattle.mc_tables.specs.CacheTable.{exact_entry, key_of, wildcard_of, table_of}
@@ -33,7 +32,7 @@ use Rattle.mc_tables.specs.CacheSteps.{with_number, with_wildcard}
 use Rattle.mc_tables.specs.ListedRows.{Listed, is_listed, is_kept_key, is_kept, kept_rows, listed_in}
 use Rattle.mc_tables.specs.RowsSoFar.{other_keys, RowsSoFar, rows_so_far, other_added, kept_added}
 use Rattle.mc_tables.specs.RowsSoFar.{one_added, ListedSoFar, listed_so_far, listed_added, row_step}
-use Rattle.mc_tables.specs.RowsSoFar.{table_from, cache_after, CacheSoFar, no_cache, cache_if}
+use Rattle.mc_tables.specs.RowsSoFar.{table_from, no_cache, cache_if}
 use Rattle.mc_text.proofs.StepLemmas.{bind_ok, ok_is}
 use Rattle.mc_tables.proofs.StepLemmas.{demand_then}
 use Rattle.mc_tables.proofs.CacheLemmas.{key_total, row_words_found}
@@ -461,46 +460,3 @@ row_keeps so_far new line row read added rules =
 -- the empty table keeps them
 pub nothing_keeps : IsCache (table_of [])
 nothing_keeps = cache_rules [] tt
-
--- ---- a text in one piece
-
--- a fault of the only piece is that of the text
-pub whole_refused : (order : Order) (listed : Listed) (text : List ℕ) (start new : CacheSoFar)
-    (fault : TableFault) → start.lines.size ≡ 0
-    → (length text ≤ 16777216 → cache_if start text ≡ listed_in order listed text)
-    → (start.lines.size + length (text ++ []) ≤ 16777216
-    → cache_if new [] ≡ cache_if start (text ++ []))
-    → new.fault ≡ Some fault
-    → (16777216 < start.lines.size + length text → fault ≡ fault_at 0 TooLarge)
-    → listed_in order listed text ≡ Err fault
-whole_refused order listed text start new fault none reads goes_on is too_large =
-    elim (cases_Bool (nat_lt 16777216 (length text))) [
-      | inl more ↦
-          let over = ltb-true 16777216 (length text) more in
-          let large = too_large (omega arith) in
-          rw (more, large) refl
-      | inr fits ↦
-          let within = ltb-false 16777216 (length text) fits in
-          sym (reads within) ∙ ap (cache_if start) (sym (append-nil text))
-          ∙ sym (goes_on (omega (arith, within, length-append text [])))
-          ∙ ap (λ f. unless_fault f (cache_after new.lines new.rows [])) is
-    ]
-
--- and a table of the only piece
-pub whole_taken : (order : Order) (listed : Listed) (text : List ℕ) (start new : CacheSoFar)
-    → start.lines.size ≡ 0
-    → (length text ≤ 16777216 → cache_if start text ≡ listed_in order listed text)
-    → (start.lines.size + length (text ++ []) ≤ 16777216
-    → cache_if new [] ≡ cache_if start (text ++ []))
-    → (16777216 < start.lines.size + length text → ⊥)
-    → cache_if new [] ≡ listed_in order listed text
-whole_taken order listed text start new none reads goes_on small =
-    elim (cases_Bool (nat_lt 16777216 (length text))) [
-      | inl more ↦
-          let over = ltb-true 16777216 (length text) more in
-          absurd (small (omega arith))
-      | inr fits ↦
-          let within = ltb-false 16777216 (length text) fits in
-          goes_on (omega (arith, within, length-append text []))
-          ∙ ap (cache_if start) (append-nil text) ∙ reads within
-    ]

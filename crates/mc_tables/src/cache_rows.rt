@@ -2,7 +2,6 @@
 
 ghost use Rattle.std.specs.Prelude.{◌≡◌, ◌≢◌, ◌<◌, ◌≤◌, ◌+◌, ◌||◌, [], length, OnOk, OnErr, IfErr};
 ghost use Rattle.std.specs.Prelude.{IfSome, Ok, Err, Some, slice_get, option_and_then};
-ghost use Rattle.std.specs.Option.{option_copied};
 ghost use Rattle.std.specs.FinMap as map;
 ghost use Rattle.std.specs.FinSet as set;
 ghost use Rattle.mc_tables.specs.declared.fault.TableFaultKind.TheVariants.{Memory};

@@ -5,11 +5,10 @@ ghost use Rattle.mc_tables.specs.declared.fault.TableFaultKind.TheVariants.{Memo
 ghost use Rattle.mc_tables.specs.Steps.{out_of_memory, fault_at};
 
 use std::alloc::{AllocError, AllocFailed};
-use std::fmt;
 use thiserror::Error;
 
 /// What is wrong with a table.
-#[derive(Clone, Copy, Debug, PartialEq, Eq, Error)]
+#[derive(Clone, Copy, Debug, PartialEq, Eq)]
 pub enum TableFaultKind {
     /// (1) The first line's first word isn't the table's, or the text is empty.
     NoHeader,
@@ -48,13 +47,6 @@ pub enum TableFaultKind {
     Memory,
 }
 
-impl fmt::Display for TableFaultKind {
-    /// Writes the kind by its name.
-    fn fmt<W: fmt::Write>(&self, f: &mut fmt::Formatter<W>) -> fmt::Result {
-        fmt::Debug::fmt(self, f)
-    }
-}
-
 impl TableFaultKind {
     /// The fault of this kind at a line. Want of memory has no line.
     pub(crate) fn at(self, line: u32) -> TableFault
@@ -72,7 +64,7 @@ impl TableFaultKind {
 
 /// The first fault of a table.
 #[derive(Clone, Copy, Debug, PartialEq, Eq, Error)]
-#[error("line {line}: {kind}")]
+#[error("line {line}: {kind:?}")]
 pub struct TableFault {
     /// The line, counted from 1, or 0 where no line is meant.
     pub line: u32,

@@ -163,11 +163,12 @@ gone-put n c f b r v b_in new on gone h = elim (places-cases n c f (r, v) h) [
       (in-map (λ (c : Copy). c.lan) b f.carried b_in))
 ]
 
-sent-put : (n : Net) (c : Copy) (f : Flight) (d : Copy) (r v : ℕ) →
-    (In c.lan (lans f.carried) → ⊥) → SentBy n f d r v → SentBy n (put n c f) d r v
-sent-put n c f d r v new s = record {
+-- what was sent was so in another flight too that has its base and in which nothing waits there
+pub sent-in : (n : Net) (f g : Flight) (c : Copy) (r v : ℕ) → (s : SentBy n f c r v) →
+    In s.base g.carried → (In (r, s.incoming) (places g) → ⊥) → SentBy n g c r v
+sent-in n f g c r v s base_in gone = record {
   base = s.base;
-  base_in = in-append_left s.base f.carried (c ∷ []) s.base_in;
+  base_in = base_in;
   incoming = s.incoming;
   pairs = s.pairs;
   threshold = s.threshold;
@@ -178,8 +179,14 @@ sent-put n c f d r v new s = record {
   hot = s.hot;
   ttl = s.ttl;
   onto = s.onto;
-  gone = gone-put n c f s.base r s.incoming s.base_in new s.from s.gone;
+  gone = gone;
 }
+
+sent-put : (n : Net) (c : Copy) (f : Flight) (d : Copy) (r v : ℕ) →
+    (In c.lan (lans f.carried) → ⊥) → SentBy n f d r v → SentBy n (put n c f) d r v
+sent-put n c f d r v new s = sent-in n f (put n c f) d r v s
+    (in-append_left s.base f.carried (c ∷ []) s.base_in)
+    (gone-put n c f s.base r s.incoming s.base_in new s.from s.gone)
 
 pub handled-more : (n : Net) (cs ds : List Copy) (r v t : ℕ) → ((d : Copy) → In d cs → In d ds) →
     Handled n cs r v t → Handled n ds r v t

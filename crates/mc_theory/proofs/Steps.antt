@@ -18,7 +18,7 @@ use Rattle.mc_theory.proofs.InLists.{map-remove, slice_get-map_some, distinct-re
 use Rattle.mc_theory.proofs.InLists.{distinct-removed, same-by_image}
 use Rattle.mc_theory.proofs.Invariant.{place, places, SentBy, Sends, Handled, Inv, hearer}
 use Rattle.mc_theory.proofs.Invariant.{hearers-distinct, places-back, lans-put, heard-put, keep-put}
-use Rattle.mc_theory.proofs.Invariant.{gone-put}
+use Rattle.mc_theory.proofs.Invariant.{sent-in, gone-put}
 
 not-nil : {A : Type 0} (xs : List A) (x : A) → xs ++ x ∷ [] ≡ [] → ⊥
 not-nil [] x e = absurd cc
@@ -77,21 +77,8 @@ inv-without n t out f i w v e = record {
   only = v.only;
   once = subst Distinct (sym (map-remove place f.waiting i)) (distinct-remove (places f) i v.once);
   heard = λ u h. v.heard u (in-remove u f.waiting i h);
-  sent = λ c r k h q. (let s = v.sent c r k h q in record {
-    base = s.base;
-    base_in = s.base_in;
-    incoming = s.incoming;
-    pairs = s.pairs;
-    threshold = s.threshold;
-    row = s.row;
-    from = s.from;
-    other = s.other;
-    pair = s.pair;
-    hot = s.hot;
-    ttl = s.ttl;
-    onto = s.onto;
-    gone = λ z. s.gone (left-without f i (r, s.incoming) z);
-  });
+  sent = λ c r k h q. (let s = v.sent c r k h q in sent-in n f (without i f) c r k s s.base_in
+      (λ z. s.gone (left-without f i (r, s.incoming) z)));
   all = λ c r k h on other. elim (v.all c r k h on other) [
     | inl z ↦ inl (inr z)
     | inr (inl z) ↦ elim (in-remove_cases (r, k) (places f) i (place w)

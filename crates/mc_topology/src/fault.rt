@@ -41,7 +41,7 @@ impl fmt::Display for Section {
 }
 
 /// What is wrong with a topology.
-#[derive(Clone, Copy, Debug, PartialEq, Eq, Error)]
+#[derive(Clone, Copy, Debug, PartialEq, Eq)]
 pub enum TopologyFaultKind {
     /// (1) The text is no UTF-8 or no TOML (`top`, 0).
     NotToml,
@@ -75,13 +75,6 @@ pub enum TopologyFaultKind {
     Memory,
 }
 
-impl fmt::Display for TopologyFaultKind {
-    /// Writes the kind by its name.
-    fn fmt<W: fmt::Write>(&self, f: &mut fmt::Formatter<W>) -> fmt::Result {
-        fmt::Debug::fmt(self, f)
-    }
-}
-
 impl TopologyFaultKind {
     /// The fault of this kind in the part of a section with this number, counted from 1, or in the
     /// section as a whole, with the number 0.
@@ -98,7 +91,7 @@ impl TopologyFaultKind {
 
 /// The first fault of a topology.
 #[derive(Clone, Copy, Debug, PartialEq, Eq, Error)]
-#[error("{section} {number}: {kind}")]
+#[error("{section} {number}: {kind:?}")]
 pub struct TopologyFault {
     /// The section.
     pub section: Section,

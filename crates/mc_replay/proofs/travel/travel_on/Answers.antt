@@ -1,12 +1,12 @@
 -- Event by event.
-use Rattle.std.proofs.Common.{◌≡◌, ℕ, [], ◌∷◌, length, slice_get, None, ap, subst, sym}
+use Rattle.std.proofs.Common.{◌≡◌, [], ◌∷◌, length, slice_get, None, ap, subst, sym}
 use Rattle.std.proofs.Common.{◌∙◌, arith, length-append}
 use Rattle.mc_theory.specs.Flights.{Copy}
-use Rattle.mc_theory.specs.Findings.{choice, finding}
+use Rattle.mc_theory.specs.Findings.{finding}
 use Rattle.mc_forward.specs.Domains.{net_of}
 use Rattle.mc_forward.specs.PerLan.{IsFirstBy}
 use Rattle.mc_replay.proofs.TravelLemmas.{looked-start, looked-next, way-from, way-room, way-short}
-use Rattle.mc_replay.proofs.TravelLemmas.{way-end, way-next, flown-at, seen-at}
+use Rattle.mc_replay.proofs.TravelLemmas.{way-end, way-next, flown-at, seen-at, picked-of}
 use Rattle.mc_replay.proofs.travel.travel_on.Goals as goal
 
 pub travel-init : goal.travel-init
@@ -36,11 +36,9 @@ pub travel-smaller : goal.travel-smaller
 travel-smaller g c =
     let d = c.args.view.now.domain in
     let n = net_of d c.args.view.now.flow in
-    let f = c.travel.flight.flight in
-    let none : finding n (length d.topology.lans) f ≡ None = sym c.in_default.ensures in
-    let chosen = c.pick-pick.ensures.value
-    ∙ ap (λ (w : ℕ). choice w (g.P.Picker.choices c.travel.picker).numbers
-    (g.P.Picker.choices c.travel.picker).last) c.waiting.ensures in
+    let none : finding n (length d.topology.lans) c.travel.flight.flight ≡ None = sym c.in_default.ensures in
+    let chosen = picked-of (g.P.Picker.choices c.travel.picker) _ _ c.pick-pick.result
+    c.pick-pick.ensures.value c.waiting.ensures in
     let room = way-room n (length d.topology.lans) _ _ _ _ _ c.pick-pick.result
     c.travel.invariant.way none chosen in
     let more = ap length c.in_ok-push.ensures.items in
@@ -52,9 +50,8 @@ travel-preserved g c =
     let n = net_of d c.args.view.now.flow in
     let f = c.travel.flight.flight in
     let none : finding n (length d.topology.lans) f ≡ None = sym c.in_default.ensures in
-    let chosen = c.pick-pick.ensures.value
-    ∙ ap (λ (w : ℕ). choice w (g.P.Picker.choices c.travel.picker).numbers
-    (g.P.Picker.choices c.travel.picker).last) c.waiting.ensures in
+    let chosen = picked-of (g.P.Picker.choices c.travel.picker) _ _ c.pick-pick.result
+    c.pick-pick.ensures.value c.waiting.ensures in
     let inv = c.travel.invariant in
     let next = flown-at d c.args.view.now.flow c.pick-pick.result c.travel.flight
     c.handle.new.self inv.domain inv.flow c.in_ok-handle.ensures.ok in

@@ -1,7 +1,7 @@
 use Rattle.std.proofs.Common.{◌≡◌, ◌++◌, ap, ◌∙◌, subst, arith, length, slice_get, Some}
 use Rattle.std.specs.String.{string_bytes}
-use Rattle.mc_run.specs.MakeRun.{IsExamined, found_lines}
-use Rattle.mc_run.proofs.MakeLemmas.{made_certified, made_few, made_found, made_start}
+use Rattle.mc_run.specs.MakeRun.{found_lines}
+use Rattle.mc_run.proofs.MakeLemmas.{examined-of, made_certified, made_few, made_found, made_start}
 use Rattle.mc_run.proofs.make.make_all.Goals.{in-Certified+in_ok-push-in-Certified}
 use Rattle.mc_run.proofs.make.make_all.Goals.{in-Found+in_ok-push_found-in-Found}
 use Rattle.mc_run.proofs.make.make_all.Goals as goal
@@ -30,17 +30,8 @@ loop-flow-preserved c =
     let x = c.in_ok-entries.field-0 in
     let topology = c.topology-topology.ensures.topology in
     let said = c.in_ok-entries.ensures in
-    let is : IsExamined d k x = record {
-      accepted = said.accepted;
-      ascending = said.ascending;
-      listed = said.listed;
-      list = said.list;
-      made = said.made;
-      travel = said.travel;
-      fault = said.fault;
-      ttl = said.ttl;
-      right = said.right;
-    } in
+    let is = examined-of said.accepted said.ascending said.listed said.list said.made said.travel
+    said.fault said.ttl said.right in
     elim c.match-branch-2.branch [
       | in-Certified+in_ok-push-in-Certified w ↦
           (let grown = w.lists-is ∙ w.in_ok-push-in-Certified.ensures.pushed in

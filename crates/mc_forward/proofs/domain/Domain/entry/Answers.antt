@@ -1,12 +1,11 @@
-use Rattle.std.proofs.Common.{ℕ, ◌<◌, List, length, get_or, sym, ap, subst, arith, ◌∙◌}
+use Rattle.std.proofs.Common.{ℕ, ◌<◌, length, get_or, sym, ap, subst, arith, ◌∙◌}
 use Rattle.std.specs.Prelude.{slice_get}
 use Rattle.mc_theory.specs.Nets.Row.{Open as open_row, NoRow as no_row}
-use Rattle.mc_forward.specs.declared.row.RowNo.{RowNo}
 use Rattle.mc_forward.specs.declared.row.RowNo.TheVariants.{Open, NoRow}
 use Rattle.mc_forward.specs.Domains.{TablesValue, DomainValue, IsDomain}
 use Rattle.mc_forward.specs.RowNumbers.{AreRowsOf}
-use Rattle.mc_forward.proofs.RowNoLemmas.{kept-row, kept-width, number-within, entry-row, entry-stands}
-use Rattle.mc_forward.proofs.RowNoLemmas.{other-row}
+use Rattle.mc_forward.proofs.RowNoLemmas.{kept-width, row-read, tables-read, number-within, entry-row}
+use Rattle.mc_forward.proofs.RowNoLemmas.{entry-stands, other-row, read-behind}
 use Rattle.mc_forward.proofs.domain.Domain.entry.Goals as goal
 
 pub index-requires : goal.index-requires
@@ -23,93 +22,43 @@ index-requires c =
 
 pub entry_at-requires : goal.entry_at-requires
 entry_at-requires c =
-    let d = c.args.self.now in
-    let ok = subst IsDomain c.self.view_is c.self.invariant.domain in
-    let rows = subst (λ (d : DomainValue). AreRowsOf d.topology.flows d.tables c.self.inside.rows.items)
-    c.self.view_is c.self.invariant.rows in
-    let read_own = c.index-rows.ensures
-    ∙ ap (λ (k : ℕ). get_or c.self.inside.rows.items k c.index-rows.result.now) c.router.view_is in
-    let kept = kept-row d c.self.inside.rows.items c.args.flow c.args.router c.index-rows.result.now
-    c.index.result.now ok rows c.requires.router c.requires.flow read_own
-    (c.index.ensures
-    ∙ ap (λ (xs : List RowNo). get_or xs c.args.flow c.index.result.now) c.rows.view_is) in
-    let t = c.index-in-Exact.result.now in
-    let read = c.index-in-Exact.ensures
-    ∙ ap (λ (k : ℕ). get_or c.self.inside.tables.items k t) c.router.view_is
-    ∙ ap (λ (d : DomainValue). get_or d.tables c.args.router t) c.self.view_is in
+    let kept = row-read c.self.invariant c.self.view_is c.router.view_is c.rows.view_is c.requires.router
+    c.requires.flow c.index-rows.ensures c.index.ensures in
+    let read = tables-read c.self.view_is c.router.view_is c.index-in-Exact.ensures in
     subst (λ (own : TablesValue). c.in-Exact.number < length own.cache.numbered)
     (sym c.behind-self.view_is)
-    (number-within d c.args.flow c.args.router c.in-Exact.number c.index.result.now t kept
-    c.in-Exact.is read)
+    (number-within c.args.self.now c.args.flow c.args.router c.in-Exact.number c.index.result.now
+    c.index-in-Exact.result.now kept c.in-Exact.is read)
 
 pub returns-in-Exact-clause-row : goal.returns-in-Exact-clause-row
 returns-in-Exact-clause-row c =
-    let d = c.args.self.now in
-    let ok = subst IsDomain c.self.view_is c.self.invariant.domain in
-    let rows = subst (λ (d : DomainValue). AreRowsOf d.topology.flows d.tables c.self.inside.rows.items)
-    c.self.view_is c.self.invariant.rows in
-    let read_own = c.index-rows.ensures
-    ∙ ap (λ (k : ℕ). get_or c.self.inside.rows.items k c.index-rows.result.now) c.router.view_is in
-    let kept = kept-row d c.self.inside.rows.items c.args.flow c.args.router c.index-rows.result.now
-    c.index.result.now ok rows c.requires.router c.requires.flow read_own
-    (c.index.ensures
-    ∙ ap (λ (xs : List RowNo). get_or xs c.args.flow c.index.result.now) c.rows.view_is) in
-    let t = c.index-in-Exact.result.now in
-    let read = c.index-in-Exact.ensures
-    ∙ ap (λ (k : ℕ). get_or c.self.inside.tables.items k t) c.router.view_is
-    ∙ ap (λ (d : DomainValue). get_or d.tables c.args.router t) c.self.view_is in
-    let at = ap (λ (own : TablesValue). slice_get own.cache.numbered c.in-Exact.number)
-    (sym c.behind-self.view_is) ∙ c.entry_at.ensures.entry in
-    entry-row d c.args.flow c.args.router c.in-Exact.number c.index.result.now t
-    c.entry_at.result.now kept c.in-Exact.is read at
+    let kept = row-read c.self.invariant c.self.view_is c.router.view_is c.rows.view_is c.requires.router
+    c.requires.flow c.index-rows.ensures c.index.ensures in
+    let read = tables-read c.self.view_is c.router.view_is c.index-in-Exact.ensures in
+    entry-row c.args.self.now c.args.flow c.args.router c.in-Exact.number c.index.result.now
+    c.index-in-Exact.result.now c.entry_at.result.now kept c.in-Exact.is read
+    (read-behind c.in-Exact.number c.behind-self.view_is c.entry_at.ensures.entry)
 
 pub returns-in-Exact-clause-stands : goal.returns-in-Exact-clause-stands
 returns-in-Exact-clause-stands c =
-    let d = c.args.self.now in
-    let ok = subst IsDomain c.self.view_is c.self.invariant.domain in
-    let rows = subst (λ (d : DomainValue). AreRowsOf d.topology.flows d.tables c.self.inside.rows.items)
-    c.self.view_is c.self.invariant.rows in
-    let read_own = c.index-rows.ensures
-    ∙ ap (λ (k : ℕ). get_or c.self.inside.rows.items k c.index-rows.result.now) c.router.view_is in
-    let kept = kept-row d c.self.inside.rows.items c.args.flow c.args.router c.index-rows.result.now
-    c.index.result.now ok rows c.requires.router c.requires.flow read_own
-    (c.index.ensures
-    ∙ ap (λ (xs : List RowNo). get_or xs c.args.flow c.index.result.now) c.rows.view_is) in
-    let t = c.index-in-Exact.result.now in
-    let read = c.index-in-Exact.ensures
-    ∙ ap (λ (k : ℕ). get_or c.self.inside.tables.items k t) c.router.view_is
-    ∙ ap (λ (d : DomainValue). get_or d.tables c.args.router t) c.self.view_is in
-    let at = ap (λ (own : TablesValue). slice_get own.cache.numbered c.in-Exact.number)
-    (sym c.behind-self.view_is) ∙ c.entry_at.ensures.entry in
-    entry-stands d c.args.flow c.args.router c.in-Exact.number c.index.result.now t
-    c.entry_at.result.now ok kept c.in-Exact.is read at
+    let kept = row-read c.self.invariant c.self.view_is c.router.view_is c.rows.view_is c.requires.router
+    c.requires.flow c.index-rows.ensures c.index.ensures in
+    let read = tables-read c.self.view_is c.router.view_is c.index-in-Exact.ensures in
+    entry-stands c.args.self.now c.args.flow c.args.router c.in-Exact.number c.index.result.now
+    c.index-in-Exact.result.now c.entry_at.result.now
+    (subst IsDomain c.self.view_is c.self.invariant.domain) kept c.in-Exact.is read
+    (read-behind c.in-Exact.number c.behind-self.view_is c.entry_at.ensures.entry)
 
 pub returns-in-Open-clause-row : goal.returns-in-Open-clause-row
 returns-in-Open-clause-row c =
-    let d = c.args.self.now in
-    let ok = subst IsDomain c.self.view_is c.self.invariant.domain in
-    let rows = subst (λ (d : DomainValue). AreRowsOf d.topology.flows d.tables c.self.inside.rows.items)
-    c.self.view_is c.self.invariant.rows in
-    let read_own = c.index-rows.ensures
-    ∙ ap (λ (k : ℕ). get_or c.self.inside.rows.items k c.index-rows.result.now) c.router.view_is in
-    let kept = kept-row d c.self.inside.rows.items c.args.flow c.args.router c.index-rows.result.now
-    c.index.result.now ok rows c.requires.router c.requires.flow read_own
-    (c.index.ensures
-    ∙ ap (λ (xs : List RowNo). get_or xs c.args.flow c.index.result.now) c.rows.view_is) in
-    other-row d c.args.flow c.args.router c.index.result.now Open open_row kept c.in-Open.is
-    (λ t f is. is)
+    let kept = row-read c.self.invariant c.self.view_is c.router.view_is c.rows.view_is c.requires.router
+    c.requires.flow c.index-rows.ensures c.index.ensures in
+    other-row c.args.self.now c.args.flow c.args.router c.index.result.now Open open_row kept
+    c.in-Open.is (λ t f is. is)
 
 pub returns-in-NoRow-clause-row : goal.returns-in-NoRow-clause-row
 returns-in-NoRow-clause-row c =
-    let d = c.args.self.now in
-    let ok = subst IsDomain c.self.view_is c.self.invariant.domain in
-    let rows = subst (λ (d : DomainValue). AreRowsOf d.topology.flows d.tables c.self.inside.rows.items)
-    c.self.view_is c.self.invariant.rows in
-    let read_own = c.index-rows.ensures
-    ∙ ap (λ (k : ℕ). get_or c.self.inside.rows.items k c.index-rows.result.now) c.router.view_is in
-    let kept = kept-row d c.self.inside.rows.items c.args.flow c.args.router c.index-rows.result.now
-    c.index.result.now ok rows c.requires.router c.requires.flow read_own
-    (c.index.ensures
-    ∙ ap (λ (xs : List RowNo). get_or xs c.args.flow c.index.result.now) c.rows.view_is) in
-    other-row d c.args.flow c.args.router c.index.result.now NoRow no_row kept c.in-NoRow.is
-    (λ t f is. is)
+    let kept = row-read c.self.invariant c.self.view_is c.router.view_is c.rows.view_is c.requires.router
+    c.requires.flow c.index-rows.ensures c.index.ensures in
+    other-row c.args.self.now c.args.flow c.args.router c.index.result.now NoRow no_row kept
+    c.in-NoRow.is (λ t f is. is)

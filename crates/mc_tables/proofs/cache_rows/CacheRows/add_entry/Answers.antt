@@ -1,4 +1,4 @@
-use Rattle.std.proofs.Common.{ℕ, ◌≡◌, ◌∙◌, [], ◌∷◌, ◌++◌, List, length, sym, ap, subst, Ok, Err}
+use Rattle.std.proofs.Common.{ℕ, ◌≡◌, ◌∙◌, [], ◌∷◌, ◌++◌, List, sym, ap, subst, Ok, Err}
 use Rattle.std.specs.FinMap as map
 use Rattle.mc_tables.specs.declared.entry.Entry.{Entry}
 use Rattle.mc_tables.specs.declared.fault.TableFaultKind.TheVariants.{RepeatedEntry}

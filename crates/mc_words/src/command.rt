@@ -19,11 +19,20 @@ Does a LAN want what 10.0.0.5 sends to 239.1.2.3?
 
 Statuses: 0 yes, 1 no, 2 refused input, 3 read or write failed, 4 no memory, 5 wrong words";
 
+/// A command with one argument more.
+fn with_argument<'a>(
+    command: Result<Command<'a>, AllocError>,
+    argument: Arg<'a>,
+) -> Result<Command<'a>, AllocError> {
+    command?.arg(argument)
+}
+
 /// A command with one command more below it.
 fn with_command<'a>(
-    command: Command<'a>,
+    command: Result<Command<'a>, AllocError>,
     below: Result<Command<'a>, AllocError>,
 ) -> Result<Command<'a>, AllocError> {
+    let command = command?;
     command.subcommand(below?)
 }
 
@@ -65,8 +74,10 @@ pub fn wants_command<'a>(alloc: Global) -> Result<Command<'a>, AllocError> {
         "mcaudit wants <group> <source>",
     );
     let group = required(alloc, "group", "The group, 224.0.1.0 to 239.255.255.255");
-    let command = command.arg(group)?;
-    command.arg(required(alloc, "source", "The source's address"))
+    with_argument(
+        command.arg(group),
+        required(alloc, "source", "The source's address"),
+    )
 }
 
 /// The command `audit` and its arguments.
@@ -78,8 +89,10 @@ fn audit_command<'a>(alloc: Global) -> Result<Command<'a>, AllocError> {
         "mcaudit audit <folder> [--travel]",
     );
     let travel = "Shows of each flow without a certificate what its packet does, event by event";
-    let command = command.arg(required(alloc, "folder", FOLDER))?;
-    command.arg(flag(alloc, "travel", travel))
+    with_argument(
+        command.arg(required(alloc, "folder", FOLDER)),
+        flag(alloc, "travel", travel),
+    )
 }
 
 /// The command `check`, which has no arguments.
@@ -110,8 +123,10 @@ fn pack_command<'a>(alloc: Global) -> Result<Command<'a>, AllocError> {
         "Packs the files of a folder into a bundle",
         "mcaudit pack <folder> [--certificate]",
     );
-    let command = command.arg(required(alloc, "folder", FOLDER))?;
-    command.arg(flag(alloc, "certificate", "Packs the file certificate too"))
+    with_argument(
+        command.arg(required(alloc, "folder", FOLDER)),
+        flag(alloc, "certificate", "Packs the file certificate too"),
+    )
 }
 
 /// The command `replay` and its arguments.
@@ -125,9 +140,9 @@ pub fn replay_command<'a>(alloc: Global) -> Result<Command<'a>, AllocError> {
     let flow = "The flow's number in the topology, counted from 1";
     let ttl = "The packet's time to live, 1 to 255";
     let order = "Which of the waiting copies is handled next: first or last";
-    let command = command.arg(required(alloc, "flow", flow))?;
-    let command = command.arg(required(alloc, "ttl", ttl))?;
-    command.arg(option(alloc, "order", "first", order))
+    let command = command.arg(required(alloc, "flow", flow));
+    let command = with_argument(command, required(alloc, "ttl", ttl));
+    with_argument(command, option(alloc, "order", "first", order))
 }
 
 /// The commands and the help.
@@ -139,10 +154,10 @@ pub fn program<'a>(alloc: Global) -> Result<Command<'a>, AllocError> {
         .subcommand_required(true)
         .arg_required_else_help(true)
         .disable_help_subcommand(true);
-    let program = with_command(program, audit_command(alloc))?;
-    let program = program.subcommand(check_command(alloc))?;
-    let program = program.subcommand(make_command(alloc))?;
-    let program = with_command(program, pack_command(alloc))?;
-    let program = with_command(program, replay_command(alloc))?;
+    let program = with_command(Ok(program), audit_command(alloc));
+    let program = with_command(program, Ok(check_command(alloc)));
+    let program = with_command(program, Ok(make_command(alloc)));
+    let program = with_command(program, pack_command(alloc));
+    let program = with_command(program, replay_command(alloc));
     with_command(program, wants_command(alloc))
 }

@@ -12,7 +12,9 @@ of specs/ that a law pins, and counts as refused only where a goal of this funct
 check goes on past a refused function and holds its callers to its contract, so edits of different
 functions are tried in one copy of the crate. There the bodies of all other functions are cut (but
 where a developer's own checks have kept them), since a goal rests on the contract of what is called
-and never on its body. One that such a check says nothing of is tried alone, in a whole copy. Two lines more can stand in an edit:
+and never on its body. Of several edits of one function the first changes it, and each other one a
+twin of it: a function beside it with another name, the same contract and the same proof. An edit
+that such a check says nothing of is tried alone, in a whole copy. Two lines more can stand in it:
 
   fn: PATH       the function, where the edit changes text outside of bodies, as a definition (such an
                  edit is tried alone), or where the prover names the function otherwise than its
@@ -170,6 +172,46 @@ def cut_body(text, head, body):
     return f"{before}{head[1]}#[tactic(none)]\n{kept}\n{head[1]}    unreachable!(){text[body[1]:]}"
 
 
+# --- A function that stands twice ---
+
+def can_have_twins(folder, path, function):
+    """Returns whether a copy of a function under another name is proved as it is.
+
+    So it is of one that answers for no trait, and whose proofs only its own proof names."""
+    text = text_of(f"{folder}/{path}")
+    owner = owner_of(text, head_and_body(path, text, function)[0])
+    own = f"{folder}/proofs/{function.replace('::', '/')}/"
+    is_method_of_trait = owner and (" for " in owner[0] or "trait " in owner[0])
+    has_closure = os.path.exists(f"{os.path.dirname(own[:-1])}/fn/{os.path.basename(own[:-1])}")
+    texts = {file: text_of(file) for file in files_of(folder)}
+    return not is_method_of_trait and not has_closure and not is_cited(function, own, texts)
+
+
+def head_and_body(path, text, function):
+    """Returns the head of a function, and where its body stands."""
+    return next((head, body) for name, head, body in functions_of(path, text) if name == function)
+
+
+def add_twin(room, path, function, text, end):
+    """Puts a function as it is in a text into a crate's copy, its name with an end of its own, and its proof beside it."""
+    head, body = head_and_body(path, text, function)
+    before = TACTICS.search(text[:head.start()])
+    closing = f"\n{head[1]}}}"
+    twin = text[before.start() if before else head.start():head.end()] + end
+    twin += text[head.end():body[1]] + closing
+    file = f"{room}/{path}"
+    copy = text_of(file)
+    after = head_and_body(path, copy, function)[1][1] + len(closing)
+    with open(file, "w", encoding="utf-8") as opened:
+        opened.write(f"{copy[:after]}\n\n{twin.strip(chr(10))}{copy[after:]}")
+    own = f"{room}/proofs/{function.replace('::', '/')}"
+    for name in os.listdir(own) if os.path.isdir(own) else ():
+        cited = f"proofs.{function.replace('::', '.')}"
+        os.makedirs(own + end, exist_ok=True)
+        with open(f"{own}{end}/{name}", "w", encoding="utf-8") as opened:
+            opened.write(text_of(f"{own}/{name}").replace(f"{cited}.", f"{cited}{end}."))
+
+
 class Edit:
     """An edit of a crate, and what is asked of it."""
 
@@ -181,12 +223,19 @@ class Edit:
         hit = changed_functions(crate.folder, texts) if texts else {""}
         self.clause, self.is_alone = said.get("clause"), None in hit or len(hit) > 1
         self.function, self.places = f"{crate.name}::{said.get('fn') or next(iter(hit), None)}", hit
+        self.twin = ""  # how the name ends of the twin that it changes, if it changes one
+        self.may_be_twin = not self.is_alone and "fn" not in said and len(texts or ()) == 1
+        self.path = next(iter(texts or ()), None)
         if not hit:
             self.fault = "it changes nothing"
         elif any(not path.startswith(("src/", "specs/")) for path in texts or ()):
             self.fault = "it changes a file outside of src/ and specs/"
         elif self.is_alone and "fn" not in said:
             self.fault = "it changes not one body alone: name the function in a line 'fn: PATH'"
+
+    def tried(self):
+        """Returns the prover's name for the function that a check tries it on."""
+        return self.function + self.twin
 
 
 # --- What a check says ---
@@ -232,13 +281,13 @@ class Said:
 
     def has_stray_errors(self, edits):
         """Returns whether an error stands elsewhere than in the proofs of the functions that edits change."""
-        paths = [it.function.partition("::")[2].replace("::", "/") for it in edits]
+        paths = [it.tried().partition("::")[2].replace("::", "/") for it in edits]
         own = tuple(f"proofs/{it}/" for it in paths)
         return any(not it.startswith(own) for it in self.strange)
 
     def refusal(self, edit):
         """Returns the goals that refuse an edit as it asks, in a few words, or nothing."""
-        goals = self.refused_goals(edit.function)
+        goals = self.refused_goals(edit.tried())
         if edit.clause:
             goals = [it for it in goals if re.search(rf"clause-{edit.clause}(?!\w)", it)]
         return ", ".join(dict.fromkeys(goals))[:150]
@@ -299,12 +348,15 @@ class Crate:
             if is_cut:
                 names = [[*it.places, it.function.partition("::")[2]] for it in edits]
                 cut_others(room, {name for its in names for name in its})
-            for edit in edits:
+            for edit in (it for it in edits if not it.twin):
                 # (one that doesn't fit beside the others is then tried alone)
                 for path, text in (rt.read_edit(edit.file, room)[0] or {}).items():
                     with open(f"{room}/{path}", "w", encoding="utf-8") as opened:
                         opened.write(text)
-            functions = sorted(it.function for it in edits)
+            for edit in (it for it in edits if it.twin):
+                for path, text in rt.read_edit(edit.file, self.folder)[0].items():
+                    add_twin(room, path, *edit.places, text, edit.twin)
+            functions = sorted(it.tried() for it in edits)
             said = self.run(room, [it for name in functions for it in ("--only", name)])
             self.keep(f"{room}/out", functions)
         return said
@@ -344,12 +396,19 @@ class Crate:
             half = len(edits) // 2
             return self.judge_cut(edits[:half]) + self.judge_cut(edits[half:])
         if not said.reached_prover or said.has_stray_errors(edits):
-            return self.judge(edits)
+            return self.judge_by_turns(edits)
         tried = [(it, said.refusal(it)) for it in edits]
         found = [(edit, True, goals + BESIDE_CUT) for edit, goals in tried if goals]
         for edit in (it for it, goals in tried if not goals):
+            edit.twin = ""
             found += self.judge([edit])
         return found
+
+    def judge_by_turns(self, edits):
+        """Tries edits beside whole bodies, those of one function in a check each."""
+        for edit in edits:
+            edit.twin = ""
+        return [found for group in groups_of(edits) for found in self.judge(group)]
 
     def judge(self, edits):
         """Tries edits in one check. Returns each with whether it is refused, and by what."""
@@ -376,7 +435,7 @@ class Crate:
         good = [it for it in self.edits if not it.fault]
         if good and (why := self.prepare()):
             return [*found, *((it.name, False, f"NOT TRIED: {why}") for it in good)]
-        for group in groups_of(good):
+        for group in groups_of(good, self.folder if not self.is_whole else None):
             judge = self.judge if self.is_whole or group[0].is_alone else self.judge_cut
             found += [(edit.name, refused, why) for edit, refused, why in judge(group)]
         shutil.rmtree(self.kept, ignore_errors=True)
@@ -392,16 +451,21 @@ def is_proved(made):
     return os.path.exists(built) and os.path.getmtime(built) >= max(map(os.path.getmtime, files))
 
 
-def groups_of(edits):
-    """Returns edits in groups, in each of which no two change the same function."""
+def groups_of(edits, folder=None):
+    """Returns edits in groups, in each of which no two change the same function.
+
+    Given the crate's folder, those that can change a twin of it stand in one group."""
     groups = collections.defaultdict(list)
     met = collections.Counter()
     for edit in edits:
         if edit.is_alone:
             groups[edit.name].append(edit)
-        else:
-            groups[met[edit.function]].append(edit)
-            met[edit.function] += 1
+            continue
+        before = met[edit.function]
+        met[edit.function] += 1
+        if before and folder and edit.may_be_twin and can_have_twins(folder, edit.path, *edit.places):
+            edit.twin, before = f"_twin{before}", 0
+        groups[before].append(edit)
     return list(groups.values())
 
 
@@ -433,6 +497,10 @@ new:             mode: Mode::Exclude,
 file: src/gathered.rt
 old: filter: Filter::none(alloc),
 new: filter: { Filter::none(alloc) },
+== callee_wrong_twin_right: IT PROVES
+file: src/filter.rt
+old:             sources: Vec::new(alloc),
+new:             sources: { Vec::new(alloc) },
 == clause_of_another: ANOTHER CLAUSE REFUSES IT
 clause: ascending
 file: src/filter.rt

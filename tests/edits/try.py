@@ -172,41 +172,41 @@ def cut_body(text, head, body):
     return f"{before}{head[1]}#[tactic(none)]\n{kept}\n{head[1]}    unreachable!(){text[body[1]:]}"
 
 
-# --- A function that stands twice ---
+# --- Twins: a function once more, under another name ---
 
 def can_have_twins(folder, path, function):
-    """Returns whether a copy of a function under another name is proved as it is.
+    """Returns whether a function's twin is proved as the function is.
 
-    So it is of one that answers for no trait, and whose proofs only its own proof names."""
-    text = text_of(f"{folder}/{path}")
-    owner = owner_of(text, head_and_body(path, text, function)[0])
+    A method of a trait has none, nor has a function whose proof another text names."""
+    owner = owner_of(text := text_of(f"{folder}/{path}"), standing(path, text, function)[0])
     own = f"{folder}/proofs/{function.replace('::', '/')}/"
-    is_method_of_trait = owner and (" for " in owner[0] or "trait " in owner[0])
-    has_closure = os.path.exists(f"{os.path.dirname(own[:-1])}/fn/{os.path.basename(own[:-1])}")
+    above, name = os.path.split(own[:-1])
+    is_of_trait = owner and (" for " in owner[0] or not owner[0].lstrip().startswith("impl"))
+    has_closures = os.path.exists(f"{above}/fn/{name}")
     texts = {file: text_of(file) for file in files_of(folder)}
-    return not is_method_of_trait and not has_closure and not is_cited(function, own, texts)
+    return not (is_of_trait or has_closures or is_cited(function, own, texts))
 
 
-def head_and_body(path, text, function):
-    """Returns the head of a function, and where its body stands."""
+def standing(path, text, function):
+    """Returns the head of a function in a file's text, and where its body stands."""
     return next((head, body) for name, head, body in functions_of(path, text) if name == function)
 
 
-def add_twin(room, path, function, text, end):
-    """Puts a function as it is in a text into a crate's copy, its name with an end of its own, and its proof beside it."""
-    head, body = head_and_body(path, text, function)
+def add_twin(folder, path, function, text, end):
+    """Adds a function, as it stands in a text of its file, and its proof to a copy of a crate.
+
+    The names of both get this end."""
+    head, body = standing(path, text, function)
     before = TACTICS.search(text[:head.start()])
     closing = f"\n{head[1]}}}"
-    twin = text[before.start() if before else head.start():head.end()] + end
+    twin = (before[0].strip("\n") if before else "") + "\n" + text[head.start():head.end()] + end
     twin += text[head.end():body[1]] + closing
-    file = f"{room}/{path}"
-    copy = text_of(file)
-    after = head_and_body(path, copy, function)[1][1] + len(closing)
-    with open(file, "w", encoding="utf-8") as opened:
-        opened.write(f"{copy[:after]}\n\n{twin.strip(chr(10))}{copy[after:]}")
-    own = f"{room}/proofs/{function.replace('::', '/')}"
+    whole = text_of(f"{folder}/{path}")
+    behind = standing(path, whole, function)[1][1] + len(closing)
+    with open(f"{folder}/{path}", "w", encoding="utf-8") as opened:
+        opened.write(f"{whole[:behind]}\n\n{twin}{whole[behind:]}")
+    own, cited = f"{folder}/proofs/{function.replace('::', '/')}", f"proofs.{function.replace('::', '.')}"
     for name in os.listdir(own) if os.path.isdir(own) else ():
-        cited = f"proofs.{function.replace('::', '.')}"
         os.makedirs(own + end, exist_ok=True)
         with open(f"{own}{end}/{name}", "w", encoding="utf-8") as opened:
             opened.write(text_of(f"{own}/{name}").replace(f"{cited}.", f"{cited}{end}."))

@@ -501,6 +501,10 @@ new: filter: { Filter::none(alloc) },
 file: src/filter.rt
 old:             sources: Vec::new(alloc),
 new:             sources: { Vec::new(alloc) },
+== changed_type: IT DID NOT REACH THE PROVER
+file: src/filter.rt
+old:         self.mode
+new:         self.sources
 == clause_of_another: ANOTHER CLAUSE REFUSES IT
 clause: ascending
 file: src/filter.rt
@@ -512,10 +516,6 @@ old: for source in sources.iter() {
 new: for one in sources.iter() {
 old: addresses.push(source)?;
 new: addresses.push(one)?;
-== type_wrong: IT DID NOT REACH THE PROVER
-file: src/filter.rt
-old:         self.mode
-new:         self.sources
 == nothing_changed: BAD EDIT: it changes nothing
 file: src/filter.rt
 old:         self.mode

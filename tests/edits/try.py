@@ -178,7 +178,8 @@ def can_have_twins(folder, path, function):
     """Returns whether a function's twin is proved as the function is.
 
     A method of a trait has none, nor has a function whose proof another text names."""
-    owner = owner_of(text := text_of(f"{folder}/{path}"), standing(path, text, function)[0])
+    text = text_of(f"{folder}/{path}")
+    owner = owner_of(text, standing(path, text, function)[0])
     own = f"{folder}/proofs/{function.replace('::', '/')}/"
     above, name = os.path.split(own[:-1])
     is_of_trait = owner and (" for " in owner[0] or not owner[0].lstrip().startswith("impl"))

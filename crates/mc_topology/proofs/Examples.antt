@@ -10,14 +10,14 @@ use Rattle.mc_topology.specs.Addresses.{source_address_of, group_address_of}
 use Rattle.mc_topology.specs.Answer.{each}
 use Rattle.mc_topology.specs.Document.{known_table, text_at, number_at, list_at, optional_text_at}
 use Rattle.mc_topology.specs.Document.{optional_list_at, rows_at}
-use Rattle.mc_topology.specs.Flows.{ttl_of, flow_of, flow_rows, flows_in}
-use Rattle.mc_topology.specs.Interfaces.{interface_of, interfaces_in}
+use Rattle.mc_topology.specs.Flows.{ttl_of, flow_of, flow_with, flow_rows, flows_in}
+use Rattle.mc_topology.specs.Interfaces.{interface_of, interface_with, interfaces_in}
 use Rattle.mc_topology.specs.Lans.{lan_of, lan_rows, lans_in}
 use Rattle.mc_topology.specs.Names.{is_name, is_device}
 use Rattle.mc_topology.specs.Reading.{utf8_text, document_of, version_in, sections_in, topology_in}
 use Rattle.mc_topology.specs.Reading.{reading_of}
 use Rattle.mc_topology.specs.Routers.{order_of, router_of, routers_in}
-use Rattle.mc_topology.specs.Sources.{source_of, sources_in}
+use Rattle.mc_topology.specs.Sources.{source_of, source_with, sources_in}
 
 -- two LANs, a router of big endian between them, and a flow from 10.0.0.5 to 239.1.2.3
 abbrev text : List ℕ
@@ -39,8 +39,8 @@ pub text_is_read : reading_of text ≡ Ok (record {
 unfolding
     toml_on_literals is_utf8 chars digits reading_of topology_in sections_in document_of utf8_text
     version_in lans_in lan_rows lan_of
-    routers_in router_of order_of interfaces_in interface_of sources_in source_of flows_in flow_rows
-    flow_of
+    routers_in router_of order_of interfaces_in interface_of interface_with sources_in source_of
+    source_with flows_in flow_rows flow_of flow_with
     ttl_of known_table text_at number_at list_at optional_text_at optional_list_at rows_at is_name
     is_device
     source_address_of group_address_of address_of_text each

@@ -30,9 +30,9 @@ use Rattle.mc_topology.specs.Document.{known_table, text_of, text_at, number_at,
 use Rattle.mc_topology.specs.Names.{is_name, is_device, index_of}
 use Rattle.mc_topology.specs.Lans.{has_lan, lan_of}
 use Rattle.mc_topology.specs.Routers.{router_keys, router_of, order_of, has_router, router_no_of}
-use Rattle.mc_topology.specs.Interfaces.{interface_keys, interface_of, has_interface}
-use Rattle.mc_topology.specs.Sources.{source_keys, source_of, has_source, lan_of_source}
-use Rattle.mc_topology.specs.Flows.{flow_keys, flow_of, ttl_of, has_flow}
+use Rattle.mc_topology.specs.Interfaces.{interface_keys, interface_of, interface_with, has_interface}
+use Rattle.mc_topology.specs.Sources.{source_keys, source_of, source_with, has_source, lan_of_source}
+use Rattle.mc_topology.specs.Flows.{flow_keys, flow_of, flow_with, ttl_of, has_flow}
 use Rattle.mc_topology.specs.Stands.{EachStands, IsLan, IsRouter, IsInterface, IsSourceRow, IsFlow}
 use Rattle.mc_topology.specs.Topology.{AreDistinctBy}
 use Rattle.mc_topology.proofs.Distinct.{distinct_push, distinct_new}
@@ -169,7 +169,7 @@ pub interface_takes : (lans : List (List ℕ)) (routers : List RouterRow)
     (earlier : List InterfaceRow) (d : Data) (i : InterfaceRow)
     → interface_of lans routers earlier d ≡ Ok i → IsInterface lans routers d i
     × (has_interface i.router i.device earlier ≡ false)
-unfolding interface_of
+unfolding interface_of interface_with
 interface_takes lans routers earlier d i e =
     let t = bind_ok (known_table interface_keys d) _ i e in
     let router_name = bind_ok (text_at (codes "router") t.0) _ i t.2 in
@@ -201,7 +201,7 @@ interface_takes lans routers earlier d i e =
 pub interface_again : (lans : List (List ℕ)) (routers : List RouterRow)
     (earlier : List InterfaceRow) (d : Data) (i : InterfaceRow) → IsInterface lans routers d i
     → has_interface i.router i.device earlier ≡ false → interface_of lans routers earlier d ≡ Ok i
-unfolding interface_of
+unfolding interface_of interface_with
 interface_again lans routers earlier d i is new =
     rw (
       known_table-again interface_keys d is.members is.is_table,
@@ -222,7 +222,7 @@ interface_again lans routers earlier d i is new =
 pub source_row_takes : (lans : List (List ℕ)) (earlier : List SourceRow) (d : Data) (s : SourceRow)
     → source_of lans earlier d ≡ Ok s → IsSourceRow lans d s
     × (has_source s.address earlier ≡ false)
-unfolding source_of
+unfolding source_of source_with
 source_row_takes lans earlier d s e =
     let t = bind_ok (known_table source_keys d) _ s e in
     let text = bind_ok (text_at (codes "address") t.0) _ s t.2 in
@@ -250,7 +250,7 @@ source_row_takes lans earlier d s e =
 -- and a source with a new address is read
 pub source_row_again : (lans : List (List ℕ)) (earlier : List SourceRow) (d : Data) (s : SourceRow)
     → IsSourceRow lans d s → has_source s.address earlier ≡ false → source_of lans earlier d ≡ Ok s
-unfolding source_of
+unfolding source_of source_with
 source_row_again lans earlier d s is new =
     rw (
       known_table-again source_keys d is.members is.is_table,
@@ -268,7 +268,7 @@ source_row_again lans earlier d s is new =
 pub flow_takes : (sources : List SourceRow) (earlier : List Flow) (d : Data) (f : Flow)
     → flow_of sources earlier d ≡ Ok f → IsFlow sources d f
     × (has_flow f.source f.group earlier ≡ false)
-unfolding flow_of
+unfolding flow_of flow_with
 flow_takes sources earlier d f e =
     let t = bind_ok (known_table flow_keys d) _ f e in
     let source_text = bind_ok (text_at (codes "source") t.0) _ f t.2 in
@@ -306,7 +306,7 @@ flow_takes sources earlier d f e =
 pub flow_again : (sources : List SourceRow) (earlier : List Flow) (d : Data) (f : Flow)
     → IsFlow sources d f → has_flow f.source f.group earlier ≡ false
     → flow_of sources earlier d ≡ Ok f
-unfolding flow_of
+unfolding flow_of flow_with
 flow_again sources earlier d f is new =
     rw (
       known_table-again flow_keys d is.members is.is_table,

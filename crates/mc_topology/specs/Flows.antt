@@ -29,24 +29,30 @@ ttl_of (negsuc n) = Err BadTtl
 abbrev pub has_flow : ℕ → ℕ → List Flow → Bool
 has_flow source group flows = list_any (λ f. (f.source == source) && (f.group == group)) flows
 
--- A flow. It has to be a table (else BadKind) of no other keys (UnknownKey). Then the keys:
--- `source`, `group` and `ttl`, in this order, each have to be there (MissingKey) and to be a text,
--- and `ttl` a whole number (BadKind). Then the values: the first is the address of a host that may
--- send (BadAddress), a source has it (UnknownName), the second is the address of a group that
--- routers forward (BadAddress), the third is a time to live (BadTtl), and no earlier flow has the
--- source and the group (RepeatedFlow).
-unfoldable pub flow_of : List SourceRow → List Flow → Data → Result Flow TopologyFaultKind
-flow_of sources earlier d = do
-  table ← known_table flow_keys d
-  source_text ← text_at (codes "source") table
-  group_text ← text_at (codes "group") table
-  number ← number_at (codes "ttl") table
+-- The flow of the three values: the first is the address of a host that may send (BadAddress), a
+-- source has it (UnknownName), the second is the address of a group that routers forward
+-- (BadAddress), the third is a time to live (BadTtl), and no earlier flow has the source and the
+-- group (RepeatedFlow).
+unfoldable pub flow_with : List SourceRow → List Flow → List ℕ → List ℕ → ℤ
+    → Result Flow TopologyFaultKind
+flow_with sources earlier source_text group_text number = do
   source ← source_address_of source_text
   lan ← ok_or (lan_of_source source sources) UnknownName
   group ← group_address_of group_text
   ttl ← ttl_of number
   if has_flow source group earlier then Err RepeatedFlow
       else Ok (record { source = source; lan = lan; group = group; ttl = ttl })
+
+-- A flow. It has to be a table (else BadKind) of no other keys (UnknownKey). Then the keys:
+-- `source`, `group` and `ttl`, in this order, each have to be there (MissingKey) and to be a text,
+-- and `ttl` a whole number (BadKind). Then the values are judged, as `flow_with` says.
+unfoldable pub flow_of : List SourceRow → List Flow → Data → Result Flow TopologyFaultKind
+flow_of sources earlier d = do
+  table ← known_table flow_keys d
+  source_text ← text_at (codes "source") table
+  group_text ← text_at (codes "group") table
+  number ← number_at (codes "ttl") table
+  flow_with sources earlier source_text group_text number
 
 -- The list has to be a list (else BadKind), then of one flow at least (NoFlow), and then of at most
 -- 4,096 (TooMany).

@@ -36,11 +36,21 @@ abbrev pub lan_of_interface : ℕ → List ℕ → List InterfaceRow → Option 
 lan_of_interface router device interfaces =
     option_map (λ i. i.lan) (find (is_at router device) interfaces)
 
+-- The interface of the three values: a router has the first name (UnknownName), a device can have
+-- the second (BadName), a LAN has the third (UnknownName), and no earlier interface has the router
+-- and the device (RepeatedInterface).
+unfoldable pub interface_with : List (List ℕ) → List RouterRow → List InterfaceRow → List ℕ
+    → List ℕ → List ℕ → Result InterfaceRow TopologyFaultKind
+interface_with lans routers earlier router_name device lan_name = do
+  router ← ok_or (router_no_of router_name routers) UnknownName
+  if not (is_device device) then Err BadName else do
+    lan ← ok_or (index_of lan_name lans) UnknownName
+    if has_interface router device earlier then Err RepeatedInterface
+        else Ok (record { router = router; device = device; lan = lan })
+
 -- An interface. It has to be a table (else BadKind) of no other keys (UnknownKey). Then the keys:
 -- `router`, `device` and `lan`, in this order, each have to be there (MissingKey) and to be a text
--- (BadKind). Then the values: a router has the first name (UnknownName), a device can have the
--- second (BadName), a LAN has the third (UnknownName), and no earlier interface has the router and
--- the device (RepeatedInterface).
+-- (BadKind). Then the values are judged, as `interface_with` says.
 unfoldable pub interface_of : List (List ℕ) → List RouterRow → List InterfaceRow → Data
     → Result InterfaceRow TopologyFaultKind
 interface_of lans routers earlier d = do
@@ -48,11 +58,7 @@ interface_of lans routers earlier d = do
   router_name ← text_at (codes "router") table
   device ← text_at (codes "device") table
   lan_name ← text_at (codes "lan") table
-  router ← ok_or (router_no_of router_name routers) UnknownName
-  if not (is_device device) then Err BadName else do
-    lan ← ok_or (index_of lan_name lans) UnknownName
-    if has_interface router device earlier then Err RepeatedInterface
-        else Ok (record { router = router; device = device; lan = lan })
+  interface_with lans routers earlier router_name device lan_name
 
 -- The interfaces: first their list, which has to be a list (else BadKind) of at most 8,192
 -- (TooMany), at the number 0, then each interface from the front, at its number, counted from 1.

@@ -26,20 +26,26 @@ has_source address sources = list_any (λ s. s.address == address) sources
 abbrev pub lan_of_source : ℕ → List SourceRow → Option ℕ
 lan_of_source address sources = option_map (λ s. s.lan) (find (λ s. s.address == address) sources)
 
+-- The source of the two values: the first is the address of a host that may send (BadAddress), a
+-- LAN has the name (UnknownName), and no earlier source has the address (RepeatedName).
+unfoldable pub source_with : List (List ℕ) → List SourceRow → List ℕ → List ℕ
+    → Result SourceRow TopologyFaultKind
+source_with lans earlier text lan_name = do
+  address ← source_address_of text
+  lan ← ok_or (index_of lan_name lans) UnknownName
+  if has_source address earlier then Err RepeatedName
+      else Ok (record { address = address; lan = lan })
+
 -- A source. It has to be a table (else BadKind) of no other keys (UnknownKey). Then the keys:
 -- `address` and `lan`, in this order, each have to be there (MissingKey) and to be a text
--- (BadKind). Then the values: the first is the address of a host that may send (BadAddress), a LAN
--- has the name (UnknownName), and no earlier source has the address (RepeatedName).
+-- (BadKind). Then the values are judged, as `source_with` says.
 unfoldable pub source_of : List (List ℕ) → List SourceRow → Data
     → Result SourceRow TopologyFaultKind
 source_of lans earlier d = do
   table ← known_table source_keys d
   text ← text_at (codes "address") table
   lan_name ← text_at (codes "lan") table
-  address ← source_address_of text
-  lan ← ok_or (index_of lan_name lans) UnknownName
-  if has_source address earlier then Err RepeatedName
-      else Ok (record { address = address; lan = lan })
+  source_with lans earlier text lan_name
 
 -- The sources: first their list, which has to be a list (else BadKind) of at most 4,096 (TooMany),
 -- at the number 0, then each source from the front, at its number, counted from 1.

@@ -15,7 +15,7 @@ use std::marker::Model;
 pub(crate) const MAX_SOURCES: usize = 4096;
 
 /// The addresses of the hosts that send, each with its LAN, in the order of the topology.
-#[derive(Debug, Drop)]
+#[derive(Drop)]
 pub(crate) struct Sources {
     lans: IndexMap<Addr, LanNo>,
 }

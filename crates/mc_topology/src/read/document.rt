@@ -48,7 +48,9 @@ pub(crate) fn text_of(value: &Value) -> Result<&str, TopologyFaultKind>
 pub(crate) fn list_of(value: &Value) -> Result<&[Value], TopologyFaultKind>
     ensures { Answers (λ values. map view values.now) result (list_of (view value.now)) }
 {
-    let values = value.as_array().ok_or(TopologyFaultKind::BadKind)?;
+    let Some(values) = value.as_array() else {
+        return Err(TopologyFaultKind::BadKind);
+    };
     Ok(values.as_slice())
 }
 
@@ -61,7 +63,9 @@ pub(crate) fn known_table<'a>(
     ensures { Answers (λ table. table_view table.now) result
         (known_table (map (λ k. k.now) known.now) (view value.now)) }
 {
-    let table = value.as_table().ok_or(TopologyFaultKind::BadKind)?;
+    let Some(table) = value.as_table() else {
+        return Err(TopologyFaultKind::BadKind);
+    };
     if !has_only(table, known) {
         return Err(TopologyFaultKind::UnknownKey);
     }
@@ -81,7 +85,9 @@ pub(crate) fn value_at<'a>(table: &'a Table, key: &str) -> Option<&'a Value>
 pub(crate) fn text_at<'a>(table: &'a Table, key: &str) -> Result<&'a str, TopologyFaultKind>
     ensures { Answers (λ text. text.now) result (text_at key.now (table_view table.now)) }
 {
-    let value = value_at(table, key).ok_or(TopologyFaultKind::MissingKey)?;
+    let Some(value) = value_at(table, key) else {
+        return Err(TopologyFaultKind::MissingKey);
+    };
     text_of(value)
 }
 
@@ -97,7 +103,9 @@ pub(crate) fn number_of(value: &Value) -> Result<i64, TopologyFaultKind>
 pub(crate) fn number_at(table: &Table, key: &str) -> Result<i64, TopologyFaultKind>
     ensures { result ≡ number_at key.now (table_view table.now) }
 {
-    let value = value_at(table, key).ok_or(TopologyFaultKind::MissingKey)?;
+    let Some(value) = value_at(table, key) else {
+        return Err(TopologyFaultKind::MissingKey);
+    };
     number_of(value)
 }
 
@@ -107,7 +115,9 @@ pub(crate) fn list_at<'a>(table: &'a Table, key: &str) -> Result<&'a [Value], To
     ensures { Answers (λ values. map view values.now) result
         (list_at key.now (table_view table.now)) }
 {
-    let value = value_at(table, key).ok_or(TopologyFaultKind::MissingKey)?;
+    let Some(value) = value_at(table, key) else {
+        return Err(TopologyFaultKind::MissingKey);
+    };
     list_of(value)
 }
 

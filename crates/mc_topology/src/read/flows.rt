@@ -4,7 +4,8 @@ ghost use Rattle.std.specs.Prelude.{◌≡◌, ◌≢◌, ◌≤◌, map, length
 ghost use Rattle.toml.specs.View.{view, table_view};
 ghost use Rattle.mc_topology.specs.declared.fault.Section.TheVariants as section;
 ghost use Rattle.mc_topology.specs.Answer.{Answers, out_of_memory};
-ghost use Rattle.mc_topology.specs.Flows.{has_flow, ttl_of, flow_of, flow_rows, flows_in};
+ghost use Rattle.mc_topology.specs.Flows.{has_flow, ttl_of, flow_with, flow_of};
+ghost use Rattle.mc_topology.specs.Flows.{flow_rows, flows_in};
 
 use crate::fault::{Section, TopologyFault, TopologyFaultKind, place};
 use crate::flow::{Flow, MAX_FLOWS};
@@ -26,20 +27,22 @@ fn ttl_of(number: i64) -> Result<u8, TopologyFaultKind>
     Ok(number as u8)
 }
 
-/// Reads one flow, whose source and group none of the earlier ones has.
-#[tactic(auto, unfolding(crate::specs::Flows::flow_of))]
-fn flow_of(sources: &Sources, earlier: &Flows, value: &Value) -> Result<Flow, TopologyFaultKind>
-    ensures flow { result ≡ flow_of sources.now earlier.now (view value.now) }
+/// The flow of the values of its keys, whose source and group none of the earlier ones has.
+#[tactic(auto, unfolding(crate::specs::Flows::flow_with))]
+fn flow_with(
+    sources: &Sources,
+    earlier: &Flows,
+    source_text: &str,
+    group_text: &str,
+    number: i64,
+) -> Result<Flow, TopologyFaultKind>
+    ensures flow { result ≡ flow_with sources.now earlier.now source_text.now group_text.now number }
     ensures new { IfOk result (λ f. has_flow f.source f.group earlier.now ≡ false) }
 {
-    let table = known_table(value, &["source", "group", "ttl"])?;
-    let source_text = text_at(table, "source")?;
-    let group_text = text_at(table, "group")?;
-    let number = number_at(table, "ttl")?;
     let source = source_address_of(source_text)?;
-    let lan = sources
-        .lan_of(source)
-        .ok_or(TopologyFaultKind::UnknownName)?;
+    let Some(lan) = sources.lan_of(source) else {
+        return Err(TopologyFaultKind::UnknownName);
+    };
     let group = group_address_of(group_text)?;
     let ttl = ttl_of(number)?;
     if earlier.has(source, group) {
@@ -51,6 +54,19 @@ fn flow_of(sources: &Sources, earlier: &Flows, value: &Value) -> Result<Flow, To
         group,
         ttl,
     })
+}
+
+/// Reads one flow, whose source and group none of the earlier ones has.
+#[tactic(auto, unfolding(crate::specs::Flows::flow_of))]
+fn flow_of(sources: &Sources, earlier: &Flows, value: &Value) -> Result<Flow, TopologyFaultKind>
+    ensures flow { result ≡ flow_of sources.now earlier.now (view value.now) }
+    ensures new { IfOk result (λ f. has_flow f.source f.group earlier.now ≡ false) }
+{
+    let table = known_table(value, &["source", "group", "ttl"])?;
+    let source_text = text_at(table, "source")?;
+    let group_text = text_at(table, "group")?;
+    let number = number_at(table, "ttl")?;
+    flow_with(sources, earlier, source_text, group_text, number)
 }
 
 /// The list of flows, of which there is one at least.

@@ -4,8 +4,8 @@ ghost use Rattle.std.specs.Prelude.{◌≡◌, ◌≢◌, ◌≤◌, length, fal
 ghost use Rattle.toml.specs.View.{view, table_view};
 ghost use Rattle.mc_topology.specs.declared.fault.Section.TheVariants as section;
 ghost use Rattle.mc_topology.specs.Answer.{Answers, out_of_memory};
-ghost use Rattle.mc_topology.specs.Interfaces.{has_interface, interface_of, interfaces_in};
-ghost use Rattle.mc_topology.specs.Interfaces.{interface_row};
+ghost use Rattle.mc_topology.specs.Interfaces.{has_interface, interface_with, interface_of};
+ghost use Rattle.mc_topology.specs.Interfaces.{interfaces_in, interface_row};
 
 use crate::fault::{Section, TopologyFault, TopologyFaultKind, place};
 use crate::interfaces::{InterfaceKey, Interfaces, MAX_INTERFACES};
@@ -17,6 +17,41 @@ use crate::read::rows::{Rows, each};
 use crate::routers::{MAX_ROUTERS, Routers};
 use std::alloc::Global;
 use toml::{Table, Value};
+
+/// The interface of the values of its keys, whose router and device none of the earlier ones has.
+#[tactic(auto, unfolding(crate::specs::Interfaces::interface_with))]
+fn interface_with(
+    lans: &Lans,
+    routers: &Routers,
+    earlier: &Interfaces,
+    router_name: &str,
+    device: &str,
+    lan_name: &str,
+) -> Result<(InterfaceKey, LanNo), TopologyFaultKind>
+    requires few_lans { length lans.now ≤ MAX_LANS }
+    requires few_routers { length routers.now ≤ MAX_ROUTERS }
+    ensures interface { Answers interface_row result
+        (interface_with lans.now routers.now earlier.now router_name.now device.now lan_name.now) }
+    ensures new { IfOk result (λ i. has_interface i.0.router i.0.device.items earlier.now ≡ false) }
+    ensures short { IfOk result (λ i. length i.0.device.items ≤ 15) }
+{
+    let Some(router) = routers.number_of(router_name) else {
+        return Err(TopologyFaultKind::UnknownName);
+    };
+    if !is_device(device) {
+        return Err(TopologyFaultKind::BadName);
+    }
+    let Some(key) = InterfaceKey::new(router, device.as_bytes()) else {
+        return Err(TopologyFaultKind::BadName);
+    };
+    let Some(lan) = lans.number_of(lan_name) else {
+        return Err(TopologyFaultKind::UnknownName);
+    };
+    if earlier.has(&key) {
+        return Err(TopologyFaultKind::RepeatedInterface);
+    }
+    Ok((key, lan))
+}
 
 /// Reads one interface, whose router and device none of the earlier ones has.
 #[tactic(auto, unfolding(crate::specs::Interfaces::interface_of))]
@@ -37,20 +72,7 @@ fn interface_of(
     let router_name = text_at(table, "router")?;
     let device = text_at(table, "device")?;
     let lan_name = text_at(table, "lan")?;
-    let router = routers
-        .number_of(router_name)
-        .ok_or(TopologyFaultKind::UnknownName)?;
-    if !is_device(device) {
-        return Err(TopologyFaultKind::BadName);
-    }
-    let key = InterfaceKey::new(router, device.as_bytes()).ok_or(TopologyFaultKind::BadName)?;
-    let lan = lans
-        .number_of(lan_name)
-        .ok_or(TopologyFaultKind::UnknownName)?;
-    if earlier.has(&key) {
-        return Err(TopologyFaultKind::RepeatedInterface);
-    }
-    Ok((key, lan))
+    interface_with(lans, routers, earlier, router_name, device, lan_name)
 }
 
 impl<'a> Rows<(&'a Lans, &'a Routers)> for Interfaces {

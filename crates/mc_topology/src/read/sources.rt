@@ -5,7 +5,7 @@ ghost use Rattle.toml.specs.View.{view, table_view};
 ghost use Rattle.mc_topology.specs.declared.fault.Section.TheVariants as section;
 ghost use Rattle.mc_topology.specs.Answer.{Answers, out_of_memory};
 ghost use Rattle.mc_topology.specs.Rows.{source_row};
-ghost use Rattle.mc_topology.specs.Sources.{has_source, source_of, sources_in};
+ghost use Rattle.mc_topology.specs.Sources.{has_source, source_with, source_of, sources_in};
 
 use crate::fault::{Section, TopologyFault, TopologyFaultKind, place};
 use crate::lans::{Lans, MAX_LANS};
@@ -17,6 +17,29 @@ use crate::sources::{MAX_SOURCES, Sources};
 use mc_text::Addr;
 use std::alloc::Global;
 use toml::{Table, Value};
+
+/// The source of the values of its keys, whose address none of the earlier ones has.
+#[tactic(auto, unfolding(crate::specs::Sources::source_with))]
+fn source_with(
+    lans: &Lans,
+    earlier: &Sources,
+    text: &str,
+    lan_name: &str,
+) -> Result<(Addr, LanNo), TopologyFaultKind>
+    requires { length lans.now ≤ MAX_LANS }
+    ensures source { Answers source_row result
+        (source_with lans.now earlier.now text.now lan_name.now) }
+    ensures new { IfOk result (λ s. has_source s.0 earlier.now ≡ false) }
+{
+    let address = source_address_of(text)?;
+    let Some(lan) = lans.number_of(lan_name) else {
+        return Err(TopologyFaultKind::UnknownName);
+    };
+    if earlier.has(address) {
+        return Err(TopologyFaultKind::RepeatedName);
+    }
+    Ok((address, lan))
+}
 
 /// Reads one source, whose address none of the earlier ones has.
 #[tactic(auto, unfolding(crate::specs::Sources::source_of))]
@@ -32,14 +55,7 @@ fn source_of(
     let table = known_table(value, &["address", "lan"])?;
     let text = text_at(table, "address")?;
     let lan_name = text_at(table, "lan")?;
-    let address = source_address_of(text)?;
-    let lan = lans
-        .number_of(lan_name)
-        .ok_or(TopologyFaultKind::UnknownName)?;
-    if earlier.has(address) {
-        return Err(TopologyFaultKind::RepeatedName);
-    }
-    Ok((address, lan))
+    source_with(lans, earlier, text, lan_name)
 }
 
 impl Rows<Lans> for Sources {

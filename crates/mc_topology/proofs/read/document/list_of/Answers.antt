@@ -4,6 +4,5 @@ use Rattle.mc_topology.proofs.read.document.list_of.Goals as goal
 
 pub returns : goal.returns
 returns c =
-    let got = rw c.in_ok-values.was at c.ok_or.ensures.ok_part in
-    let found = rw got at c.as_array.ensures in
-    rw (← found, c.as_slice.ensures.value) (ap Ok (rows_in-view c.in_ok-values.values.now.items))
+    let found = rw c.in-Some.is at c.as_array.ensures in
+    rw (← found, c.as_slice.ensures.value) (ap Ok (rows_in-view c.in-Some.values.now.items))

@@ -8,7 +8,8 @@ ghost use Rattle.mc_text.specs.Steps.{refused_as};
 ghost use Rattle.mc_layout.specs.Layout.{slots};
 ghost use Rattle.mc_forward.specs.Assembling.{AreCounted};
 ghost use Rattle.mc_domain.specs.Input.{InputValue, InputStands};
-ghost use Rattle.mc_domain.specs.InputReading.{Gives, certificate_in, input_in as input_in_parts};
+ghost use Rattle.mc_domain.specs.InputReading.{Gives, certificate_in};
+ghost use Rattle.mc_domain.specs.InputReading.{contents_in as contents_in_parts, input_in as input_in_parts};
 ghost use Rattle.mc_domain.specs.InputReading.{input_of, part_named};
 ghost use Rattle.mc_domain.specs.InputView.{certificate_seen, input_seen, input_value, input_with};
 ghost use Rattle.mc_domain.specs.PartsReading.{all_reports, all_tables, contents, lans_number};
@@ -96,6 +97,21 @@ fn contents_in(
     Ok((tables, reports))
 }
 
+/// The same, once the names and the number of all parts are judged.
+fn judged_contents_in(
+    alloc: Global,
+    bundle: &Bundle<'_>,
+    topology: &Topology,
+    certified: bool,
+) -> Result<(Vec<Tables>, Vec<ReportList>), InputFault>
+    ensures contents { Gives (λ told. input_with topology.now told.0.items told.1.items) result
+        (contents_in_parts certified bundle.now topology.now) }
+    ensures count { IfOk result (λ _. length bundle.now ≡ length (slots certified topology.now)) }
+{
+    names_in(bundle, topology, certified)?;
+    contents_in(alloc, bundle, topology)
+}
+
 /// The text of the certificate, in the last part, where one is to be there.
 fn certificate_of<'a>(bundle: &Bundle<'a>, topology: &Topology, certified: bool) -> Option<&'a [u8]>
     requires count { length bundle.now ≡ length (slots certified topology.now) }
@@ -106,6 +122,29 @@ fn certificate_of<'a>(bundle: &Bundle<'a>, topology: &Topology, certified: bool)
         return Some(bundle.part(last as usize).bytes);
     }
     None
+}
+
+/// A topology with what the parts after it tell, and the text of the certificate.
+fn contents_with<'a>(
+    bundle: &Bundle<'a>,
+    topology: Topology,
+    told: (Vec<Tables>, Vec<ReportList>),
+    certified: bool,
+) -> Contents<'a>
+    requires count { length bundle.now ≡ length (slots certified topology) }
+    ensures topology { result.topology ≡ topology }
+    ensures input { input_value result ≡ input_with topology told.0.items told.1.items }
+    ensures certificate { certificate_seen result.certificate ≡
+        certificate_in certified bundle.now topology }
+    ensures certified { is_some (certificate_seen result.certificate) ≡ certified }
+{
+    let certificate = certificate_of(bundle, &topology, certified);
+    Contents {
+        topology,
+        tables: told.0,
+        reports: told.1,
+        certificate,
+    }
 }
 
 /// What the parts tell: first the topology, then the names and the number of all parts, and then
@@ -123,15 +162,8 @@ fn input_in<'a>(
         ≡ certified) }
 {
     let topology = topology_in(alloc, bundle)?;
-    names_in(bundle, &topology, certified)?;
-    let contents = contents_in(alloc, bundle, &topology)?;
-    let certificate = certificate_of(bundle, &topology, certified);
-    Ok(Contents {
-        topology,
-        tables: contents.0,
-        reports: contents.1,
-        certificate,
-    })
+    let told = judged_contents_in(alloc, bundle, &topology, certified)?;
+    Ok(contents_with(bundle, topology, told, certified))
 }
 
 /// The parts of a bundle.

@@ -21,7 +21,8 @@ use std::test::Fail;
 /// - the eighth has two ways to l2;
 /// - the ninth has none.
 const NETWORK: Network<'static> = Network {
-    routers: "l0 l1; l1 l2; l0 l2",
+    routers: "r1; r2; r3",
+    interfaces: "r1 eth0 l0; r1 eth1 l1; r2 eth0 l1; r2 eth1 l2; r3 eth0 l0; r3 eth1 l2",
     sources: "10.0.0.5 l0; 10.0.0.6 l0; 10.0.0.7 l0; 10.0.0.8 l0; 10.0.0.9 l0; 10.0.0.10 l0",
     flows: "10.0.0.5 239.1.2.3 3; 10.0.0.5 239.1.2.4 3; 10.0.0.6 239.1.2.3 255; \
             10.0.0.6 239.1.2.4 3; 10.0.0.7 239.1.2.3 3; 10.0.0.7 239.1.2.4 3; \

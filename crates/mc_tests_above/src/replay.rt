@@ -69,7 +69,8 @@ Clean",
 
 /// r3 from l0 to l2, beside the chain of r1 and r2, and two flows.
 const BESIDE: Network<'static> = Network {
-    routers: "l0 l1; l1 l2; l0 l2",
+    routers: "r1; r2; r3",
+    interfaces: "r1 eth0 l0; r1 eth1 l1; r2 eth0 l1; r2 eth1 l2; r3 eth0 l0; r3 eth1 l2",
     flows: "10.0.0.5 239.1.2.3 3; 10.0.0.5 239.1.2.4 3",
     ..CHAIN
 };

@@ -12,8 +12,9 @@ use std::test::Fail;
 /// A router with a register vif that no flow uses. As a Linux kernel printed its vifs and its
 /// cache.
 const REGISTER: Network<'static> = Network {
-    lans: "l0 l1",
-    routers: "l0 l1",
+    lans: "l0; l1",
+    routers: "r1",
+    interfaces: "r1 eth0 l0; r1 eth1 l1",
     flows: "10.0.0.5 239.1.2.3 2",
     ..CHAIN
 };
@@ -32,7 +33,8 @@ const REGISTER_CACHE: &str = "Group    Origin   Iif     Pkts    Bytes    Wrong O
 /// A router from l0 to l1 and l2, with five flows. As a Linux kernel printed its vifs and its
 /// cache.
 const FILTERS: Network<'static> = Network {
-    routers: "l0 l1 l2",
+    routers: "r1",
+    interfaces: "r1 eth0 l0; r1 eth1 l1; r1 eth2 l2",
     sources: "10.0.0.5 l0; 10.0.0.6 l0; 10.0.0.7 l0",
     flows: "10.0.0.5 239.1.2.3 2; 10.0.0.6 239.1.2.3 2; 10.0.0.7 239.1.2.3 2; \
             10.0.0.5 232.1.1.1 2; 10.0.0.6 232.1.1.1 2",

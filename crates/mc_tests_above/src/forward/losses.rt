@@ -11,8 +11,11 @@ use std::test::Fail;
 /// of r5 from l3 to l6; and two ways, of r6 and r7 from l7 over l8 to l9, and of r8 from l7 to l9.
 /// Each has its flow.
 const NETWORK: Network<'static> = Network {
-    lans: "l0 l1 l2 l3 l4 l5 l6 l7 l8 l9",
-    routers: "l0 l1; l1 l2; l3 l4; l4 l5; l3 l6; l7 l8; l8 l9; l7 l9",
+    lans: "l0; l1; l2; l3; l4; l5; l6; l7; l8; l9",
+    routers: "r1; r2; r3; r4; r5; r6; r7; r8",
+    interfaces: "r1 eth0 l0; r1 eth1 l1; r2 eth0 l1; r2 eth1 l2; r3 eth0 l3; r3 eth1 l4; \
+                 r4 eth0 l4; r4 eth1 l5; r5 eth0 l3; r5 eth1 l6; r6 eth0 l7; r6 eth1 l8; \
+                 r7 eth0 l8; r7 eth1 l9; r8 eth0 l7; r8 eth1 l9",
     sources: "10.0.0.5 l0; 10.0.0.6 l3; 10.0.0.7 l7",
     flows: "10.0.0.5 239.1.2.3 3; 10.0.0.6 239.1.2.3 3; 10.0.0.7 239.1.2.3 3",
 };

@@ -13,7 +13,10 @@ use std::test::Fail;
 
 /// r1 from l0 to l1 and l2, and five routers from l1 to l2.
 const WIDE: Network<'static> = Network {
-    routers: "l0 l1 l2; l1 l2; l1 l2; l1 l2; l1 l2; l1 l2",
+    routers: "r1; r2; r3; r4; r5; r6",
+    interfaces: "r1 eth0 l0; r1 eth1 l1; r1 eth2 l2; r2 eth0 l1; r2 eth1 l2; r3 eth0 l1; \
+                 r3 eth1 l2; r4 eth0 l1; r4 eth1 l2; r5 eth0 l1; r5 eth1 l2; r6 eth0 l1; \
+                 r6 eth1 l2",
     flows: "10.0.0.5 239.1.2.3 5",
     ..CHAIN
 };

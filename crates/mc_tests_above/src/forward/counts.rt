@@ -26,7 +26,9 @@ fn refusal_of_parts(
     parts: Parts,
 ) -> Option<(DomainFault, u32, usize, usize)> {
     let answer = Domain::assemble(alloc, topology, parts.0, parts.1);
-    refusal_of(&answer)
+    let refusal = refusal_of(&answer);
+    drop(answer);
+    refusal
 }
 
 #[test]

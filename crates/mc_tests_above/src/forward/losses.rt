@@ -65,7 +65,9 @@ fn ends_after(
     carried: &[(u32, u32)],
 ) -> Result<(), Fail> {
     let mut flight = flight_of(rt, alloc, domain, packet)?;
-    goes(rt, &mut flight, steps, carried)
+    let answer = goes(rt, &mut flight, steps, carried);
+    drop(flight);
+    answer
 }
 
 /// A TTL of 2 is below the need of l5.

@@ -184,5 +184,7 @@ fn is_as_told(rt: &impl Abort, alloc: Global, domain: &Domain) -> Result<(), Fai
 #[test]
 fn domain_and_flight_after_a_refused_growth(rt: HostRuntime) -> Result<(), Fail> {
     let domain = wide(&rt, rt.alloc())?;
-    is_as_told(&rt, rt.alloc(), &domain)
+    let answer = is_as_told(&rt, rt.alloc(), &domain);
+    drop(domain);
+    answer
 }

@@ -72,7 +72,11 @@ pub(crate) fn with_domain<F: FnOnce(&Domain) -> Result<(), Fail> + Drop>(
     requires { F.IsAlwaysCallable told }
 {
     match domain_of(alloc, network, routers, lans) {
-        Ok(domain) => told(&domain),
+        Ok(domain) => {
+            let answer = told(&domain);
+            drop(domain);
+            answer
+        }
         Err(fail) => Err(fail),
     }
 }

@@ -28,7 +28,11 @@ pub(crate) fn on_topology<R, F: FnOnce(&Topology) -> R + Drop>(
     requires { F.IsAlwaysCallable told }
 {
     match Topology::read(alloc, text) {
-        Ok(topology) => Ok(told(&topology)),
+        Ok(topology) => {
+            let answer = told(&topology);
+            drop(topology);
+            Ok(answer)
+        }
         Err(fault) => Err(fault),
     }
 }

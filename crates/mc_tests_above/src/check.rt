@@ -1,7 +1,7 @@
 //! What the checker says of entries that no certificate holds, and of names that no topology has.
 //! The other lists of entries are rows of the command line's tables `check_*`.
 
-use crate::samples::{CHAIN, FORWARDS, Network, VIFS, WANTED, with_domain};
+use crate::samples::{CHAIN, FORWARDS, LAST_WANTS, Network, VIFS, with_domain};
 use mc_cert::Reached;
 use mc_check::{Reason, Verdict, check_flow};
 use mc_forward::Domain;
@@ -19,10 +19,13 @@ const NETWORK: Network<'static> = Network {
 };
 
 /// r1 forwards both flows. r2 forwards the first one alone.
-const FIRST: (&str, &str) = (
-    VIFS,
-    "030201EF 0500000A 0 0 0 0 1:1\n030201EF 0600000A 0 0 0 0 1:1\n",
-);
+const ROUTERS: &[(&str, &str)] = &[
+    (
+        VIFS,
+        "030201EF 0500000A 0 0 0 0 1:1\n030201EF 0600000A 0 0 0 0 1:1\n",
+    ),
+    FORWARDS,
+];
 
 /// The entry of the source's LAN, with this need.
 fn of_source(need: u8) -> Reached {
@@ -133,8 +136,7 @@ fn shows_reasons(rt: &impl Abort, alloc: Global, topology: &Topology) -> Result<
 #[test]
 fn entries_that_no_certificate_holds(rt: HostRuntime) -> Result<(), Fail> {
     let alloc = rt.alloc();
-    let lans = ["", "", WANTED];
-    with_domain(alloc, &NETWORK, &[FIRST, FORWARDS], &lans, |domain| {
+    with_domain(alloc, &NETWORK, ROUTERS, LAST_WANTS, |domain| {
         judges_entries(&rt, alloc, domain)
     })
 }
@@ -142,8 +144,7 @@ fn entries_that_no_certificate_holds(rt: HostRuntime) -> Result<(), Fail> {
 #[test]
 fn names_that_the_topology_has_not(rt: HostRuntime) -> Result<(), Fail> {
     let alloc = rt.alloc();
-    let lans = ["", "", WANTED];
-    with_domain(alloc, &NETWORK, &[FIRST, FORWARDS], &lans, |domain| {
+    with_domain(alloc, &NETWORK, ROUTERS, LAST_WANTS, |domain| {
         shows_reasons(&rt, alloc, domain.topology())
     })
 }

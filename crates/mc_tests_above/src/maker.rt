@@ -1,7 +1,7 @@
 //! The entries that `make` answers for flows of a small network. What is found of flows that can
 //! have none, the command line's cases and tables show.
 
-use crate::samples::{CHAIN, Network, VIFS, WANTED, with_domain};
+use crate::samples::{CHAIN, LAST_WANTS, Network, VIFS, with_domain};
 use mc_cert::Reached;
 use mc_forward::Domain;
 use mc_maker::make;
@@ -31,7 +31,7 @@ const NETWORK: Network<'static> = Network {
 };
 
 /// What the routers hold.
-const ROUTERS: [(&str, &str); 3] = [
+const ROUTERS: &[(&str, &str)] = &[
     (
         VIFS,
         "030201EF 0500000A 0 0 0 0 1:1
@@ -120,7 +120,7 @@ fn makes_each(rt: &impl Abort, alloc: Global, domain: &Domain) -> Result<(), Fai
 #[test]
 fn entries_of_each_flow(rt: HostRuntime) -> Result<(), Fail> {
     let alloc = rt.alloc();
-    with_domain(alloc, &NETWORK, &ROUTERS, &["", "", WANTED], |domain| {
+    with_domain(alloc, &NETWORK, ROUTERS, LAST_WANTS, |domain| {
         makes_each(&rt, alloc, domain)
     })
 }

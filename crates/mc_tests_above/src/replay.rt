@@ -1,6 +1,6 @@
 //! Travels by pickers that no command has. The others are cases and rows of the command line's.
 
-use crate::samples::{CHAIN, FORWARDS, Network, WANTED, with_domain};
+use crate::samples::{CHAIN, FORWARDS, LAST_WANTS, Network, with_domain};
 use mc_forward::Domain;
 use mc_replay::{First, Numbers, Picker, Travel, replay, shown_event};
 use mc_topology::Topology;
@@ -76,11 +76,12 @@ const BESIDE: Network<'static> = Network {
 };
 
 /// Each router forwards the first flow.
+const ROUTERS: &[(&str, &str)] = &[FORWARDS, FORWARDS, FORWARDS];
+
 #[test]
 fn numbers_pick_and_a_picker_is_lent(rt: HostRuntime) -> Result<(), Fail> {
     let alloc = rt.alloc();
-    let routers = [FORWARDS, FORWARDS, FORWARDS];
-    with_domain(alloc, &BESIDE, &routers, &["", "", WANTED], |domain| {
+    with_domain(alloc, &BESIDE, ROUTERS, LAST_WANTS, |domain| {
         picks(&rt, alloc, domain)
     })
 }

@@ -8,4 +8,4 @@ mod texts;
 
 pub(crate) use domain::{Parts, assembled, parts_of, topology_of, with_domain};
 pub(crate) use network::{CHAIN, Network};
-pub(crate) use texts::{FORWARDS, VIFS, WANTED};
+pub(crate) use texts::{FORWARDS, LAST_WANTS, VIFS, WANTED};

@@ -1,6 +1,6 @@
 //! Parts of which no domain is assembled, since their numbers differ.
 
-use crate::samples::{CHAIN, FORWARDS, Parts, WANTED, parts_of, topology_of};
+use crate::samples::{CHAIN, FORWARDS, LAST_WANTS, Parts, parts_of, topology_of};
 use mc_forward::{Domain, DomainFault, Refused};
 use mc_topology::Topology;
 use std::alloc::Global;
@@ -34,7 +34,7 @@ fn refusal_of_parts(
 #[test]
 fn one_router_too_few(rt: HostRuntime) -> Result<(), Fail> {
     let alloc = rt.alloc();
-    let parts = parts_of(alloc, &[FORWARDS], &["", "", WANTED])?;
+    let parts = parts_of(alloc, &[FORWARDS], LAST_WANTS)?;
     let topology = topology_of(alloc, &CHAIN)?;
     let refusal = refusal_of_parts(alloc, topology, parts);
     assert!(rt; refusal == Some((DomainFault::Count, 2, 1, 3)));

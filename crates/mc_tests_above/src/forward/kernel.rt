@@ -30,6 +30,8 @@ const REGISTER_CACHE: &str = "Group    Origin   Iif     Pkts    Bytes    Wrong O
 030201EF 0600000A 2          0        0        0  1:1  
 ";
 
+const REGISTER_TABLES: &[(&str, &str)] = &[(REGISTER_VIFS, REGISTER_CACHE)];
+
 /// A router from l0 to l1 and l2, with five flows. As a Linux kernel printed its vifs and its
 /// cache.
 const FILTERS: Network<'static> = Network {
@@ -55,6 +57,8 @@ const FILTERS_CACHE: &str = "Group    Origin   Iif     Pkts    Bytes    Wrong Oi
 010101E8 0600000A 0          0        0        0  1:1    2:1  
 ";
 
+const FILTERS_TABLES: &[(&str, &str)] = &[(FILTERS_VIFS, FILTERS_CACHE)];
+
 /// What was captured on l0, l1 and l2 after a General Query.
 const FILTERS_L0: &str = "1101ecfe0000000002000000\n";
 
@@ -68,6 +72,8 @@ const FILTERS_L2: &str = "1101ecfe0000000002000000
 2200e1e00000000202000001e80101010a00000502000002ef0102030a0000060a000007
 2200e0f20000000102000001ef0102030a000006
 ";
+
+const FILTERS_LANS: &[&str] = &[FILTERS_L0, FILTERS_L1, FILTERS_L2];
 
 /// The LAN of a vif of the first router.
 fn placed(rt: &impl Abort, domain: &Domain, vif: u8) -> Option<LanNo> {
@@ -86,8 +92,8 @@ fn has_two_placed(rt: &impl Abort, domain: &Domain) {
 
 #[test]
 fn register_vif_lies_on_no_lan(rt: HostRuntime) -> Result<(), Fail> {
-    let tables = (REGISTER_VIFS, REGISTER_CACHE);
-    with_domain(rt.alloc(), &REGISTER, &[tables], &["", WANTED], |domain| {
+    let lans = &["", WANTED];
+    with_domain(rt.alloc(), &REGISTER, REGISTER_TABLES, lans, |domain| {
         has_two_placed(&rt, domain);
         Ok(())
     })
@@ -111,9 +117,8 @@ fn has_and_wants(rt: &impl Abort, domain: &Domain, lan: u32, vif: u8, words: &st
 
 #[test]
 fn reports_of_three_hosts(rt: HostRuntime) -> Result<(), Fail> {
-    let tables = (FILTERS_VIFS, FILTERS_CACHE);
-    let lans = [FILTERS_L0, FILTERS_L1, FILTERS_L2];
-    with_domain(rt.alloc(), &FILTERS, &[tables], &lans, |domain| {
+    let (tables, lans) = (FILTERS_TABLES, FILTERS_LANS);
+    with_domain(rt.alloc(), &FILTERS, tables, lans, |domain| {
         has_and_wants(&rt, domain, 0, 0, "no - - - no");
         has_and_wants(&rt, domain, 1, 1, "yes yes no yes no");
         has_and_wants(&rt, domain, 2, 2, "yes no yes no yes");

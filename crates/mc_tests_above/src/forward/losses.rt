@@ -20,14 +20,17 @@ const NETWORK: Network<'static> = Network {
     flows: "10.0.0.5 239.1.2.3 3; 10.0.0.6 239.1.2.3 3; 10.0.0.7 239.1.2.3 3",
 };
 
-/// A router that forwards all three flows from vif 0 to vif 1.
-const ROUTER: (&str, &str) = (
+/// Each router forwards all three flows from vif 0 to vif 1.
+const ROUTERS: &[(&str, &str)] = &[(
     VIFS,
     "030201EF 0500000A 0 0 0 0 1:1
 030201EF 0600000A 0 0 0 0 1:1
 030201EF 0700000A 0 0 0 0 1:1
 ",
-);
+); 8];
+
+/// The last LANs of each way want them.
+const LANS: &[&str] = &["", "", WANTED, "", "", WANTED, WANTED, "", "", WANTED];
 
 /// The waiting copies with these indexes are handled, one after the other.
 fn handles(rt: &impl Abort, flight: &mut Flight<'_>, indexes: &[usize]) -> Result<(), Fail> {
@@ -102,8 +105,7 @@ fn flights_end(rt: &impl Abort, alloc: Global, domain: &Domain) -> Result<(), Fa
 #[test]
 fn orders_and_losses(rt: HostRuntime) -> Result<(), Fail> {
     let alloc = rt.alloc();
-    let lans = ["", "", WANTED, "", "", WANTED, WANTED, "", "", WANTED];
-    with_domain(alloc, &NETWORK, &[ROUTER; 8], &lans, |domain| {
+    with_domain(alloc, &NETWORK, ROUTERS, LANS, |domain| {
         flights_end(&rt, alloc, domain)
     })
 }

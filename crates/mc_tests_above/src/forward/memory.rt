@@ -41,6 +41,8 @@ const OTHER: (&str, &str) = (
 ",
 );
 
+const ROUTERS: &[(&str, &str)] = &[FIRST, OTHER, OTHER, OTHER, OTHER, OTHER];
+
 /// The domain of the parts that a refusal handed back.
 fn assembled_again(rt: &impl Abort, alloc: Global, refused: Refused) -> Result<Domain, Fail> {
     assert_eq!(rt; refused.fault, DomainFault::Memory);
@@ -73,8 +75,7 @@ fn assembled_over(
 
 /// The wide domain, of which l1 wants the flow.
 fn wide(rt: &impl Abort, alloc: Global) -> Result<Domain, Fail> {
-    let routers = [FIRST, OTHER, OTHER, OTHER, OTHER, OTHER];
-    let parts = parts_of(alloc, &routers, &["", WANTED, ""])?;
+    let parts = parts_of(alloc, ROUTERS, &["", WANTED, ""])?;
     assembled_over(rt, alloc, &WIDE, parts)
 }
 

@@ -19,3 +19,6 @@ pub(crate) const FORWARDS: (&str, &str) = (VIFS, CACHE);
 
 /// A report that wants all sources of 239.1.2.3.
 pub(crate) const WANTED: &str = "2200eaf90000000102000000ef010203\n";
+
+/// The reports of three LANs, of which the last one wants these sources.
+pub(crate) const LAST_WANTS: &[&str] = &["", "", WANTED];

@@ -11,7 +11,7 @@ use Rattle.mc_topology.specs.Topology.{TopologyValue, lan_name, router_name}
 use Rattle.mc_topology.proofs.NameLemmas.{name_of_lan, name_of_router}
 use Rattle.mc_cert.specs.Certificate.{Tree}
 use Rattle.mc_cert.specs.CertificateText.{listed, flow_text, flow_texts}
-use Rattle.mc_cert.specs.CertificateText.{tree_text, text_of}
+use Rattle.mc_cert.specs.CertificateText.{tree_text, text_of, entry_text}
 
 -- ---- numbers
 
@@ -56,10 +56,27 @@ pub flow_pieces : (f : Flow) (place : ℕ) (s a b c d e g h : List ℕ)
 flow_pieces f place s a b c d e g h p1 p2 p3 p4 p5 p6 p7 =
     rw (p1, p2, p3, p4, p5, p6, p7) (simp append_assoc)
 
+-- the pieces of a need and a rank
+pub number_pieces : (need rank : ℕ) (s a b c d : List ℕ) → s ≡ codes "\",\"need\":" ++ a
+    → a ≡ decimal need ++ b → b ≡ codes ",\"rank\":" ++ c → c ≡ decimal rank ++ d
+    → s ≡ (codes "\",\"need\":" ++ decimal need ++ codes ",\"rank\":" ++ decimal rank) ++ d
+number_pieces need rank s a b c d p1 p2 p3 p4 = rw (p1, p2, p3, p4) (simp append_assoc)
+
 -- five pieces, each behind the one before
 five : (s x1 x2 x3 x4 x5 a b c d e : List ℕ) → s ≡ x1 ++ a → a ≡ x2 ++ b → b ≡ x3 ++ c
     → c ≡ x4 ++ d → d ≡ x5 ++ e → s ≡ (x1 ++ x2 ++ x3 ++ x4 ++ x5) ++ e
 five s x1 x2 x3 x4 x5 a b c d e p1 p2 p3 p4 p5 = rw (p1, p2, p3, p4, p5) (simp append_assoc)
+
+-- three pieces
+three : (s x1 x2 x3 a b c : List ℕ) → s ≡ x1 ++ a → a ≡ x2 ++ b → b ≡ x3 ++ c
+    → s ≡ (x1 ++ x2 ++ x3) ++ c
+three s x1 x2 x3 a b c p1 p2 p3 = rw (p1, p2, p3) (simp append_assoc)
+
+-- the pieces of a list of entries
+pub tree_pieces : (t : TopologyValue) (es : Tree) (s a b c : List ℕ) → s ≡ codes "[" ++ a
+    → a ≡ listed (map (entry_text t) es) ++ b → b ≡ codes "]" ++ c → s ≡ tree_text t es ++ c
+tree_pieces t es s a b c p1 p2 p3 =
+    three s (codes "[") (listed (map (entry_text t) es)) (codes "]") a b c p1 p2 p3
 
 -- the pieces of the whole text
 pub text_pieces : (t : TopologyValue) (places : List ℕ) (trees : List Tree) (s a b c d e : List ℕ)

@@ -13,20 +13,13 @@ ghost use Rattle.mc_cert.specs.Object.{number_at, list_at, within, whole_at, at_
 use crate::fault::CertFaultKind;
 use serde_json::{Map, Number, Value};
 
-/// Whether the key is one of these.
-fn is_known(known: &[&str], key: &str) -> bool
-    ensures { result ≡ list_any (λ k. bytes_eq k.now key.now) known.now }
-{
-    known.iter().any(|k| *k == key)
-}
-
 /// Whether each key of the object is one of these.
 fn each_key_is_known(object: &Map<String, Value>, known: &[&str]) -> bool
     ensures { result ≡
         list_all (λ key. list_any (λ k. bytes_eq k.now (string_bytes key)) known.now)
         (keys object.now) }
 {
-    object.keys().all(|key| is_known(known, key.as_str()))
+    object.keys().all(|key| known.contains(&key.as_str()))
 }
 
 /// Whether the object has no other key than these.

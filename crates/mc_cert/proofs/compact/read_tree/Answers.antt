@@ -1,6 +1,7 @@
 use Rattle.std.proofs.Common.{◌≡◌, ◌++◌, ◌∷◌, [], arith, rules, map}
 use Rattle.mc_cert.specs.CertificateText.{listed, entry_text}
 use Rattle.mc_cert.specs.Writable.{IsWritableFor}
+use Rattle.mc_cert.proofs.PieceLemmas.{tree_pieces}
 use Rattle.mc_cert.proofs.SeparatorLemmas.{items_read, comma_next, all_next}
 use Rattle.mc_cert.proofs.compact.read_tree.Goals as goal
 
@@ -22,3 +23,9 @@ loop-number-preserved c =
           c.loop-number.invariant.writable c.in-Some-read_entry.ensures.writable;
       few = omega (arith, c.in_ok-push.ensures.len);
     }
+
+pub returns-clause-text : goal.returns-clause-text
+returns-clause-text c =
+    tree_pieces c.args.topology.now c.loop-number.entries.items c.args.text.now c.in-Some.rest.now
+    c.loop-number.rest.now c.in-Some-behind-2.rest.now c.in-Some.ensures
+    c.loop-number.invariant.read c.in-Some-behind-2.ensures

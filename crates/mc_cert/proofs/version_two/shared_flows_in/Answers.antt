@@ -16,3 +16,6 @@ from_trees-requires-clause-named c =
     (numbers_named c.args.topology.now c.len.result (map view c.in_ok-rows.rows.now)
     c.in_ok-numbers.numbers.items
     (c.in_ok-numbers.ensures.rows ∙ ap Ok (map-id c.in_ok-numbers.numbers.items)))
+
+pub from_trees-requires-clause-few : goal.from_trees-requires-clause-few
+from_trees-requires-clause-few c = grind arith

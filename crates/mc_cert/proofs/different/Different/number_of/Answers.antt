@@ -1,5 +1,8 @@
-use Rattle.std.proofs.Common.{◌++◌, ◌∷◌, [], ◌∙◌, map, sym, ap, ap₂, arith}
+use Rattle.std.proofs.Common.{◌++◌, ◌∷◌, [], ◌∙◌, List, map, sym, ap, ap₂, arith}
 use Rattle.mc_cert.specs.Distinct.{place_in}
+use Rattle.mc_cert.specs.Certificate.{Tree}
+use Rattle.mc_cert.proofs.DistinctLemmas.{with_known, with_new}
+use Rattle.mc_cert.proofs.SeparatorLemmas.{map_next}
 use Rattle.mc_cert.proofs.TreeLemmas.{put}
 use Rattle.mc_cert.proofs.different.Different.number_of.Goals as goal
 
@@ -8,6 +11,11 @@ returns-in-Some-clause-number c =
     ap₂ place_in (sym c.self.view_is) (ap (λ t. t.items) (sym c.in_ok-tree.ensures.ok))
     ∙ sym (c.self.invariant c.in_ok-tree.tree) ∙ sym c.get.ensures.value ∙ sym c.copied.ensures
     ∙ c.in-Some.is
+
+pub returns-in-Some-clause-trees : goal.returns-in-Some-clause-trees
+returns-in-Some-clause-trees c =
+    sym (with_known c.args.self.now c.args.tree.items c.in-Some.number
+    (returns-in-Some-clause-number c))
 
 pub invariant_of-self-2 : goal.invariant_of-self-2
 invariant_of-self-2 c =
@@ -30,3 +38,15 @@ returns-clause-number c =
     ∙ ap (λ ts. ts ++ c.in_ok-tree.tree ∷ []) c.in_ok-reserve.ensures.items)
     (ap (λ t. t.items) c.in_ok-key.ensures.cases) (omega (arith, c.len-number.ensures))
     c.in_ok-insert.ensures.updates).1
+
+pub returns-clause-trees : goal.returns-clause-trees
+returns-clause-trees c =
+    map_next (λ t. t.value.items) c.self.inside.trees.items c.push.new.self.items c.in_ok-tree.tree
+    (c.in_ok-push.ensures.items
+    ∙ ap (λ ts. ts ++ c.in_ok-tree.tree ∷ []) c.in_ok-reserve.ensures.items)
+    ∙ ap₂ (λ (ts : List Tree) (es : Tree). ts ++ es ∷ []) c.self.view_is
+    (ap (λ t. t.items) c.in_ok-tree.ensures.ok)
+    ∙ sym (with_new c.args.self.now c.args.tree.items
+    (ap₂ place_in (sym c.self.view_is) (ap (λ t. t.items) (sym c.in_ok-tree.ensures.ok))
+    ∙ sym (c.self.invariant c.in_ok-tree.tree) ∙ sym c.get.ensures.value ∙ sym c.copied.ensures
+    ∙ c.in_default.is))

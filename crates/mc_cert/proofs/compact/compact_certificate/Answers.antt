@@ -7,6 +7,11 @@ use Rattle.mc_cert.proofs.PieceLemmas.{text_pieces}
 use Rattle.mc_cert.proofs.TreesStand.{end_of, trees_stand}
 use Rattle.mc_cert.proofs.compact.compact_certificate.Goals as goal
 
+pub from_trees-requires-clause-lists : goal.from_trees-requires-clause-lists
+from_trees-requires-clause-lists c = λ k d below.
+    let is = c.in-Ok-read_trees.ensures.writable k d below in
+    record { few = is.few; each = λ i e within. (is.each i e within).writable }
+
 pub returns : goal.returns
 returns c =
     let places = c.in-Ok.places.items in

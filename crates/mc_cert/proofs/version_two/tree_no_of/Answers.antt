@@ -1,0 +1,14 @@
+use Rattle.std.proofs.Common.{refl}
+use Rattle.mc_cert.specs.VersionTwo.{tree_no_of}
+use Rattle.mc_cert.proofs.version_two.tree_no_of.Goals as goal
+
+pub returns : goal.returns
+unfolding tree_no_of
+returns c = rw (
+  c.in_ok-object.ensures,
+  c.in_ok-group.ensures,
+  c.in_ok-source.ensures,
+  c.in_ok-number.ensures,
+  c.in_ok-tree.ensures,
+  ← c.if-not-is_flow.ensures,
+) refl

@@ -249,7 +249,8 @@ run_case() {
 }
 
 # Puts the commands that the tools are to find in front of the others: the awk that these words run,
-# the shell, and for busybox its own commands.
+# the shell, for busybox its own commands, and the python3 of the path itself, where what the path has
+# is a script that looks for it each time.
 choose_commands() {
     commands=$1
     mkdir "$commands.below"
@@ -260,13 +261,14 @@ choose_commands() {
     case $shell in
         *python*)
             ln -s "$dash" "$commands.below/sh"
-            ln -s "$shell" "$commands.below/python3" ;;
+            python=$shell ;;
         *busybox*)
             for applet in $applets; do
                 ln -s "${shell%% *}" "$commands.below/$applet"
             done ;;
         *) ln -s "$shell" "$commands.below/sh" ;;
     esac
+    [ -z "$python" ] || ln -s "$python" "$commands.below/python3"
     PATH=$commands:$commands.below:$PATH
 }
 
@@ -385,6 +387,7 @@ run_apart() {
 }
 
 begun=
+python=$(python3 -c 'import sys; print(sys.executable)')
 awk=$(command -v awk)
 dash=$(command -v dash || command -v sh)
 begin "$dash" "$awk"

@@ -88,7 +88,6 @@ judge_output() {
 
 # Compares the folder $2, and the times in its list of times, with the folder $1.
 same_folder() {
-    rm -rf "$place.copy"
     cp -RL "$2/." "$place.copy" || return 1
     for file in collected.json topology; do
         [ ! -f "$2/$file" ] || without_times "$2/$file" > "$place.copy/$file"
@@ -164,7 +163,6 @@ is_alive() {
 
 # Makes the folder in which the case's tool runs. Its status is 2 where a disk can't be mounted.
 prepare() {
-    rm -rf "$place"
     mkdir "$place" "$place/disk" && cd "$place" || return 1
     if [ -f "$1/disk.size" ]; then
         mount -t tmpfs -o "size=$(cat "$1/disk.size")" tmpfs disk 2> /dev/null || return 2
@@ -202,6 +200,9 @@ run_tool() {
     else
         exec > "$output"
     fi
+    for heeded in awk.* mv.* sleep.* sync.*; do
+        [ ! -e "$heeded" ] || PATH=$commands:${PATH#*:}
+    done
     ROUTER=routers/here
     export ROUTER
     expect "$folder/stdin"
@@ -250,14 +251,17 @@ run_case() {
 
 # Puts the commands that the tools are to find in front of the others: the awk that these words run,
 # the shell, for busybox its own commands, and the python3 of the path itself, where what the path has
-# is a script that looks for it each time.
+# is a script that looks for it each time. The awk, mv, sleep and sync of commands/ run the command itself
+# where a case has no file that they heed, so they come first only where it has one.
 choose_commands() {
     commands=$1
     mkdir "$commands.below"
     cp -R "$here/commands" "$commands"
+    cp -R "$here/commands" "$commands.heedless"
     shift
     AWK=$*
     export AWK
+    (cd "$commands.heedless" && rm awk mv sleep sync && ln -s "${AWK%% *}" awk)
     case $shell in
         *python*)
             ln -s "$dash" "$commands.below/sh"
@@ -269,7 +273,7 @@ choose_commands() {
         *) ln -s "$shell" "$commands.below/sh" ;;
     esac
     [ -z "$python" ] || ln -s "$python" "$commands.below/python3"
-    PATH=$commands:$commands.below:$PATH
+    PATH=$commands.heedless:$commands.below:$PATH
 }
 
 # Runs all cases of the kinds $2 by the shell with the awk of the further words; with parts, only those
@@ -279,7 +283,6 @@ run_by() {
     kinds=$2
     work=$3
     shift 3
-    place=$work.place
     choose_commands "$work.commands" "$@"
     number=0
     for folder in "$here"/*/*/; do
@@ -296,6 +299,7 @@ run_by() {
         esac
         number=$((number + 1))
         [ -z "$part" ] || [ $((number % parts)) -eq "$part" ] || continue
+        place=$work.place$number
         (run_case "$folder" "$kind") > "$work.difference" 2>&1
         case $? in
             0) echo passed ;;

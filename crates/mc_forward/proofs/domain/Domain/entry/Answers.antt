@@ -1,5 +1,4 @@
 use Rattle.std.proofs.Common.{ℕ, ◌<◌, length, get_or, sym, ap, subst, arith, ◌∙◌}
-use Rattle.std.specs.Prelude.{slice_get}
 use Rattle.mc_theory.specs.Nets.Row.{Open as open_row, NoRow as no_row}
 use Rattle.mc_forward.specs.declared.row.RowNo.TheVariants.{Open, NoRow}
 use Rattle.mc_forward.specs.Domains.{TablesValue, DomainValue, IsDomain}

@@ -16,7 +16,7 @@ use Rattle.mc_theory.specs.Certificates.{Entry}
 use Rattle.mc_topology.specs.declared.flow.Flow.{Flow}
 use Rattle.mc_topology.specs.Names.{index_of}
 use Rattle.mc_topology.specs.Rows.{RouterRow}
-use Rattle.mc_topology.specs.Routers.{router_no_of}
+use Rattle.mc_topology.specs.Lookup.{router_no_of}
 use Rattle.mc_topology.specs.Topology.{TopologyValue}
 use Rattle.mc_topology.proofs.Steps.{bind_ok, test_ok, ok_or_ok, ok_is}
 use Rattle.mc_cert.specs.declared.fault.At.{At}

@@ -6,7 +6,7 @@ use Rattle.std.proofs.lemmas.Fmt.{decimal_digit, decimal_step}
 use Rattle.mc_text.specs.Addr.{dotted}
 use Rattle.mc_topology.specs.declared.flow.Flow.{Flow}
 use Rattle.mc_topology.specs.Names.{index_of}
-use Rattle.mc_topology.specs.Routers.{router_no_of}
+use Rattle.mc_topology.specs.Lookup.{router_no_of}
 use Rattle.mc_topology.specs.Topology.{TopologyValue, lan_name, router_name}
 use Rattle.mc_topology.proofs.NameLemmas.{name_of_lan, name_of_router}
 use Rattle.mc_cert.specs.Certificate.{Tree}

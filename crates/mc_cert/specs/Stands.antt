@@ -10,7 +10,7 @@ use Rattle.mc_theory.specs.Certificates.{Entry}
 use Rattle.mc_topology.specs.declared.flow.Flow.{Flow}
 use Rattle.mc_topology.specs.Names.{index_of}
 use Rattle.mc_topology.specs.Rows.{RouterRow}
-use Rattle.mc_topology.specs.Routers.{router_no_of}
+use Rattle.mc_topology.specs.Lookup.{router_no_of}
 use Rattle.mc_topology.specs.Topology.{TopologyValue}
 use Rattle.mc_cert.specs.declared.version.Version.{Version}
 use Rattle.mc_cert.specs.declared.version.Version.TheVariants.{One, Two}

@@ -7,8 +7,8 @@ use Rattle.std.proofs.lemmas.Option.{slice_get_within, get_or_from_slice_get}
 use Rattle.indexmap.specs.IndexMap.{IndexMap, insert_entry}
 use Rattle.mc_topology.specs.contracts.interfaces.InterfaceKeyPartialEq.TheImpl as key_tests
 use Rattle.mc_topology.specs.declared.interfaces.InterfaceKey.{InterfaceKey}
-use Rattle.mc_topology.specs.Interfaces.{is_at, has_interface, lan_of_interface}
-use Rattle.mc_topology.specs.Interfaces.{interface_row, HaveShortDevices}
+use Rattle.mc_topology.specs.Lookup.{is_at, has_interface, lan_of_interface}
+use Rattle.mc_topology.specs.Lookup.{interface_row, HaveShortDevices}
 use Rattle.mc_topology.specs.Rows.{InterfaceRow}
 use Rattle.mc_topology.proofs.InterfaceLemmas.{row_found, row_of}
 use Rattle.mc_topology.proofs.Keyed.{same_text, same_number, push_entry}

@@ -4,7 +4,7 @@ use Rattle.std.proofs.Common.{List, [], ◌∷◌, length, Option, Some, None, r
 use Rattle.std.proofs.Common.{ap, subst, ◌∙◌, arith}
 use Rattle.std.specs.Prelude.{slice_get, IfSome}
 use Rattle.mc_topology.specs.Rows.{InterfaceRow}
-use Rattle.mc_topology.specs.Interfaces.{is_at}
+use Rattle.mc_topology.specs.Lookup.{is_at}
 use Rattle.mc_topology.specs.Topology.{TopologyValue, AreDistinctBy, IsIn}
 use Rattle.mc_topology.specs.Topology.{IsTopology, interface_key, lan_of_interface}
 use Rattle.mc_topology.proofs.Keys.{is_at-Decides}

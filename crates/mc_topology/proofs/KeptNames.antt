@@ -7,7 +7,7 @@ use Rattle.mc_text.specs.declared.text.addr.Order.{Order}
 use Rattle.indexmap.specs.IndexMap.{IndexMap, insert_entry}
 use Rattle.indexmap.specs.IndexSet.{insert_key}
 use Rattle.mc_topology.specs.Lans.{has_lan}
-use Rattle.mc_topology.specs.Routers.{has_router}
+use Rattle.mc_topology.specs.Lookup.{has_router}
 use Rattle.mc_topology.specs.Rows.{RouterRow, SourceRow, router_row, source_row}
 use Rattle.mc_topology.specs.Sources.{has_source}
 use Rattle.mc_topology.proofs.Keyed.{same_text, same_number, push_key, push_entry}

@@ -8,7 +8,7 @@ use Rattle.std.proofs.lemmas.Bool.{and_parts}
 use Rattle.std.proofs.lemmas.Slice.Eq.{bytes_eq-Decides}
 use Rattle.mc_topology.specs.declared.flow.Flow.{Flow}
 use Rattle.mc_topology.specs.Rows.{RouterRow, InterfaceRow, SourceRow}
-use Rattle.mc_topology.specs.Interfaces.{is_at}
+use Rattle.mc_topology.specs.Lookup.{is_at}
 use Rattle.mc_topology.specs.Topology.{lan_key, router_key, interface_key, source_key, flow_key}
 
 -- two LANs have one name

@@ -13,7 +13,7 @@ use Rattle.std.proofs.lemmas.Slice.Eq.{bytes_eq-Decides}
 use Rattle.mc_topology.specs.Rows.{RouterRow}
 use Rattle.mc_text.specs.DeviceName.{is_device_name}
 use Rattle.mc_topology.specs.Names.{is_device, index_of}
-use Rattle.mc_topology.specs.Routers.{router_no_of}
+use Rattle.mc_topology.specs.Lookup.{router_no_of}
 use Rattle.mc_topology.specs.Topology.{AreDistinctBy, lan_key, router_key}
 
 module _ {X : Type 0} where

@@ -29,8 +29,9 @@ use Rattle.mc_topology.specs.Answer.{place, each}
 use Rattle.mc_topology.specs.Document.{known_table, text_of, text_at, number_at, optional_text_at}
 use Rattle.mc_topology.specs.Names.{is_name, is_device, index_of}
 use Rattle.mc_topology.specs.Lans.{has_lan, lan_of}
-use Rattle.mc_topology.specs.Routers.{router_keys, router_of, order_of, has_router, router_no_of}
-use Rattle.mc_topology.specs.Interfaces.{interface_keys, interface_of, interface_with, has_interface}
+use Rattle.mc_topology.specs.Routers.{router_keys, router_of, order_of}
+use Rattle.mc_topology.specs.Lookup.{has_router, router_no_of, has_interface}
+use Rattle.mc_topology.specs.Interfaces.{interface_keys, interface_of, interface_with}
 use Rattle.mc_topology.specs.Sources.{source_keys, source_of, source_with, has_source, lan_of_source}
 use Rattle.mc_topology.specs.Flows.{flow_keys, flow_of, flow_with, ttl_of, has_flow}
 use Rattle.mc_topology.specs.Stands.{EachStands, IsLan, IsRouter, IsInterface, IsSourceRow, IsFlow}

@@ -5,7 +5,7 @@ use Rattle.std.specs.Prelude.{String, string_bytes, slice_get}
 use Rattle.std.specs.Map.{keys_of, values_of}
 use Rattle.mc_text.specs.declared.text.addr.Order.{Order}
 use Rattle.mc_topology.specs.declared.interfaces.InterfaceKey.{InterfaceKey}
-use Rattle.mc_topology.specs.Interfaces.{interface_row}
+use Rattle.mc_topology.specs.Lookup.{interface_row}
 use Rattle.mc_topology.specs.Rows.{RouterRow, router_row}
 
 -- the name of a router is its key's text

@@ -1,8 +1,6 @@
 -- The interfaces.
-use Rattle.std.specs.Prelude.{ℕ, ◌==◌, ◌&&◌, not, List, [], ◌∷◌, codes, find, Bool, Option}
-use Rattle.std.specs.Prelude.{option_map, Result, Ok, Err, ok_or, if◌then◌else◌}
-use Rattle.std.specs.List.{list_any}
-use Rattle.std.specs.Str.{bytes_eq}
+use Rattle.std.specs.Prelude.{ℕ, not, List, [], ◌∷◌, codes}
+use Rattle.std.specs.Prelude.{Result, Ok, Err, ok_or, if◌then◌else◌}
 use Rattle.toml.specs.Data.{Data, Members}
 use Rattle.mc_topology.specs.Rows.{RouterRow, InterfaceRow}
 use Rattle.mc_topology.specs.declared.fault.Section.TheVariants as section
@@ -13,28 +11,11 @@ use Rattle.mc_topology.specs.declared.fault.TopologyFault.{TopologyFault}
 use Rattle.mc_topology.specs.Answer.{◌>>=◌, place, each}
 use Rattle.mc_topology.specs.Document.{known_table, text_at, rows_at}
 use Rattle.mc_topology.specs.Names.{is_device, index_of}
-use Rattle.mc_topology.specs.Routers.{router_no_of}
-use Rattle.std.specs.Prelude.{ℕ, ◌≤◌, List, length}
-use Rattle.std.specs.List.{All}
-use Rattle.mc_topology.specs.Rows.{InterfaceRow}
-use Rattle.mc_topology.specs.declared.interfaces.InterfaceKey.{InterfaceKey}
+use Rattle.mc_topology.specs.Lookup.{router_no_of, has_interface}
 
 -- the keys of an interface
 abbrev pub interface_keys : List (List ℕ)
 interface_keys = codes "router" ∷ codes "device" ∷ codes "lan" ∷ []
-
--- the interface is that of a router and a device
-abbrev pub is_at : ℕ → List ℕ → InterfaceRow → Bool
-is_at router device i = (i.router == router) && bytes_eq i.device device
-
--- a router has an interface of the device
-abbrev pub has_interface : ℕ → List ℕ → List InterfaceRow → Bool
-has_interface router device interfaces = list_any (is_at router device) interfaces
-
--- the LAN on which the interface of a router and a device lies
-abbrev pub lan_of_interface : ℕ → List ℕ → List InterfaceRow → Option ℕ
-lan_of_interface router device interfaces =
-    option_map (λ i. i.lan) (find (is_at router device) interfaces)
 
 -- The interface of the three values: a router has the first name (UnknownName), a device can have
 -- the second (BadName), a LAN has the third (UnknownName), and no earlier interface has the router
@@ -67,11 +48,3 @@ unfoldable pub interfaces_in : List (List ℕ) → List RouterRow → Members
 interfaces_in lans routers ms = do
   rows ← place section.Interface 0 (rows_at (codes "interface") 8192 ms)
   each section.Interface (interface_of lans routers) [] rows
-
--- the row of a key and a LAN
-abbrev pub interface_row : InterfaceKey × ℕ → InterfaceRow
-interface_row e = record { router = e.0.router; device = e.0.device.items; lan = e.1 }
-
--- no device's name is longer than 15 bytes
-abbrev pub HaveShortDevices : List InterfaceRow → Type 0
-HaveShortDevices interfaces = All (λ i. length i.device ≤ 15) interfaces

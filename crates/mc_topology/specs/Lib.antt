@@ -4,6 +4,7 @@ pub mod Document
 pub mod Flows
 pub mod Interfaces
 pub mod Lans
+pub mod Lookup
 pub mod Names
 pub mod Routers
 pub mod Reading

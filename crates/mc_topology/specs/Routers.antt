@@ -1,7 +1,6 @@
 -- The routers.
-use Rattle.std.specs.Prelude.{ℕ, not, List, [], ◌∷◌, codes, position, Option, Some, None, Bool}
+use Rattle.std.specs.Prelude.{ℕ, not, List, [], ◌∷◌, codes, Option, Some, None}
 use Rattle.std.specs.Prelude.{Result, Ok, Err, if◌then◌else◌}
-use Rattle.std.specs.List.{list_any}
 use Rattle.std.specs.Str.{bytes_eq}
 use Rattle.toml.specs.Data.{Data, Members}
 use Rattle.mc_text.specs.declared.text.addr.Order.{Order}
@@ -14,6 +13,7 @@ use Rattle.mc_topology.specs.declared.fault.TopologyFaultKind.TheVariants.{Repea
 use Rattle.mc_topology.specs.declared.fault.TopologyFault.{TopologyFault}
 use Rattle.mc_topology.specs.Answer.{◌>>=◌, place, each}
 use Rattle.mc_topology.specs.Document.{known_table, text_at, optional_text_at, rows_at}
+use Rattle.mc_topology.specs.Lookup.{has_router}
 use Rattle.mc_topology.specs.Names.{is_name}
 
 -- the keys of a router
@@ -27,14 +27,6 @@ order_of (Some text) =
     if bytes_eq text (codes "little") then Ok Little
     else if bytes_eq text (codes "big") then Ok Big
     else Err BadKind
-
--- a router has the name
-abbrev pub has_router : List ℕ → List RouterRow → Bool
-has_router name routers = list_any (λ r. bytes_eq r.name name) routers
-
--- the number of the router with the name
-abbrev pub router_no_of : List ℕ → List RouterRow → Option ℕ
-router_no_of name routers = position (λ r. bytes_eq r.name name) routers
 
 -- A router. It has to be a table (else BadKind) of no other keys (UnknownKey). Then the keys:
 -- `name` has to be there (MissingKey) and to be a text (BadKind), and so does `order` if it is

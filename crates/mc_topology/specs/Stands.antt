@@ -10,7 +10,8 @@ use Rattle.mc_topology.specs.declared.flow.Flow.{Flow}
 use Rattle.mc_topology.specs.Rows.{RouterRow, InterfaceRow, SourceRow}
 use Rattle.mc_topology.specs.Document.{has_only, rows_in}
 use Rattle.mc_topology.specs.Names.{is_name, is_device, index_of}
-use Rattle.mc_topology.specs.Routers.{router_keys, router_no_of}
+use Rattle.mc_topology.specs.Routers.{router_keys}
+use Rattle.mc_topology.specs.Lookup.{router_no_of}
 use Rattle.mc_topology.specs.Interfaces.{interface_keys}
 use Rattle.mc_topology.specs.Sources.{source_keys, lan_of_source}
 use Rattle.mc_topology.specs.Flows.{flow_keys}

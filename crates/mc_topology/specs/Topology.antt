@@ -4,7 +4,7 @@ use Rattle.std.specs.Prelude.{option_map, unwrap_or}
 use Rattle.std.specs.Coded.{Coded, code_by, coded×, coded_ℕ, coded_list}
 use Rattle.mc_text.specs.Addr.{IsAddr, IsSource, IsForwardedGroup}
 use Rattle.mc_topology.specs.declared.flow.Flow.{Flow}
-pub use Rattle.mc_topology.specs.Interfaces.{lan_of_interface}
+pub use Rattle.mc_topology.specs.Lookup.{lan_of_interface}
 use Rattle.mc_topology.specs.Names.{is_name, is_device}
 use Rattle.mc_topology.specs.Rows.{RouterRow, InterfaceRow, SourceRow, router_code, interface_code}
 

@@ -3,8 +3,7 @@
 ghost use Rattle.std.specs.Prelude.{◌≡◌, ◌++◌, ◌<◌, ◌≤◌, [], ◌∷◌, false, length, slice_get, Some};
 ghost use Rattle.std.specs.Prelude.{IfErr, OnOk, MatchOption};
 ghost use Rattle.mc_topology.specs.Answer.{out_of_memory};
-ghost use Rattle.mc_topology.specs.Interfaces.{has_interface, lan_of_interface};
-ghost use Rattle.mc_topology.specs.Interfaces.{interface_row};
+ghost use Rattle.mc_topology.specs.Lookup.{has_interface, lan_of_interface, interface_row};
 
 use crate::fault::TopologyFault;
 use crate::interface::Interface;
@@ -51,7 +50,7 @@ impl Model for Interfaces {
 
     ghost Value = { List InterfaceRow };
 
-    ghost use Rattle.mc_topology.specs.Interfaces.{interface_row, HaveShortDevices};
+    ghost use Rattle.mc_topology.specs.Lookup.{interface_row, HaveShortDevices};
 
     ghost view = { λ a. map interface_row a.lans.entries };
 

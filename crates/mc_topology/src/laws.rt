@@ -4,7 +4,7 @@ ghost use Rattle.std.specs.Prelude.{◌≡◌, ◌↔◌, ℕ, List, Some, Ok, o
 ghost use Rattle.std.specs.Ordering.{nat_cmp};
 ghost use Rattle.mc_topology.specs.Names.{index_of};
 ghost use Rattle.mc_topology.specs.Reading.{reading_of};
-ghost use Rattle.mc_topology.specs.Routers.{router_no_of};
+ghost use Rattle.mc_topology.specs.Lookup.{router_no_of};
 ghost use Rattle.mc_topology.specs.Stands.{TopologyStands};
 ghost use Rattle.mc_topology.specs.Topology.{TopologyValue, IsIn, IsTopology, lan_of_interface};
 

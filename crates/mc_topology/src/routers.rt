@@ -3,7 +3,7 @@
 ghost use Rattle.std.specs.Prelude.{◌≡◌, ◌++◌, ◌<◌, ◌≤◌, [], ◌∷◌, false, length, slice_get, Some};
 ghost use Rattle.std.specs.Prelude.{option_map, IfErr, IfSome, OnOk};
 ghost use Rattle.mc_topology.specs.Answer.{out_of_memory};
-ghost use Rattle.mc_topology.specs.Routers.{has_router, router_no_of};
+ghost use Rattle.mc_topology.specs.Lookup.{has_router, router_no_of};
 
 use crate::fault::TopologyFault;
 use crate::number::RouterNo;

@@ -2,9 +2,8 @@
 
 ghost use Rattle.std.specs.Prelude.{◌≡◌, ◌<◌, ◌≤◌, length, Some, None, IfSome, IsTrue, option_map};
 ghost use Rattle.std.specs.Prelude.{slice_get};
-ghost use Rattle.mc_topology.specs.Interfaces.{lan_of_interface};
+ghost use Rattle.mc_topology.specs.Lookup.{lan_of_interface, router_no_of};
 ghost use Rattle.mc_topology.specs.Names.{is_name, index_of};
-ghost use Rattle.mc_topology.specs.Routers.{router_no_of};
 ghost use Rattle.mc_topology.specs.Topology.{IsInterfaceAmong, IsFlowAmong, IsTopology};
 ghost use Rattle.mc_topology.specs.Topology.{lan_name, router_name};
 

@@ -4,8 +4,8 @@ ghost use Rattle.std.specs.Prelude.{◌≡◌, ◌≢◌, ◌≤◌, length, fal
 ghost use Rattle.toml.specs.View.{view, table_view};
 ghost use Rattle.mc_topology.specs.declared.fault.Section.TheVariants as section;
 ghost use Rattle.mc_topology.specs.Answer.{Answers, out_of_memory};
-ghost use Rattle.mc_topology.specs.Interfaces.{has_interface, interface_with, interface_of};
-ghost use Rattle.mc_topology.specs.Interfaces.{interfaces_in, interface_row};
+ghost use Rattle.mc_topology.specs.Interfaces.{interface_with, interface_of, interfaces_in};
+ghost use Rattle.mc_topology.specs.Lookup.{has_interface, interface_row};
 
 use crate::fault::{Section, TopologyFault, TopologyFaultKind, place};
 use crate::interfaces::{InterfaceKey, Interfaces, MAX_INTERFACES};

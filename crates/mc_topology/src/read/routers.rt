@@ -4,7 +4,8 @@ ghost use Rattle.std.specs.Prelude.{◌≡◌, ◌≢◌, ◌≤◌, length, fal
 ghost use Rattle.toml.specs.View.{view, table_view};
 ghost use Rattle.mc_topology.specs.declared.fault.Section.TheVariants as section;
 ghost use Rattle.mc_topology.specs.Answer.{out_of_memory};
-ghost use Rattle.mc_topology.specs.Routers.{has_router, order_of, router_of, routers_in};
+ghost use Rattle.mc_topology.specs.Routers.{order_of, router_of, routers_in};
+ghost use Rattle.mc_topology.specs.Lookup.{has_router};
 
 use crate::fault::{Section, TopologyFault, TopologyFaultKind, place};
 use crate::name::is_name;

@@ -1,6 +1,5 @@
 use Rattle.std.proofs.Common.{◌∙◌}
-use Rattle.mc_topology.specs.Interfaces.{is_at}
-use Rattle.mc_topology.specs.Interfaces.{interface_row}
+use Rattle.mc_topology.specs.Lookup.{is_at, interface_row}
 use Rattle.mc_topology.proofs.InterfaceKeys.{interface_agrees}
 use Rattle.mc_topology.proofs.Keyed.{any_of_entries}
 use Rattle.mc_topology.proofs.interfaces.Interfaces.has.Goals as goal

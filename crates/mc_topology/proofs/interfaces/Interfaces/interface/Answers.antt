@@ -1,6 +1,6 @@
 use Rattle.std.proofs.Common.{◌<◌, length, map}
 use Rattle.std.proofs.lemmas.List.{length-map}
-use Rattle.mc_topology.specs.Interfaces.{interface_row}
+use Rattle.mc_topology.specs.Lookup.{interface_row}
 use Rattle.mc_topology.proofs.Places.{interface_at}
 use Rattle.mc_topology.proofs.interfaces.Interfaces.interface.Goals as goal
 

@@ -1,6 +1,5 @@
 use Rattle.std.proofs.Common.{◌∙◌, sym, refl, map}
-use Rattle.mc_topology.specs.Interfaces.{is_at}
-use Rattle.mc_topology.specs.Interfaces.{interface_row}
+use Rattle.mc_topology.specs.Lookup.{is_at, interface_row}
 use Rattle.mc_topology.proofs.InterfaceKeys.{interface_agrees, lan_of_long_device}
 use Rattle.mc_topology.proofs.Keyed.{value_of_row}
 use Rattle.mc_topology.proofs.interfaces.Interfaces.lan_of.Goals as goal

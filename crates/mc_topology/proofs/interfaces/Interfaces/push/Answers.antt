@@ -1,7 +1,6 @@
 use Rattle.std.proofs.Common.{◌≡◌, ◌≤◌, false, map, length, refl, sym, ap, subst, ◌∙◌}
 use Rattle.std.proofs.lemmas.List.Elements.{All-push}
-use Rattle.mc_topology.specs.Interfaces.{has_interface}
-use Rattle.mc_topology.specs.Interfaces.{interface_row, HaveShortDevices}
+use Rattle.mc_topology.specs.Lookup.{has_interface, interface_row, HaveShortDevices}
 use Rattle.mc_topology.specs.Rows.{InterfaceRow}
 use Rattle.mc_topology.proofs.InterfaceKeys.{interface_pushed}
 use Rattle.mc_topology.proofs.interfaces.Interfaces.push.Goals as goal

@@ -6,28 +6,17 @@ ghost use Rattle.mc_forward.specs.Assembling.{AreCounted, IsAssembled};
 ghost use Rattle.mc_forward.specs.Domains.{IsDomain};
 ghost use Rattle.mc_forward.specs.DomainParts.{domain_with, IsWorkedOut};
 
-use crate::domain::Domain;
+use crate::domain::{Domain, WorkedOut};
 use crate::interfaces::interfaces_of_lans;
-use crate::items::Items;
-use crate::places::{Places, places_of_routers};
+use crate::places::places_of_routers;
 use crate::refused::{DomainFault, Refused};
-use crate::row::RowNo;
 use crate::row_numbers::rows_of_routers;
 use crate::tables::Tables;
 use crate::wants::wants_of_lans;
 use mc_igmp::ReportList;
 use mc_text::Memory;
-use mc_topology::{RouterNo, Topology};
+use mc_topology::Topology;
 use std::alloc::Global;
-
-/// What is worked out once of the parts of a domain.
-#[derive(Drop)]
-struct WorkedOut {
-    wants: Vec<Items<bool>>,
-    places: Vec<Places>,
-    interfaces: Vec<Items<(RouterNo, u8)>>,
-    rows: Vec<Items<RowNo>>,
-}
 
 fn work_out(
     alloc: Global,
@@ -88,14 +77,7 @@ impl Domain {
             });
         }
         match work_out(alloc, &topology, &tables, &reports) {
-            Ok(
-                WorkedOut {
-                    wants,
-                    places,
-                    interfaces,
-                    rows,
-                },
-            ) => Ok(Domain::new(topology, tables, wants, places, interfaces, rows)),
+            Ok(worked_out) => Ok(Domain::new(topology, tables, worked_out)),
             Err(Memory) => Err(Refused {
                 topology,
                 tables,

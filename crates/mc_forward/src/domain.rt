@@ -15,7 +15,6 @@ use mc_topology::{LanNo, RouterNo, Topology};
 use std::marker::Model;
 
 /// A topology with the kernel tables of each router, and which LAN wants which flow.
-#[derive(Drop)]
 pub struct Domain {
     topology: Topology,
     tables: Vec<Tables>,
@@ -23,6 +22,20 @@ pub struct Domain {
     places: Vec<Places>,
     interfaces: Vec<Items<(RouterNo, u8)>>,
     rows: Vec<Items<RowNo>>,
+}
+
+// Written out, so that whoever lets a domain go takes one step, and not one for each of its parts.
+impl Drop for Domain {
+    fn drop(self) {
+        let Self {
+            topology,
+            tables,
+            wants,
+            places,
+            interfaces,
+            rows,
+        } = self;
+    }
 }
 
 impl Model for Domain {
@@ -39,6 +52,19 @@ impl Model for Domain {
         d.places.items d.interfaces.items d.rows.items };
 }
 
+/// What is worked out once of the parts of a domain.
+#[derive(Drop)]
+pub(crate) struct WorkedOut {
+    /// For each LAN, whether it wants each flow.
+    pub(crate) wants: Vec<Items<bool>>,
+    /// For each router, the LAN of each vif.
+    pub(crate) places: Vec<Places>,
+    /// For each LAN, the vifs that are placed on it, with the router of each.
+    pub(crate) interfaces: Vec<Items<(RouterNo, u8)>>,
+    /// For each router, the row of each flow.
+    pub(crate) rows: Vec<Items<RowNo>>,
+}
+
 fn place_of(places: &[Option<LanNo>], vif: u8) -> Option<LanNo>
     ensures { result ≡ unwrap_or (slice_get places.now vif) None }
 {
@@ -50,18 +76,17 @@ fn place_of(places: &[Option<LanNo>], vif: u8) -> Option<LanNo>
 
 impl Domain {
     /// The domain of a topology, the routers' tables, and what was worked out of them.
-    pub(crate) fn new(
-        topology: Topology,
-        tables: Vec<Tables>,
-        wants: Vec<Items<bool>>,
-        places: Vec<Places>,
-        interfaces: Vec<Items<(RouterNo, u8)>>,
-        rows: Vec<Items<RowNo>>,
-    ) -> Domain
-        requires { IsWorkedOut (domain_with topology tables.items wants.items) places.items
-            interfaces.items rows.items }
-        ensures { result ≡ domain_with topology tables.items wants.items }
+    pub(crate) fn new(topology: Topology, tables: Vec<Tables>, worked_out: WorkedOut) -> Domain
+        requires { IsWorkedOut (domain_with topology tables.items worked_out.wants.items)
+            worked_out.places.items worked_out.interfaces.items worked_out.rows.items }
+        ensures { result ≡ domain_with topology tables.items worked_out.wants.items }
     {
+        let WorkedOut {
+            wants,
+            places,
+            interfaces,
+            rows,
+        } = worked_out;
         Domain {
             topology,
             tables,

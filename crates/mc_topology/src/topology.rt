@@ -21,12 +21,24 @@ use std::alloc::Global;
 use std::marker::Model;
 
 /// The LANs and routers of a domain by name, the LAN of each interface, and the flows.
-#[derive(Debug, Drop)]
+#[derive(Debug)]
 pub struct Topology {
     lans: Lans,
     routers: Routers,
     interfaces: Interfaces,
     flows: Flows,
+}
+
+// Written out, so that whoever lets a topology go takes one step, and not one for each of its parts.
+impl Drop for Topology {
+    fn drop(self) {
+        let Self {
+            lans,
+            routers,
+            interfaces,
+            flows,
+        } = self;
+    }
 }
 
 impl Model for Topology {

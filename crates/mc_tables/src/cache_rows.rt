@@ -18,11 +18,22 @@ use std::marker::Model;
 
 /// The entries of resolved rows in the order of their lines, the number of each source and group,
 /// and the groups of the rows for every source.
-#[derive(Debug, Drop)]
+#[derive(Debug)]
 pub struct CacheRows {
     entries: Vec<Entry>,
     numbers: BTreeMap<(Addr, Addr), u32>,
     wildcards: BTreeSet<Addr>,
+}
+
+// Written out, so that whoever lets rows go takes one step, and not one for each of their parts.
+impl Drop for CacheRows {
+    fn drop(self) {
+        let Self {
+            entries,
+            numbers,
+            wildcards,
+        } = self;
+    }
 }
 
 impl Model for CacheRows {

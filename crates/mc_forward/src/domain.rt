@@ -14,14 +14,24 @@ use crate::tables::Tables;
 use mc_topology::{LanNo, RouterNo, Topology};
 use std::marker::Model;
 
+/// What is worked out once of the parts of a domain.
+#[derive(Drop)]
+pub(crate) struct WorkedOut {
+    /// For each LAN, whether it wants each flow.
+    pub(crate) wants: Vec<Items<bool>>,
+    /// For each router, the LAN of each vif.
+    pub(crate) places: Vec<Places>,
+    /// For each LAN, the vifs that are placed on it, with the router of each.
+    pub(crate) interfaces: Vec<Items<(RouterNo, u8)>>,
+    /// For each router, the row of each flow.
+    pub(crate) rows: Vec<Items<RowNo>>,
+}
+
 /// A topology with the kernel tables of each router, and which LAN wants which flow.
 pub struct Domain {
     topology: Topology,
     tables: Vec<Tables>,
-    wants: Vec<Items<bool>>,
-    places: Vec<Places>,
-    interfaces: Vec<Items<(RouterNo, u8)>>,
-    rows: Vec<Items<RowNo>>,
+    worked_out: WorkedOut,
 }
 
 // Written out, so that whoever lets a domain go takes one step, and not one for each of its parts.
@@ -30,10 +40,7 @@ impl Drop for Domain {
         let Self {
             topology,
             tables,
-            wants,
-            places,
-            interfaces,
-            rows,
+            worked_out,
         } = self;
     }
 }
@@ -46,23 +53,11 @@ impl Model for Domain {
 
     ghost coded = { domain_code };
 
-    ghost view = { λ d. domain_with d.topology d.tables.items d.wants.items };
+    ghost view = { λ d. domain_with d.topology d.tables.items d.worked_out.wants.items };
 
-    ghost invariant = { λ d. IsWorkedOut (domain_with d.topology d.tables.items d.wants.items)
-        d.places.items d.interfaces.items d.rows.items };
-}
-
-/// What is worked out once of the parts of a domain.
-#[derive(Drop)]
-pub(crate) struct WorkedOut {
-    /// For each LAN, whether it wants each flow.
-    pub(crate) wants: Vec<Items<bool>>,
-    /// For each router, the LAN of each vif.
-    pub(crate) places: Vec<Places>,
-    /// For each LAN, the vifs that are placed on it, with the router of each.
-    pub(crate) interfaces: Vec<Items<(RouterNo, u8)>>,
-    /// For each router, the row of each flow.
-    pub(crate) rows: Vec<Items<RowNo>>,
+    ghost invariant = { λ d.
+        IsWorkedOut (domain_with d.topology d.tables.items d.worked_out.wants.items)
+        d.worked_out.places.items d.worked_out.interfaces.items d.worked_out.rows.items };
 }
 
 fn place_of(places: &[Option<LanNo>], vif: u8) -> Option<LanNo>
@@ -81,19 +76,10 @@ impl Domain {
             worked_out.places.items worked_out.interfaces.items worked_out.rows.items }
         ensures { result ≡ domain_with topology tables.items worked_out.wants.items }
     {
-        let WorkedOut {
-            wants,
-            places,
-            interfaces,
-            rows,
-        } = worked_out;
         Domain {
             topology,
             tables,
-            wants,
-            places,
-            interfaces,
-            rows,
+            worked_out,
         }
     }
 
@@ -113,7 +99,7 @@ impl Domain {
         ensures lan { result ≡ placed_of self.now router vif }
         ensures listed { IfSome result (λ lan. lan < length self.now.topology.lans) }
     {
-        let places = &self.places[router.0 as usize];
+        let places = &self.worked_out.places[router.0 as usize];
         place_of(places, vif)
     }
 
@@ -124,7 +110,7 @@ impl Domain {
         ensures row { row_seen result ≡ row_of self.now flow router }
         ensures stands { EntryStands result }
     {
-        let rows = &self.rows[router.0 as usize];
+        let rows = &self.worked_out.rows[router.0 as usize];
         match rows.items[flow as usize] {
             RowNo::Exact(number) => {
                 RowFor::Exact(self.tables[router.0 as usize].cache.entry_at(number))
@@ -141,7 +127,7 @@ impl Domain {
         requires flow { flow < length self.now.topology.flows }
         ensures { result ≡ wants_of self.now flow lan }
     {
-        let wanted = &self.wants[lan.0 as usize];
+        let wanted = &self.worked_out.wants[lan.0 as usize];
         wanted.items[flow as usize]
     }
 
@@ -150,7 +136,7 @@ impl Domain {
         requires { lan < length self.now.topology.lans }
         ensures { (flow : ℕ) → result ≡ interfaces (net_of self.now flow) lan }
     {
-        let interfaces = &self.interfaces[lan.0 as usize];
+        let interfaces = &self.worked_out.interfaces[lan.0 as usize];
         Interfaces::new(interfaces)
     }
 }

@@ -10,12 +10,13 @@ use Rattle.mc_forward.proofs.domain.Domain.entry.Goals as goal
 pub index-requires : goal.index-requires
 index-requires c =
     let d = c.args.self.now in
+    let all = c.self.inside.worked_out.rows.items in
     let ok = subst IsDomain c.self.view_is c.self.invariant.domain in
-    let rows = subst (λ (d : DomainValue). AreRowsOf d.topology.flows d.tables c.self.inside.rows.items)
+    let rows = subst (λ (d : DomainValue). AreRowsOf d.topology.flows d.tables all)
     c.self.view_is c.self.invariant.rows in
     let read_own = c.index-rows.ensures
-    ∙ ap (λ (k : ℕ). get_or c.self.inside.rows.items k c.index-rows.result.now) c.router.view_is in
-    let width = kept-width d c.self.inside.rows.items c.args.router c.index-rows.result.now ok rows
+    ∙ ap (λ (k : ℕ). get_or all k c.index-rows.result.now) c.router.view_is in
+    let width = kept-width d all c.args.router c.index-rows.result.now ok rows
     c.requires.router read_own in
     omega (arith, c.requires.flow, width, ap length c.rows.view_is, c.rows.inside.items.ok.0)
 

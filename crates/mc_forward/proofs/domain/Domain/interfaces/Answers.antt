@@ -10,9 +10,9 @@ index-interfaces-requires c =
 
 pub returns : goal.returns
 returns c = λ flow.
+    let all = c.self.inside.worked_out.interfaces.items in
     let worked_out = c.self.invariant.interfaces ∙ ap interfaces_of c.self.view_is in
     c.new.ensures
-    ∙ interfaces-found c.args.self.now c.self.inside.interfaces.items _ c.args.lan flow worked_out
-    c.requires (c.index-interfaces.ensures ∙ ap
-    (λ (k : ℕ). get_or c.self.inside.interfaces.items k c.index-interfaces.result.now)
-    c.lan.view_is)
+    ∙ interfaces-found c.args.self.now all _ c.args.lan flow worked_out c.requires
+    (c.index-interfaces.ensures
+    ∙ ap (λ (k : ℕ). get_or all k c.index-interfaces.result.now) c.lan.view_is)

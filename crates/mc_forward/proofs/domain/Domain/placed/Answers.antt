@@ -11,13 +11,13 @@ index-places-requires c =
 
 pub returns-clause-lan : goal.returns-clause-lan
 returns-clause-lan c =
+    let all = c.self.inside.worked_out.places.items in
     let ok = subst IsDomain c.self.view_is c.self.invariant.domain in
     let worked_out = c.self.invariant.places ∙ ap places_of c.self.view_is in
     c.place_of.ensures
-    ∙ place-found c.args.self.now c.self.inside.places.items _ c.args.router c.args.vif ok
-    worked_out c.requires (c.index-places.ensures
-    ∙ ap (λ (k : ℕ). get_or c.self.inside.places.items k c.index-places.result.now)
-    c.router.view_is)
+    ∙ place-found c.args.self.now all _ c.args.router c.args.vif ok worked_out c.requires
+    (c.index-places.ensures
+    ∙ ap (λ (k : ℕ). get_or all k c.index-places.result.now) c.router.view_is)
 
 pub returns-clause-listed : goal.returns-clause-listed
 returns-clause-listed c =

@@ -94,7 +94,7 @@ fn reports_of_lans<F: FileSource>(
 
 /// What the files beside the topology tell, one after another.
 #[tactic(auto, unfolding(crate::specs::PartsReading::contents))]
-fn contents_in<F: FileSource>(
+fn tables_and_reports_in<F: FileSource>(
     alloc: Global,
     files: &mut F,
     topology: &Topology,
@@ -145,11 +145,11 @@ pub fn read_files<F: FileSource>(
     ensures failures { F.failed files.new ≡ counted is_read result (F.failed files.old) }
 {
     let topology = topology_in(alloc, files)?;
-    let contents = contents_in(alloc, files, &topology)?;
+    let told = tables_and_reports_in(alloc, files, &topology)?;
     Ok(Contents {
         topology,
-        tables: contents.0,
-        reports: contents.1,
+        tables: told.0,
+        reports: told.1,
         certificate: None,
     })
 }

@@ -84,7 +84,7 @@ fn reports_of_lans(
 
 /// What the parts after the topology tell.
 #[tactic(auto, unfolding(crate::specs::PartsReading::contents))]
-fn contents_in(
+fn tables_and_reports_in(
     alloc: Global,
     bundle: &Bundle<'_>,
     topology: &Topology,
@@ -98,7 +98,7 @@ fn contents_in(
 }
 
 /// The same, once the names and the number of all parts are judged.
-fn judged_contents_in(
+fn judged_tables_and_reports_in(
     alloc: Global,
     bundle: &Bundle<'_>,
     topology: &Topology,
@@ -109,7 +109,7 @@ fn judged_contents_in(
     ensures count { IfOk result (λ _. length bundle.now ≡ length (slots certified topology.now)) }
 {
     names_in(bundle, topology, certified)?;
-    contents_in(alloc, bundle, topology)
+    tables_and_reports_in(alloc, bundle, topology)
 }
 
 /// The text of the certificate, in the last part, where one is to be there.
@@ -162,7 +162,7 @@ fn input_in<'a>(
         ≡ certified) }
 {
     let topology = topology_in(alloc, bundle)?;
-    let told = judged_contents_in(alloc, bundle, &topology, certified)?;
+    let told = judged_tables_and_reports_in(alloc, bundle, &topology, certified)?;
     Ok(contents_with(bundle, topology, told, certified))
 }
 

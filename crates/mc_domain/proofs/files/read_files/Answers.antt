@@ -18,39 +18,39 @@ returns-in_err-topology-clause-only g c =
     read_again (g.F.FileSource.told c.args.files.now) c.from_residual.result
     (returns-in_err-topology-clause-fault g c)
 
-pub returns-in_err-contents-clause-fault : goal.returns-in_err-contents-clause-fault
-returns-in_err-contents-clause-fault g c =
-    let p = err_from_is_err_and c.from_residual-in_err-contents.result
-    c.from_residual-in_err-contents.ensures.1 in
+pub returns-in_err-told-clause-fault : goal.returns-in_err-told-clause-fault
+returns-in_err-told-clause-fault g c =
+    let p = err_from_is_err_and c.from_residual-in_err-told.result
+    c.from_residual-in_err-told.ensures.1 in
     λ told is. rw (p.1 ∙ ap (λ f. Err f) p.2) (λ no. contents_of Input (part_filed told)
     (λ t. Ok tt) c.in_ok-topology.topology tt (c.in_ok-topology.ensures.topology 0 told is) refl
-    ∙ c.in_err-contents.ensures.contents told (c.in_ok-topology.ensures.kept ∙ is) no)
+    ∙ c.in_err-told.ensures.contents told (c.in_ok-topology.ensures.kept ∙ is) no)
 
-pub returns-in_err-contents-clause-only : goal.returns-in_err-contents-clause-only
-returns-in_err-contents-clause-only g c =
-    read_again (g.F.FileSource.told c.args.files.now) c.from_residual-in_err-contents.result
-    (returns-in_err-contents-clause-fault g c)
+pub returns-in_err-told-clause-only : goal.returns-in_err-told-clause-only
+returns-in_err-told-clause-only g c =
+    read_again (g.F.FileSource.told c.args.files.now) c.from_residual-in_err-told.result
+    (returns-in_err-told-clause-fault g c)
 
-pub returns-in_err-contents-clause-failures : goal.returns-in_err-contents-clause-failures
-returns-in_err-contents-clause-failures g c =
-    let p = err_from_is_err_and c.from_residual-in_err-contents.result
-    c.from_residual-in_err-contents.ensures.1 in
-    failed_as c.in_err-contents.field-0.0 c.from_residual-in_err-contents.result
-    c.contents_in.result _ _ _ (p.1 ∙ ap (λ f. Err f) p.2) c.in_err-contents.was
-    c.contents_in.ensures.failures c.in_ok-topology.ensures.failures
+pub returns-in_err-told-clause-failures : goal.returns-in_err-told-clause-failures
+returns-in_err-told-clause-failures g c =
+    let p = err_from_is_err_and c.from_residual-in_err-told.result
+    c.from_residual-in_err-told.ensures.1 in
+    failed_as c.in_err-told.field-0.0 c.from_residual-in_err-told.result
+    c.tables_and_reports_in.result _ _ _ (p.1 ∙ ap (λ f. Err f) p.2) c.in_err-told.was
+    c.tables_and_reports_in.ensures.failures c.in_ok-topology.ensures.failures
 
 pub returns-clause-fault : goal.returns-clause-fault
 returns-clause-fault g c =
     λ told is. contents_of Input (part_filed told) (λ t. Ok tt) c.in_ok-topology.topology tt
     (c.in_ok-topology.ensures.topology 0 told is) refl
-    ∙ c.in_ok-contents.ensures.contents told (c.in_ok-topology.ensures.kept ∙ is)
+    ∙ c.in_ok-told.ensures.contents told (c.in_ok-topology.ensures.kept ∙ is)
 
 pub returns-clause-found : goal.returns-clause-found
 returns-clause-found g c =
     read_stands (g.F.FileSource.told c.args.files.now) (Ok (record {
       topology = c.in_ok-topology.topology;
-      tables = c.in_ok-contents.contents.0;
-      reports = c.in_ok-contents.contents.1;
+      tables = c.in_ok-told.told.0;
+      reports = c.in_ok-told.told.1;
       certificate = None;
     })) (returns-clause-fault g c)
 
@@ -58,7 +58,7 @@ pub returns-clause-only : goal.returns-clause-only
 returns-clause-only g c =
     read_again (g.F.FileSource.told c.args.files.now) (Ok (record {
       topology = c.in_ok-topology.topology;
-      tables = c.in_ok-contents.contents.0;
-      reports = c.in_ok-contents.contents.1;
+      tables = c.in_ok-told.told.0;
+      reports = c.in_ok-told.told.1;
       certificate = None;
     })) (returns-clause-fault g c)

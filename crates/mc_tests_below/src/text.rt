@@ -3,4 +3,5 @@
 
 mod bundle_writes;
 mod devices;
+mod parts;
 mod texts;

@@ -29,7 +29,7 @@ part_bytes_take size rest taken e =
     grind (arith, nat_tests, length-take size rest, cut_at 10 rest size)
 
 -- a part's bytes that stand there are read
-part_bytes_again : (bytes after : List ℕ)
+pub part_bytes_again : (bytes after : List ℕ)
     → part_bytes_at (length bytes) (bytes ++ (codes "\n" ++ after)) ≡ Ok (bytes, after)
 unfolding part_bytes_at
 part_bytes_again bytes after =

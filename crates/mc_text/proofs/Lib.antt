@@ -11,4 +11,7 @@ pub mod BundlePlaces
 pub mod BundleLaws
 pub mod BundleFront
 pub mod Pieces
+pub mod PartsLemmas
+pub mod PartsMeaning
+pub mod SpendingLemmas
 mod FirstPlace

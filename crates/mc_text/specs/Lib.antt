@@ -9,6 +9,8 @@ pub mod Lines
 pub mod LineView
 pub mod Number
 pub mod PartName
+pub mod PartsReading
+pub mod PartsSpending
 pub mod BundleView
 pub mod ReadFault
 pub mod Steps

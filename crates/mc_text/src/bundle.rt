@@ -7,6 +7,9 @@ mod bundle_output;
 mod part;
 mod part_line;
 mod part_name;
+mod parts;
+mod parts_input;
+mod stage;
 
 pub use bundle::{Bundle, MAX_PART};
 pub use bundle_fault::BundleFault;
@@ -14,3 +17,4 @@ pub use bundle_laws::{front_decides, one_list_of_parts, written_is_read};
 pub use bundle_output::write_bundle;
 pub use part::Part;
 pub use part_name::PartName;
+pub use parts::Parts;

@@ -20,13 +20,13 @@ pub enum BundleFault {
     /// (6) A part passes 16,777,216 bytes, the bundle 268,435,456 bytes, or there are more than
     /// 1,538 parts.
     TooLarge,
-    /// (7) The input failed. No call answers this yet.
+    /// (7) The input failed.
     Read,
     /// (8) Memory ran out.
     Memory,
     /// (9) The output answered an error, or took no byte.
     Write,
-    /// (10) A call was made after a fault. No call answers this yet.
+    /// (10) A call was made after a fault.
     Failed,
 }
 

@@ -1,0 +1,57 @@
+use Rattle.std.proofs.Common.{◌≡◌, ◌<◌, ◌≤◌, ◌-◌, ◌++◌, Err, length, take, drop, sym, ap, subst}
+use Rattle.std.proofs.Common.{◌∙◌, arith, length-take}
+use Rattle.std.proofs.lemmas.List.{take-append-le}
+use Rattle.mc_text.specs.declared.bundle.bundle_fault.BundleFault.TheVariants as faults
+use Rattle.mc_text.specs.PartsReading.{PartsState, parts_if, state_of}
+use Rattle.mc_text.proofs.PartsMeaning.{consumed, none_left, cut_off, read_keeps}
+use Rattle.mc_text.proofs.bundle.parts.Parts.read.Goals as goal
+
+pub returns-in-Ok-eq0-clause-fault : goal.returns-in-Ok-eq0-clause-fault
+returns-in-Ok-eq0-clause-fault g c = λ text done told there.
+    let own = c.self.inside in
+    let state = state_of own.stage own.parts own.room own.name own.size own.left
+    (g.R.Input.told own.input) (g.R.Input.failed own.input) (g.R.Input.names own.input) in
+    let known = ap (λ (s : PartsState). s.told) c.self.view_is ∙ told in
+    let zero_is = c.in-Ok-eq0.field-0-test in
+    let full = c.read.auto.buffer in
+    let room = c.min-room.ensures in
+    let some : 0 < length c.read.new.buffer =
+    omega (arith, full, room, length-take c.min-room.result c.args.buffer.now) in
+    let none = none_left _ _ (take c.in-Ok-eq0.field-0 c.read.new.buffer) text
+    c.in-Ok-eq0.ensures.bytes.0 known (ap (λ n. take n c.read.new.buffer) zero_is)
+    (c.in-Ok-eq0.ensures.bytes.1 zero_is some) in
+    subst (λ (s : PartsState). parts_if s done text ≡ Err faults.Truncated) c.self.view_is
+    (cut_off state done text c.self.invariant c.in-Part.is none)
+    ∙ ap Err (sym c.failed.ensures.fault)
+
+pub returns-in-Ok-clause-bytes : goal.returns-in-Ok-clause-bytes
+returns-in-Ok-clause-bytes g c = λ text done told.
+    let own = c.self.inside in
+    let state = state_of own.stage own.parts own.room own.name own.size own.left
+    (g.R.Input.told own.input) (g.R.Input.failed own.input) (g.R.Input.names own.input) in
+    let known = ap (λ (s : PartsState). s.told) c.self.view_is ∙ told in
+    let new = c.read.new.buffer in
+    let rest = drop c.min-room.result c.args.buffer.now in
+    let taken = take c.in-Ok.count new in
+    let whole : take c.in-Ok.count (new ++ rest) ≡ taken =
+    take-append-le c.in-Ok.count new rest c.in-Ok.ensures.bound.0 in
+    let read = consumed _ _ taken text c.in-Ok.ensures.bytes.0 known in
+    let room = c.min-room.ensures in
+    let full = c.read.auto.buffer in
+    let long : length taken ≡ c.in-Ok.count = sym c.in-Ok.ensures.bound.1 in
+    let within : length taken ≤ state.left =
+    omega (arith, room, full, c.in-Ok.ensures.bound.0, length-take c.min-room.result c.args.buffer.now) in
+    let keeps = read_keeps state done taken read.0 (g.R.Input.told c.read.new.self)
+    (g.R.Input.failed c.read.new.self) (g.R.Input.names c.read.new.self) c.self.invariant c.in-Part.is within in
+    let after = state_of own.stage own.parts own.room own.name own.size (own.left - c.in-Ok.count)
+    (g.R.Input.told c.read.new.self) (g.R.Input.failed c.read.new.self)
+    (g.R.Input.names c.read.new.self) in
+    let kept : parts_if state done text ≡ parts_if after (done ++ taken) read.0 =
+    ap (parts_if state done) read.2 ∙ keeps
+    ∙ ap (λ n. parts_if (record after { left = state.left - n }) (done ++ taken) read.0) long in (
+      read.0,
+      read.1,
+      rw whole read.2,
+      rw whole (subst (λ (s : PartsState). parts_if s done text
+          ≡ parts_if after (done ++ taken) read.0) c.self.view_is kept),
+    )

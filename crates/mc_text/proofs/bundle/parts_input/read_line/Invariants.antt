@@ -1,0 +1,17 @@
+use Rattle.std.proofs.Common.{length, take, ◌-◌, ◌≡◌, ◌≤◌}
+use Rattle.std.specs.Io.KnownBytes.{Consumes}
+use Rattle.mc_text.proofs.BundleWords.{Without}
+use Rattle.mc_text.proofs.bundle.parts_input.read_line.Given as goal
+
+abbrev pub invariant-bytes : goal.invariant-bytes
+invariant-bytes g l = record {
+  same : g.R.Input.names l.input ≡ g.R.Input.names l.fn.input;
+  failures : g.R.Input.failed l.input ≡ g.R.Input.failed l.fn.input;
+  long : length l.line ≡ 96;
+  within : l.count ≤ 96;
+  bytes : Consumes (g.R.Input.told l.fn.input) (g.R.Input.told l.input) (take l.count l.line);
+  without : Without 10 (take l.count l.line);
+}
+
+abbrev pub decreases-bytes : goal.decreases-bytes
+decreases-bytes g l = 96 - l.count

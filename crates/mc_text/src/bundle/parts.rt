@@ -1,0 +1,214 @@
+//! A bundle part by part, from an input.
+
+ghost use Rattle.std.specs.Prelude.{◌≡◌, ◌≢◌, ◌+◌, ◌<◌, ◌≤◌, ◌++◌, ◌⊎◌, ℕ, List, [], length, take};
+ghost use Rattle.std.specs.Prelude.{Ok, Err, Some, true, false, IfOk, IfErr, OnErr};
+ghost use Rattle.mc_text.specs.declared.bundle.stage.Stage.TheVariants as stages;
+ghost use Rattle.mc_text.specs.BundleReading.{bundle_of};
+ghost use Rattle.mc_text.specs.Device.{counted};
+ghost use Rattle.mc_text.specs.PartsReading.{before, is_read, parts_if, passed};
+ghost use Rattle.mc_text.specs.PartsSpending.{Spends, may_come};
+ghost use Rattle.mc_text.specs.Bundle.{max_bundle, max_line};
+
+use crate::bundle::bundle::{MAGIC, MAX_BUNDLE, MAX_PARTS};
+use crate::bundle::bundle_fault::BundleFault;
+use crate::bundle::part_name::PartName;
+use crate::bundle::parts_input::read_next;
+use crate::bundle::stage::Stage;
+use crate::io::Input;
+use std::marker::Model;
+
+/// The parts of a bundle, one after the other, as an input gives its bytes. It takes no memory.
+#[derive(Drop)]
+pub struct Parts<R: Input> {
+    input: R,
+    stage: Stage,
+    parts: usize,
+    room: usize,
+    name: Option<PartName>,
+    size: usize,
+    left: usize,
+}
+
+impl<R: Input> Model for Parts<R> {
+    ghost use Rattle.mc_text.specs.PartsReading.{PartsState, ArePartsSoFar, state_of};
+
+    ghost Value = { PartsState };
+
+    ghost view = { λ s. state_of s.stage s.parts s.room s.name s.size s.left (R.told s.input)
+        (R.failed s.input) (R.names s.input) };
+
+    ghost invariant = { λ s. ArePartsSoFar (state_of s.stage s.parts s.room s.name s.size s.left
+        (R.told s.input) (R.failed s.input) (R.names s.input)) };
+}
+
+impl<R: Input> Parts<R> {
+    /// The parts of the bundle that the input gives.
+    pub fn new(input: R) -> Parts<R>
+        ensures told { result.told ≡ R.told input }
+        ensures failures { result.failed ≡ R.failed input }
+        ensures same { result.names ≡ R.names input }
+        ensures start { result.stage ≡ stages.Start }
+        // No more is read than the greatest bundle and a line.
+        ensures most { may_come result ≡ max_bundle + max_line }
+        // The parts are those of the whole text.
+        ensures parts { (text : List ℕ) → parts_if result [] text ≡ bundle_of text }
+    {
+        Parts {
+            input,
+            stage: Stage::Start,
+            parts: MAX_PARTS,
+            room: MAX_BUNDLE - MAGIC.len(),
+            name: None,
+            size: 0,
+            left: 0,
+        }
+    }
+
+    /// Passes what is left of the present part, and opens the next one. It answers false past the
+    /// last.
+    ///
+    /// # Errors
+    ///
+    /// The first fault from the front, `Read` where the input failed, and `Failed` after either.
+    pub fn next(&mut self) -> Result<bool, BundleFault>
+        requires { self.old.failed < u64.MAX }
+        ensures names { self.new.names ≡ self.old.names }
+        ensures opened { (text done : List ℕ) → self.old.told ≡ Some text → result ≡ Ok true →
+            (later : List ℕ) × (self.new.told ≡ Some later)
+            × (parts_if self.old done text
+            ≡ before (passed self.old done text) (parts_if self.new [] later)) }
+        ensures ended { (text done : List ℕ) → self.old.told ≡ Some text → result ≡ Ok false →
+            parts_if self.old done text ≡ Ok (passed self.old done text) }
+        ensures fault { (text done : List ℕ) → self.old.told ≡ Some text → IfErr result
+            (λ fault. fault ≢ BundleFault.Read → parts_if self.old done text ≡ Err fault) }
+        ensures open { result ≡ Ok true →
+            (self.new.stage ≡ stages.Part) × (self.new.left ≡ self.new.size) }
+        // There are at most so many as may come.
+        ensures fewer { result ≡ Ok true → self.new.parts < self.old.parts }
+        ensures end { result ≡ Ok false → self.new.stage ≡ stages.End }
+        ensures failed { OnErr result (self.new.stage ≡ stages.Failed) }
+        ensures again { self.old.stage ≡ stages.Failed →
+            (result ≡ Err BundleFault.Failed) × (self.new ≡ self.old) }
+        ensures past { self.old.stage ≡ stages.End → (result ≡ Ok false) × (self.new ≡ self.old) }
+        // No more is read than may come, whatever the answer.
+        ensures consumed { Spends
+            (may_come self.old) (may_come self.new) self.old.told self.new.told }
+        ensures failures { self.new.failed ≡ counted is_read result self.old.failed }
+    {
+        let start = match self.stage {
+            Stage::Failed => return Err(BundleFault::Failed),
+            Stage::End => return Ok(false),
+            Stage::Start => true,
+            Stage::Part => false,
+        };
+        match read_next(&mut self.input, start, self.left, self.parts, self.room) {
+            Ok(Some(part)) => {
+                self.stage = Stage::Part;
+                self.parts = part.parts;
+                self.room = part.room;
+                self.name = Some(part.name);
+                self.size = part.size;
+                self.left = part.size;
+                Ok(true)
+            }
+            Ok(None) => {
+                self.stage = Stage::End;
+                Ok(false)
+            }
+            Err(fault) => Err(self.failed(fault)),
+        }
+    }
+
+    /// The fault, after which none but `Failed` is answered.
+    fn failed(&mut self, fault: BundleFault) -> BundleFault
+        ensures fault { result ≡ fault }
+        ensures stage { self.new ≡ record self.old { stage = stages.Failed } }
+    {
+        self.stage = Stage::Failed;
+        fault
+    }
+
+    /// The name of the part that `next` opened.
+    pub fn name(&self) -> PartName
+        requires { self.now.stage ≡ stages.Part }
+        ensures { self.now.name ≡ Some result }
+    {
+        self.name.unwrap()
+    }
+
+    /// Its length.
+    pub fn length(&self) -> u32
+        requires { self.now.stage ≡ stages.Part }
+        ensures { result ≡ self.now.size }
+    {
+        self.size as u32
+    }
+
+    /// Puts the next bytes of the part at the buffer's front, and answers how many: none at the
+    /// part's end, for an empty buffer, and where no part is open.
+    ///
+    /// # Errors
+    ///
+    /// `Truncated` where the input ends before the part does, `Read` where it failed, and `Failed`
+    /// after either.
+    pub fn read(&mut self, buffer: &mut [u8]) -> Result<usize, BundleFault>
+        requires { self.old.failed < u64.MAX }
+        ensures names { self.new.names ≡ self.old.names }
+        ensures bound { IfOk result (λ n. n ≤ length buffer.new) }
+        ensures bytes { (text done : List ℕ) → self.old.told ≡ Some text → IfOk result (λ n.
+            (later : List ℕ) × (self.new.told ≡ Some later) × (text ≡ take n buffer.new ++ later)
+            × (parts_if self.old done text ≡ parts_if self.new (done ++ take n buffer.new) later)) }
+        ensures left { IfOk result (λ n. self.old.stage ≡ stages.Part →
+            self.new.left + n ≡ self.old.left) }
+        ensures end { IfOk result (λ n. n ≡ 0 → self.old.stage ≡ stages.Part →
+            (length buffer.new ≡ 0) ⊎ (self.old.left ≡ 0)) }
+        ensures same { IfOk result (λ _. (self.new.stage ≡ self.old.stage)
+            × (self.new.name ≡ self.old.name) × (self.new.size ≡ self.old.size)
+            × (self.new.parts ≡ self.old.parts)) }
+        ensures fault { (text done : List ℕ) → self.old.told ≡ Some text → IfErr result
+            (λ fault. fault ≢ BundleFault.Read → parts_if self.old done text ≡ Err fault) }
+        ensures failed { OnErr result (self.new.stage ≡ stages.Failed) }
+        ensures again { self.old.stage ≡ stages.Failed →
+            (result ≡ Err BundleFault.Failed) × (self.new ≡ self.old) }
+        // No more is read than may come, whatever the answer.
+        ensures consumed { Spends
+            (may_come self.old) (may_come self.new) self.old.told self.new.told }
+        ensures failures { self.new.failed ≡ counted is_read result self.old.failed }
+    {
+        match self.stage {
+            Stage::Failed => return Err(BundleFault::Failed),
+            Stage::Start | Stage::End => return Ok(0),
+            Stage::Part => {}
+        }
+        let room = buffer.len().min(self.left);
+        if room == 0 {
+            return Ok(0);
+        }
+        match self.input.read(&mut buffer[..room]) {
+            Ok(0) => Err(self.failed(BundleFault::Truncated)),
+            Ok(count) => {
+                self.left -= count;
+                Ok(count)
+            }
+            Err(_) => Err(self.failed(BundleFault::Read)),
+        }
+    }
+
+    /// The input, which has the bytes that were not yet read.
+    pub fn into_input(self) -> R
+        ensures told { R.told result ≡ self.told }
+        ensures failures { R.failed result ≡ self.failed }
+        ensures same { R.names result ≡ self.names }
+    {
+        let Parts {
+            input,
+            stage: _,
+            parts: _,
+            room: _,
+            name: _,
+            size: _,
+            left: _,
+        } = self;
+        input
+    }
+}

@@ -1,0 +1,231 @@
+//! The pieces of a bundle as an input gives them: lines, and what is left of a part.
+
+ghost use Rattle.std.specs.Prelude.{◌≡◌, ◌≢◌, ◌+◌, ◌<◌, ◌≤◌, length, take, min, OnOk, IfOk, IfErr};
+ghost use Rattle.std.specs.Prelude.{Ok, Err, Some, None, IfSome, option_map, ℕ, List, [], ◌∷◌, Option};
+ghost use Rattle.std.specs.Io.KnownBytes.{Consumes, IsAtEnd};
+ghost use Rattle.mc_text.specs.BundleReading.{line_at as line_of};
+ghost use Rattle.mc_text.specs.Device.{counted};
+ghost use Rattle.mc_text.specs.PartsReading.{Reads, magic_of, rest_of, end_opened, part_opened};
+ghost use Rattle.mc_text.specs.PartsReading.{is_read, next_of, opened_at};
+ghost use Rattle.mc_text.specs.PartsSpending.{Spends, before_line, may_come_in, may_come_after};
+ghost use Rattle.mc_text.specs.ReadFault.{ConsumesUpTo};
+
+use crate::bundle::bundle::{MAGIC, MAX_PART};
+use crate::bundle::bundle_fault::BundleFault;
+use crate::bundle::part_line::part_said;
+use crate::bundle::part_name::PartName;
+use crate::bundle::stage::OpenPart;
+use crate::io::Input;
+
+/// Reads until the buffer is full or the input is at its end, and answers how many bytes.
+pub(crate) fn fill<R: Input>(input: &mut R, buffer: &mut [u8]) -> Result<usize, BundleFault>
+    requires { R.failed input.old < u64.MAX }
+    ensures same { R.names input.new ≡ R.names input.old }
+    ensures bound { IfOk result (λ n. n ≤ length buffer.new) }
+    ensures bytes { IfOk result
+        (λ n. Consumes (R.told input.old) (R.told input.new) (take n buffer.new)) }
+    ensures end { IfOk result (λ n. n < length buffer.new → IsAtEnd (R.told input.new)) }
+    ensures consumed { ConsumesUpTo (length buffer.new) (R.told input.old) (R.told input.new) }
+    ensures fault { IfErr result (λ fault. fault ≡ BundleFault.Read) }
+    ensures failures { R.failed input.new ≡ counted is_read result (R.failed input.old) }
+{
+    let mut count = 0;
+    'filling: while count < buffer.len() {
+        match input.read(&mut buffer[count..]) {
+            Ok(0) => return Ok(count),
+            Ok(more) => count += more,
+            Err(_) => return Err(BundleFault::Read),
+        }
+    }
+    Ok(count)
+}
+
+/// Reads the first line.
+pub(crate) fn read_magic<R: Input>(input: &mut R) -> Result<(), BundleFault>
+    requires { R.failed input.old < u64.MAX }
+    ensures same { R.names input.new ≡ R.names input.old }
+    ensures reads { Reads (λ x. x) (R.told input.old) (R.told input.new) result magic_of }
+    ensures consumed { ConsumesUpTo 17 (R.told input.old) (R.told input.new) }
+    ensures failures { R.failed input.new ≡ counted is_read result (R.failed input.old) }
+{
+    let mut line = [0u8; 17];
+    let count = fill(input, &mut line)?;
+    if &line[..count] != MAGIC {
+        return Err(BundleFault::NoMagic);
+    }
+    Ok(())
+}
+
+/// Reads the next byte, if there is one.
+fn next_byte<R: Input>(input: &mut R) -> Result<Option<u8>, BundleFault>
+    requires { R.failed input.old < u64.MAX }
+    ensures same { R.names input.new ≡ R.names input.old }
+    ensures none { IfOk result (λ byte. byte ≡ None →
+        Consumes (R.told input.old) (R.told input.new) [] × IsAtEnd (R.told input.new)) }
+    ensures some { IfOk result (λ byte. IfSome byte (λ b.
+        Consumes (R.told input.old) (R.told input.new) (b ∷ []))) }
+    ensures consumed { ConsumesUpTo 1 (R.told input.old) (R.told input.new) }
+    ensures fault { IfErr result (λ fault. fault ≡ BundleFault.Read) }
+    ensures failures { R.failed input.new ≡ counted is_read result (R.failed input.old) }
+{
+    let mut byte = [0u8; 1];
+    match input.read(&mut byte) {
+        Ok(0) => Ok(None),
+        Ok(_) => Ok(Some(byte[0])),
+        Err(_) => Err(BundleFault::Read),
+    }
+}
+
+/// Reads a line without its line feed to the buffer's front, and answers its length.
+fn read_line<R: Input>(input: &mut R, line: &mut [u8; 96]) -> Result<usize, BundleFault>
+    requires { R.failed input.old < u64.MAX }
+    ensures same { R.names input.new ≡ R.names input.old }
+    ensures bound { IfOk result (λ n. n < 96) }
+    ensures reads { Reads (λ n. take n line.new) (R.told input.old) (R.told input.new) result line_of }
+    ensures consumed { ConsumesUpTo 96 (R.told input.old) (R.told input.new) }
+    ensures taken { IfOk result
+        (λ n. ConsumesUpTo (n + 1) (R.told input.old) (R.told input.new)) }
+    ensures failures { R.failed input.new ≡ counted is_read result (R.failed input.old) }
+{
+    let mut count = 0;
+    'bytes: while count < 96 {
+        match next_byte(input)? {
+            None => return Err(BundleFault::NoEnd),
+            Some(b'\n') => return Ok(count),
+            Some(byte) => {
+                line[count] = byte;
+                count += 1;
+            }
+        }
+    }
+    Err(BundleFault::BadPartLine)
+}
+
+/// Passes what is left of a part, and its line feed.
+pub(crate) fn skip_rest<R: Input>(input: &mut R, left: usize) -> Result<(), BundleFault>
+    requires { R.failed input.old < u64.MAX }
+    ensures same { R.names input.new ≡ R.names input.old }
+    ensures reads { Reads (λ x. x) (R.told input.old) (R.told input.new) result (rest_of left) }
+    ensures consumed { ConsumesUpTo (left + 1) (R.told input.old) (R.told input.new) }
+    ensures failures { R.failed input.new ≡ counted is_read result (R.failed input.old) }
+{
+    let mut buffer = [0u8; 4096];
+    let mut to_come = left;
+    'skipping: while to_come > 0 {
+        let size = to_come.min(buffer.len());
+        if fill(input, &mut buffer[..size])? < size {
+            return Err(BundleFault::Truncated);
+        }
+        to_come -= size;
+    }
+    match next_byte(input)? {
+        None => Err(BundleFault::Truncated),
+        Some(b'\n') => Ok(()),
+        Some(_) => Err(BundleFault::BadPartLine),
+    }
+}
+
+/// Nothing may follow the line `end`.
+fn read_end<R: Input>(input: &mut R, room: usize) -> Result<(), BundleFault>
+    requires { R.failed input.old < u64.MAX }
+    ensures same { R.names input.new ≡ R.names input.old }
+    ensures reads { Reads (λ _. None) (R.told input.old) (R.told input.new) result (end_opened room) }
+    ensures consumed { ConsumesUpTo 1 (R.told input.old) (R.told input.new) }
+    ensures failures { R.failed input.new ≡ counted is_read result (R.failed input.old) }
+{
+    if room < 4 {
+        return Err(BundleFault::TooLarge);
+    }
+    match next_byte(input)? {
+        None => Ok(()),
+        Some(_) => Err(BundleFault::AfterEnd),
+    }
+}
+
+/// The part whose line was read.
+fn open_part(
+    parts: usize,
+    room: usize,
+    line: &[u8],
+    said: Option<(PartName, u64)>,
+) -> Result<OpenPart, BundleFault>
+    requires { length line.now < 96 }
+    ensures opened { (exact : Option (List ℕ × ℕ)) →
+        said ≡ option_map (λ s. (s.0, min s.1 u64.MAX)) exact →
+        result ≡ part_opened parts room line.now exact }
+    ensures bound { IfOk result (λ part. part.size ≤ MAX_PART) }
+    ensures fewer { IfOk result (λ part. part.parts < parts) }
+    ensures room { IfOk result
+        (λ part. length line.now + 1 + may_come_in part ≡ room + 96) }
+{
+    let Some((name, size)) = said else {
+        return Err(BundleFault::BadPartLine);
+    };
+    if parts == 0 || size > MAX_PART as u64 {
+        return Err(BundleFault::TooLarge);
+    }
+    let size = size as usize;
+    let taken = line.len() + 1 + (size + 1);
+    if room < taken {
+        return Err(BundleFault::TooLarge);
+    }
+    Ok(OpenPart {
+        name,
+        size,
+        parts: parts - 1,
+        room: room - taken,
+    })
+}
+
+/// Reads the line of a part, or the end, where so many parts and bytes may come.
+pub(crate) fn open_next<R: Input>(
+    input: &mut R,
+    parts: usize,
+    room: usize,
+) -> Result<Option<OpenPart>, BundleFault>
+    requires { R.failed input.old < u64.MAX }
+    ensures same { R.names input.new ≡ R.names input.old }
+    ensures reads { Reads (λ o. o) (R.told input.old) (R.told input.new) result
+        (opened_at parts room) }
+    ensures bound { IfOk result (λ found. IfSome found (λ part. part.size ≤ MAX_PART)) }
+    ensures fewer { IfOk result (λ found. IfSome found (λ part. part.parts < parts)) }
+    ensures consumed { Spends
+        (room + 96) (may_come_after result) (R.told input.old) (R.told input.new) }
+    ensures failures { R.failed input.new ≡ counted is_read result (R.failed input.old) }
+{
+    let mut buffer = [0u8; 96];
+    let count = read_line(input, &mut buffer)?;
+    let line = &buffer[..count];
+    if line == b"end".as_slice() {
+        read_end(input, room)?;
+        return Ok(None);
+    }
+    let open = open_part(parts, room, line, part_said(line))?;
+    Ok(Some(open))
+}
+
+/// Passes the first line, or what is left of a part, and reads the next part's line.
+pub(crate) fn read_next<R: Input>(
+    input: &mut R,
+    start: bool,
+    left: usize,
+    parts: usize,
+    room: usize,
+) -> Result<Option<OpenPart>, BundleFault>
+    requires { R.failed input.old < u64.MAX }
+    ensures same { R.names input.new ≡ R.names input.old }
+    ensures reads { Reads (λ o. o) (R.told input.old) (R.told input.new) result
+        (next_of start left parts room) }
+    ensures bound { IfOk result (λ found. IfSome found (λ part. part.size ≤ MAX_PART)) }
+    ensures fewer { IfOk result (λ found. IfSome found (λ part. part.parts < parts)) }
+    ensures consumed { Spends (before_line start left + (room + 96)) (may_come_after result)
+        (R.told input.old) (R.told input.new) }
+    ensures failures { R.failed input.new ≡ counted is_read result (R.failed input.old) }
+{
+    if start {
+        read_magic(input)?;
+    } else {
+        skip_rest(input, left)?;
+    }
+    open_next(input, parts, room)
+}

@@ -1,5 +1,6 @@
 -- How many bytes of an input are read at most.
-use Rattle.std.proofs.Common.{◌≡◌, ℕ, ◌+◌, ◌≤◌, true, List, ◌++◌, length, take, Option, ap, arith, length-take}
+use Rattle.std.proofs.Common.{◌≡◌, ℕ, ◌+◌, ◌≤◌, true, List, ◌++◌, length, take, Option, ap}
+use Rattle.std.proofs.Common.{arith, length-take}
 use Rattle.std.specs.Prelude.{codes, IsErr, Result, Ok, Err}
 use Rattle.std.specs.Str.{bytes_eq}
 use Rattle.std.specs.Io.KnownBytes.{Consumes}

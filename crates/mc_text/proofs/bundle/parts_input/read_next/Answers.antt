@@ -5,7 +5,8 @@ use Rattle.mc_text.proofs.bundle.parts_input.read_next.Goals as goal
 
 pub returns-clause-consumed : goal.returns-clause-consumed
 returns-clause-consumed g c = elim c.if-start.branch [
-  | then-start+in_ok-read_magic w ↦ rw w.if-start.true (spends_on _ _ _ 17 _ _ w.in_ok-read_magic.ensures.consumed
+  | then-start+in_ok-read_magic w ↦ rw w.if-start.true (spends_on _ _ _ 17 _ _
+      w.in_ok-read_magic.ensures.consumed
       (rw w.input-is at c.open_next.ensures.consumed))
   | else-start+in_ok-skip_rest w ↦ rw w.if-start.false (spends_on _ _ _ (c.args.left + 1) _ _
       w.in_ok-skip_rest.ensures.consumed (rw w.input-is at c.open_next.ensures.consumed))

@@ -17,7 +17,13 @@ returns-then-branch-size-clause-reads g c =
     let full = c.fill.auto.buffer in
     rest_truncated _ _ _ c.args.left c.skipping.invariant.bytes.0 (take n c.fill.new.buffer)
     c.skipping.invariant.bytes.1 c.in_ok-fill.ensures.bytes
-    (c.in_ok-fill.ensures.end (omega (arith, long, full, size, length-take c.min-size.result c.skipping.buffer)))
+    (c.in_ok-fill.ensures.end (omega (
+      arith,
+      long,
+      full,
+      size,
+      length-take c.min-size.result c.skipping.buffer,
+    )))
     (omega (arith, left, size, length-take n c.fill.new.buffer))
 
 pub skipping-preserved : goal.skipping-preserved
@@ -87,14 +93,26 @@ returns-in_err-fill-clause-consumed g c =
     let bytes = c.skipping.invariant.bytes in
     up_to_more _ _ _ bytes.0 (length c.fill.new.buffer) (c.args.left + 1) bytes.1
     c.in_err-fill.ensures.consumed
-    (omega (arith, bytes.2, c.fill.auto.buffer, c.min-size.ensures, length-take c.min-size.result c.skipping.buffer))
+    (omega (
+      arith,
+      bytes.2,
+      c.fill.auto.buffer,
+      c.min-size.ensures,
+      length-take c.min-size.result c.skipping.buffer,
+    ))
 
 pub returns-then-branch-size-clause-consumed : goal.returns-then-branch-size-clause-consumed
 returns-then-branch-size-clause-consumed g c =
     let bytes = c.skipping.invariant.bytes in
     up_to_more _ _ _ bytes.0 (length c.fill.new.buffer) (c.args.left + 1) bytes.1
     c.in_ok-fill.ensures.consumed
-    (omega (arith, bytes.2, c.fill.auto.buffer, c.min-size.ensures, length-take c.min-size.result c.skipping.buffer))
+    (omega (
+      arith,
+      bytes.2,
+      c.fill.auto.buffer,
+      c.min-size.ensures,
+      length-take c.min-size.result c.skipping.buffer,
+    ))
 
 pub returns-in_err-next_byte-clause-consumed : goal.returns-in_err-next_byte-clause-consumed
 returns-in_err-next_byte-clause-consumed g c =

@@ -65,7 +65,7 @@ impl<R: Input> Parts<R> {
     }
 
     /// Passes what is left of the present part, and opens the next one. It answers false past the
-    /// last.
+    /// last, and from then on. The input's count of failures has to be below `u64::MAX`.
     ///
     /// # Errors
     ///
@@ -128,7 +128,7 @@ impl<R: Input> Parts<R> {
         fault
     }
 
-    /// The name of the part that `next` opened.
+    /// The name of the part that the last `next` opened, which has to be there.
     pub fn name(&self) -> PartName
         requires { self.now.stage ≡ stages.Part }
         ensures { self.now.name ≡ Some result }
@@ -136,7 +136,7 @@ impl<R: Input> Parts<R> {
         self.name.unwrap()
     }
 
-    /// Its length.
+    /// The length of that part, in bytes.
     pub fn length(&self) -> u32
         requires { self.now.stage ≡ stages.Part }
         ensures { result ≡ self.now.size }
@@ -145,7 +145,8 @@ impl<R: Input> Parts<R> {
     }
 
     /// Puts the next bytes of the part at the buffer's front, and answers how many: none at the
-    /// part's end, for an empty buffer, and where no part is open.
+    /// part's end, for an empty buffer, and where no part is open. The input's count of failures
+    /// has to be below `u64::MAX`.
     ///
     /// # Errors
     ///

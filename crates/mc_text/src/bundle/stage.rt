@@ -1,4 +1,4 @@
-//! Where the reading of a bundle stands.
+//! Where the reading of a bundle stands, and the part that a line opens.
 
 use crate::bundle::part_name::PartName;
 

@@ -73,12 +73,16 @@ impl<R: Input> Parts<R> {
     pub fn next(&mut self) -> Result<bool, BundleFault>
         requires { self.old.failed < u64.MAX }
         ensures names { self.new.names ≡ self.old.names }
+        // Where a part was opened, the bundle is what was passed, with the present part, and what is
+        // still to come.
         ensures opened { (text done : List ℕ) → self.old.told ≡ Some text → result ≡ Ok true →
             (later : List ℕ) × (self.new.told ≡ Some later)
             × (parts_if self.old done text
             ≡ before (passed self.old done text) (parts_if self.new [] later)) }
+        // Past the last part it is what was passed.
         ensures ended { (text done : List ℕ) → self.old.told ≡ Some text → result ≡ Ok false →
             parts_if self.old done text ≡ Ok (passed self.old done text) }
+        // Which fault it is, unless the input failed.
         ensures fault { (text done : List ℕ) → self.old.told ≡ Some text → IfErr result
             (λ fault. fault ≢ BundleFault.Read → parts_if self.old done text ≡ Err fault) }
         ensures open { result ≡ Ok true →
@@ -87,6 +91,7 @@ impl<R: Input> Parts<R> {
         ensures fewer { result ≡ Ok true → self.new.parts < self.old.parts }
         ensures end { result ≡ Ok false → self.new.stage ≡ stages.End }
         ensures failed { OnErr result (self.new.stage ≡ stages.Failed) }
+        // After a fault, and past the last part, nothing is read.
         ensures again { self.old.stage ≡ stages.Failed →
             (result ≡ Err BundleFault.Failed) × (self.new ≡ self.old) }
         ensures past { self.old.stage ≡ stages.End → (result ≡ Ok false) × (self.new ≡ self.old) }
@@ -156,16 +161,20 @@ impl<R: Input> Parts<R> {
         requires { self.old.failed < u64.MAX }
         ensures names { self.new.names ≡ self.old.names }
         ensures bound { IfOk result (λ n. n ≤ length buffer.new) }
+        // The bytes that were read move from what is to come to what was read of the part, and the
+        // bundle stays what it is.
         ensures bytes { (text done : List ℕ) → self.old.told ≡ Some text → IfOk result (λ n.
             (later : List ℕ) × (self.new.told ≡ Some later) × (text ≡ take n buffer.new ++ later)
             × (parts_if self.old done text ≡ parts_if self.new (done ++ take n buffer.new) later)) }
         ensures left { IfOk result (λ n. self.old.stage ≡ stages.Part →
             self.new.left + n ≡ self.old.left) }
+        // None are read only into an empty buffer or at the part's end.
         ensures end { IfOk result (λ n. n ≡ 0 → self.old.stage ≡ stages.Part →
             (length buffer.new ≡ 0) ⊎ (self.old.left ≡ 0)) }
         ensures same { IfOk result (λ _. (self.new.stage ≡ self.old.stage)
             × (self.new.name ≡ self.old.name) × (self.new.size ≡ self.old.size)
             × (self.new.parts ≡ self.old.parts)) }
+        // Which fault it is, unless the input failed.
         ensures fault { (text done : List ℕ) → self.old.told ≡ Some text → IfErr result
             (λ fault. fault ≢ BundleFault.Read → parts_if self.old done text ≡ Err fault) }
         ensures failed { OnErr result (self.new.stage ≡ stages.Failed) }

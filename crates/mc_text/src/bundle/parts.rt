@@ -178,6 +178,13 @@ impl<R: Input> Parts<R> {
         ensures fault { (text done : List ℕ) → self.old.told ≡ Some text → IfErr result
             (λ fault. fault ≢ BundleFault.Read → parts_if self.old done text ≡ Err fault) }
         ensures failed { OnErr result (self.new.stage ≡ stages.Failed) }
+        // Where no part is open nothing is read.
+        ensures closed { (self.old.stage ≡ stages.Start) ⊎ (self.old.stage ≡ stages.End) →
+            (result ≡ Ok 0) × (self.new ≡ self.old) }
+        // Nor is it into an empty buffer or at the part's end.
+        ensures nothing { self.old.stage ≡ stages.Part →
+            (length buffer.old ≡ 0) ⊎ (self.old.left ≡ 0) →
+            (result ≡ Ok 0) × (self.new ≡ self.old) }
         ensures again { self.old.stage ≡ stages.Failed →
             (result ≡ Err BundleFault.Failed) × (self.new ≡ self.old) }
         // No more is read than may come, whatever the answer.

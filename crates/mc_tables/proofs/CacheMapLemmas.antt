@@ -2,7 +2,7 @@
 use Rattle.std.proofs.Common.{◌≡◌, ℕ, zero, suc, ◌+◌, ◌<◌, Bool, true, false, cond, List, [], ◌∷◌}
 use Rattle.std.proofs.Common.{◌++◌, length, Option, Some, None, refl, sym, ap, subst, ◌∙◌, inl, inr}
 use Rattle.std.proofs.Common.{arith}
-use Rattle.std.specs.Prelude.{◌||◌, not, is_some, IfSome, slice_get, option_and_then}
+use Rattle.std.specs.Prelude.{◌||◌, is_some, IfSome, slice_get, option_and_then}
 use Rattle.std.specs.Option.{option_map}
 use Rattle.std.specs.List.{list_any, cons_option}
 use Rattle.std.specs.Ordering.{nat_cmp, eq_by_cmp, ordering_then}
@@ -209,27 +209,3 @@ added group groups more answers =
     ((eq_by_cmp_equiv nat_cmp_total).symm group q)
     ∙ ap (λ b. eq_by_cmp nat_cmp q group || b) (is_member q groups)
     ∙ sym (set.contains-insert nat_cmp_total (set.from_list {R = nat_cmp} groups) group q))
-
--- asking for a source and a group finds whether the set has them
-pub key_is_member : (key : ℕ × ℕ) (keys : List (ℕ × ℕ)) →
-    list_any (is_at (key_cmp key)) keys
-    ≡ set.contains (set.from_list {R = key_cmp} keys) key
-key_is_member key keys = sym (set.contains-from_list key_total keys key)
-
--- keys that answer as those before and one more are the set with that one
-pub key_added : (key : ℕ × ℕ) (keys more : List (ℕ × ℕ)) →
-    ((q : ℕ × ℕ) → list_any (is_at (key_cmp q)) more
-    ≡ cond (is_at (key_cmp key) q) true (list_any (is_at (key_cmp q)) keys)) →
-    set.from_list {R = key_cmp} more ≡ set.insert (set.from_list {R = key_cmp} keys) key
-key_added key keys more answers =
-    set.same_set key_total key_antisymmetric _ _ (λ q.
-    sym (key_is_member q more) ∙ answers q
-    ∙ cond_or (is_at (key_cmp key) q) (list_any (is_at (key_cmp q)) keys)
-    ∙ ap (λ b. b || list_any (is_at (key_cmp q)) keys) (key_laws.symm key q)
-    ∙ ap (λ b. eq_by_cmp key_cmp q key || b) (key_is_member q keys)
-    ∙ sym (set.contains-insert key_total (set.from_list {R = key_cmp} keys) key q))
-
--- what is the opposite of a test is its opposite
-pub opposite : (b v : Bool) → v ≡ not b → b ≡ not v
-opposite true v e = ap not (sym e)
-opposite false v e = ap not (sym e)

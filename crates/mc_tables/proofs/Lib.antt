@@ -16,6 +16,8 @@ pub mod CacheLemmas
 pub mod CacheLookupLemmas
 pub mod CacheMapLemmas
 pub mod CacheStepLemmas
+pub mod OtherRowLemmas
+pub mod SortedRowLemmas
 pub mod RowsSoFarLemmas
 pub mod ListedPartLemmas
 pub mod RuleLemmas

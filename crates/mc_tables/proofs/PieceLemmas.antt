@@ -1,5 +1,5 @@
 -- The lines of a text that comes in pieces.
-use Rattle.std.proofs.Common.{◌≡◌, ◌≢◌, ℕ, suc, ◌+◌, ◌<◌, ◌≤◌, true, false, eqb, cond, List, [], ◌∷◌, ◌++◌}
+use Rattle.std.proofs.Common.{◌≡◌, ℕ, suc, ◌+◌, ◌<◌, ◌≤◌, true, false, eqb, cond, List, [], ◌∷◌, ◌++◌}
 use Rattle.std.proofs.Common.{length, take, drop, get_or, Some, None, Result, Ok, Err, refl}
 use Rattle.std.proofs.Common.{sym, ap, ◌∙◌, arith, append_assoc, length-take, inl, inr}
 use Rattle.std.specs.Prelude.{nat_lt, position}
@@ -14,9 +14,8 @@ use Rattle.std.proofs.lemmas.List.Sums.{fails_before_first}
 use Rattle.mc_text.specs.Lines.{LineText, numbered, lines_from}
 use Rattle.mc_tables.specs.declared.fault.TableFault.{TableFault}
 use Rattle.mc_tables.specs.declared.fault.TableFaultKind.{TableFaultKind}
-use Rattle.mc_tables.specs.declared.fault.TableFaultKind.TheVariants.{NoHeader, Unended, TooLarge}
-use Rattle.mc_tables.specs.declared.fault.TableFaultKind.TheVariants.{Memory}
-use Rattle.mc_tables.specs.Steps.{out_of_memory, fault_at}
+use Rattle.mc_tables.specs.declared.fault.TableFaultKind.TheVariants.{TooLarge}
+use Rattle.mc_tables.specs.Steps.{fault_at}
 use Rattle.mc_text.specs.Steps.{◌>>=◌}
 use Rattle.mc_tables.specs.Steps.{at_line}
 use Rattle.mc_tables.specs.TableLines.{header_in}
@@ -130,16 +129,9 @@ first_to_come lines rest more end without found =
 header_steps : {S A : Type 0} (read : S → List LineText → Result A TableFault)
     (state : S) (lines : List LineText) (judged : Result (Unit {0}) TableFaultKind)
     → ((at_line 1 judged >>= λ _. Ok lines) >>= read state)
-    ≡ (at_line 1 (judged >>= λ _. Ok state) >>= λ more. read more lines)
+    ≡ ((at_line 1 judged >>= λ _. Ok state) >>= λ more. read more lines)
 header_steps read state lines (Ok u) = refl
 header_steps read state lines (Err kind) = refl
-
--- a fault at a line, unless memory ran out
-pub fault_said : {S : Type 0} (read : Result S TableFaultKind) (line : ℕ) (kind : TableFaultKind)
-    → (kind ≢ Memory → read ≡ Err kind) → fault_at line kind ≢ out_of_memory
-    → at_line line read ≡ Err (fault_at line kind)
-fault_said read line Memory refused there = absurd (there refl)
-fault_said read line kind refused there = ap (at_line line) (refused (λ is. absurd cc))
 
 -- the line that has begun, by what was answered of it
 pub judged_as : {R : Type 0} (judge : ℕ → LineText → R) (begun now : LinesSoFar) (ended : ℕ)
@@ -161,17 +153,14 @@ empty_is [] none = refl
 empty_is (x ∷ xs) none = absurd (let wrong = eqb-true (length (x ∷ xs)) 0 none in omega arith)
 
 module _ {S A : Type 0} (first : List ℕ) (read : S → List LineText → Result A TableFault)
-    (step : S → LineText → Result S TableFaultKind) (steps : ReadsInSteps read step) where
+    (step : S → LineText → Result S TableFault) (steps : ReadsInSteps read step) where
   -- a line after a state, of which the first is the header
   one_line : (ended : ℕ) (state : S) (line : LineText) (lines : List LineText)
-      → line.number ≡ ended + 1
       → cond (eqb ended 0) (header_in first (line ∷ lines) >>= read state) (read state (line ∷ lines))
-      ≡ (at_line (ended + 1) (line_after first (step state) state ended line) >>= λ new. read new lines)
-  one_line ended state line lines numbered = elim (cases_Bool (eqb ended 0)) [
-    | inl none ↦
-        let zero_is : ended ≡ 0 = eqb-true ended 0 none in
-        rw (none, zero_is) (header_steps read state lines (header_line first line))
-    | inr some ↦ rw (some, ← numbered) (steps.line state line lines)
+      ≡ (line_after first (step state) state ended line >>= λ new. read new lines)
+  one_line ended state line lines = elim (cases_Bool (eqb ended 0)) [
+    | inl none ↦ rw none (header_steps read state lines (header_line first line))
+    | inr some ↦ rw some (steps.line state line lines)
   ]
 
   -- once a line has ended, the others are read
@@ -186,8 +175,8 @@ module _ {S A : Type 0} (first : List ℕ) (read : S → List LineText → Resul
   pub read_line : (lines : LinesSoFar) (state : S) (rest more : List ℕ) (end : ℕ)
       → WithoutLineFeed lines.begun → position (λ b. eqb b 10) rest ≡ Some end
       → read_after first (read state) lines (rest ++ more)
-      ≡ (at_line (lines.ended + 1) (line_after first (step state) state lines.ended
-      (line_begun (with_begun lines (end + 1) (take end rest)))) >>= λ new.
+      ≡ (line_after first (step state) state lines.ended
+      (line_begun (with_begun lines (end + 1) (take end rest))) >>= λ new.
       read_after first (read new) (with_ended (with_begun lines (end + 1) (take end rest)))
       (drop (end + 1) rest ++ more))
   read_line lines state rest more end without found =
@@ -195,52 +184,11 @@ module _ {S A : Type 0} (first : List ℕ) (read : S → List LineText → Resul
       let later = drop (end + 1) rest ++ more in
       ap (λ all. cond (eqb lines.ended 0) (header_in first all >>= read state) (read state all))
       (first_to_come lines rest more end without found)
-      ∙ one_line lines.ended state (line_begun begun) (lines_to_come (with_ended begun) later) refl
-      ∙ bind_same (at_line (lines.ended + 1)
-      (line_after first (step state) state lines.ended (line_begun begun)))
+      ∙ one_line lines.ended state (line_begun begun) (lines_to_come (with_ended begun) later)
+      ∙ bind_same (line_after first (step state) state lines.ended (line_begun begun))
       (λ new. read new (lines_to_come (with_ended begun) later))
       (λ new. read_after first (read new) (with_ended begun) later)
       (λ new. sym (once_ended begun new later))
-
-  -- with no more to come, a line that has begun is one that none ends
-  read_unended : (lines : LinesSoFar) (state : S) → WithoutLineFeed lines.begun
-      → eqb (length lines.begun) 0 ≡ false → read_after first (read state) lines []
-      ≡ Err (record { line = lines.ended + 1; kind = Unended })
-  read_unended lines state without some =
-      let alone = line_alone (lines.ended + 1) lines.begun without some in
-      let line : LineText = record { number = lines.ended + 1; bytes = lines.begun; ended = false } in
-      let unended : line_after first (step state) state lines.ended line ≡ Err Unended =
-      elim (cases_Bool (eqb lines.ended 0)) [
-        | inl none ↦ rw none refl
-        | inr other ↦ rw other (steps.unended state line refl)
-      ] in
-      ap (λ text. cond (eqb lines.ended 0)
-      (header_in first (lines_from (lines.ended + 1) text) >>= read state)
-      (read state (lines_from (lines.ended + 1) text))) (append-nil lines.begun)
-      ∙ ap (λ all. cond (eqb lines.ended 0) (header_in first all >>= read state) (read state all)) alone
-      ∙ one_line lines.ended state line [] refl
-      ∙ ap (λ r. at_line (lines.ended + 1) r >>= λ new. read new []) unended
-
-  -- and where none has begun there is none
-  read_ended : (lines : LinesSoFar) (state : S) → eqb (length lines.begun) 0 ≡ true
-      → read_after first (read state) lines []
-      ≡ cond (eqb lines.ended 0) (Err (record { line = 1; kind = NoHeader })) (read state [])
-  read_ended lines state none =
-      ap (λ text. cond (eqb lines.ended 0)
-      (header_in first (lines_from (lines.ended + 1) text) >>= read state)
-      (read state (lines_from (lines.ended + 1) text)))
-      (append-nil lines.begun ∙ empty_is lines.begun none)
-
-  -- what a text that ends here is read as
-  pub read_end : (lines : LinesSoFar) (state : S) → WithoutLineFeed lines.begun
-      → read_after first (read state) lines [] ≡ (end_of lines >>= λ _. read state [])
-  read_end lines state without = elim (cases_Bool (eqb (length lines.begun) 0)) [
-    | inr some ↦ rw some (read_unended lines state without some)
-    | inl none ↦ elim (cases_Bool (eqb lines.ended 0)) [
-      | inl header ↦ rw (none, header) (rw header at (read_ended lines state none))
-      | inr later ↦ rw (none, later) (rw later at (read_ended lines state none))
-    ]
-  ]
 
   -- a line that was taken
   pub read_taken : (lines : LinesSoFar) (state new : S) (rest more : List ℕ) (end : ℕ)
@@ -253,24 +201,73 @@ module _ {S A : Type 0} (first : List ℕ) (read : S → List LineText → Resul
   read_taken lines state new rest more end without found taken =
       let begun = with_begun lines (end + 1) (take end rest) in
       read_line lines state rest more end without found
-      ∙ ap (λ r. at_line (lines.ended + 1) r >>= λ new.
+      ∙ ap (λ r. r >>= λ new.
       read_after first (read new) (with_ended begun) (drop (end + 1) rest ++ more)) taken
 
   -- a line that was refused
-  pub read_refused : (lines : LinesSoFar) (state : S) (kind : TableFaultKind) (rest more : List ℕ)
+  pub read_refused : (lines : LinesSoFar) (state : S) (fault : TableFault) (rest more : List ℕ)
       (end : ℕ) → WithoutLineFeed lines.begun → position (λ b. eqb b 10) rest ≡ Some end
-      → (kind ≢ Memory → line_after first (step state) state lines.ended
-      (line_begun (with_begun lines (end + 1) (take end rest))) ≡ Err kind)
-      → fault_at (lines.ended + 1) kind ≢ out_of_memory
-      → read_after first (read state) lines (rest ++ more)
-      ≡ Err (fault_at (lines.ended + 1) kind)
-  read_refused lines state kind rest more end without found refused there =
+      → line_after first (step state) state lines.ended
+      (line_begun (with_begun lines (end + 1) (take end rest))) ≡ Err fault
+      → read_after first (read state) lines (rest ++ more) ≡ Err fault
+  read_refused lines state fault rest more end without found refused =
       let begun = with_begun lines (end + 1) (take end rest) in
       read_line lines state rest more end without found
       ∙ ap (λ r. r >>= λ new.
-      read_after first (read new) (with_ended begun) (drop (end + 1) rest ++ more))
-      (fault_said (line_after first (step state) state lines.ended (line_begun begun))
-      (lines.ended + 1) kind refused there)
+      read_after first (read new) (with_ended begun) (drop (end + 1) rest ++ more)) refused
+
+-- ---- the end of a text
+
+-- a line that has begun, which none ends
+abbrev pub last_line : LinesSoFar → LineText
+last_line lines = record { number = lines.ended + 1; bytes = lines.begun; ended = false }
+
+-- where a line has begun, it is the last one
+left_begun : (lines : LinesSoFar) → WithoutLineFeed lines.begun
+    → eqb (length lines.begun) 0 ≡ false → lines_to_come lines [] ≡ last_line lines ∷ []
+left_begun lines without some =
+    ap (lines_from (lines.ended + 1)) (append-nil lines.begun)
+    ∙ line_alone (lines.ended + 1) lines.begun without some
+
+-- and else there is none
+left_none : (lines : LinesSoFar) → eqb (length lines.begun) 0 ≡ true → lines_to_come lines [] ≡ []
+left_none lines none =
+    ap (lines_from (lines.ended + 1)) (append-nil lines.begun ∙ empty_is lines.begun none)
+
+module _ {A : Type 0} (first : List ℕ) (read : List LineText → Result A TableFault) where
+  -- a text that ends in its header
+  pub header_missing : (lines : LinesSoFar) (then : Result A TableFault)
+      → WithoutLineFeed lines.begun → eqb lines.ended 0 ≡ true
+      → read_after first read lines [] ≡ (end_of lines >>= λ _. then)
+  header_missing lines then without none =
+      let zero_is : lines.ended ≡ 0 = eqb-true lines.ended 0 none in
+      elim (cases_Bool (eqb (length lines.begun) 0)) [
+        | inl empty ↦
+            ap (λ all. cond (eqb lines.ended 0) (header_in first all >>= read) (read all))
+            (left_none lines empty)
+            ∙ rw (empty, none) refl
+        | inr begun ↦
+            ap (λ all. cond (eqb lines.ended 0) (header_in first all >>= read) (read all))
+            (left_begun lines without begun)
+            ∙ rw (begun, none, zero_is) refl
+      ]
+
+  -- one that ends in a later line
+  pub ends_in_line : (lines : LinesSoFar) → WithoutLineFeed lines.begun → eqb lines.ended 0 ≡ false
+      → eqb (length lines.begun) 0 ≡ false
+      → read_after first read lines [] ≡ read (last_line lines ∷ [])
+  ends_in_line lines without later begun =
+      ap (λ all. cond (eqb lines.ended 0) (header_in first all >>= read) (read all))
+      (left_begun lines without begun)
+      ∙ rw later refl
+
+  -- and one that ends after a line
+  pub ends_after_line : (lines : LinesSoFar) → eqb lines.ended 0 ≡ false
+      → eqb (length lines.begun) 0 ≡ true → read_after first read lines [] ≡ read []
+  ends_after_line lines later none =
+      ap (λ all. cond (eqb lines.ended 0) (header_in first all >>= read) (read all))
+      (left_none lines none)
+      ∙ rw later refl
 
 -- ---- a text in one piece
 

@@ -1,6 +1,8 @@
 -- A table of vifs whose text comes in pieces.
-use Rattle.std.proofs.Common.{◌≡◌, ℕ, ◌+◌, ◌≤◌, false, List, [], ◌∷◌, ◌++◌, Result, Ok, Err}
-use Rattle.std.proofs.Common.{refl, ap}
+use Rattle.std.proofs.Common.{◌≡◌, ℕ, ◌+◌, ◌≤◌, false, eqb, length, List, [], ◌∷◌, ◌++◌, Result, Ok, Err}
+use Rattle.std.proofs.Common.{refl, ap, ◌∙◌, inl, inr}
+use Rattle.std.specs.Prelude.{codes}
+use Rattle.std.proofs.lemmas.Bool.{cases_Bool}
 use Rattle.std.specs.List.{AllByRecursion, IsDistinct}
 use Rattle.std.specs.FinMap.{from_entries}
 use Rattle.mc_text.specs.Lines.{LineText}
@@ -11,9 +13,10 @@ use Rattle.mc_tables.specs.Steps.{at_line}
 use Rattle.mc_tables.specs.TableLines.{rows_after}
 use Rattle.mc_tables.specs.VifTable.{VifText, AreVifs}
 use Rattle.mc_tables.specs.VifReading.{vif_in_line, vif_at}
-use Rattle.mc_tables.specs.VifsSoFar.{vif_step, vifs_of}
+use Rattle.mc_tables.specs.VifsSoFar.{vif_step, vifs_of, vifs_after}
 use Rattle.mc_tables.proofs.VifLemmas.{reads_vifs, told_to_31}
-use Rattle.mc_tables.specs.LinesSoFar.{ReadsInSteps}
+use Rattle.mc_tables.specs.LinesSoFar.{LinesSoFar, WithoutLineFeed, end_of, ReadsInSteps}
+use Rattle.mc_tables.proofs.PieceLemmas.{last_line, header_missing, ends_in_line, ends_after_line}
 
 -- one line and then the others
 line_first : (n : ℕ) (rows : List (ℕ × VifText)) (lines : List LineText)
@@ -24,18 +27,34 @@ line_first : (n : ℕ) (rows : List (ℕ × VifText)) (lines : List LineText)
 line_first n rows lines (Ok row) = refl
 line_first n rows lines (Err kind) = refl
 
--- a line that none ends is refused
-unended : (rows : List (ℕ × VifText)) (line : LineText) → line.ended ≡ false
-    → vif_step rows line ≡ Err Unended
-unfolding vif_in_line
-unended rows line none = rw none refl
-
 -- the lines are read one after the other
 pub vif_steps : ReadsInSteps vifs_of vif_step
 vif_steps = record {
   line = λ rows line lines. line_first line.number rows lines (vif_in_line rows line);
-  unended = unended;
 }
+
+-- a line that none ends is refused
+unended : (rows : List (ℕ × VifText)) (line : LineText) → line.ended ≡ false
+    → vif_in_line rows line ≡ Err Unended
+unfolding vif_in_line
+unended rows line none = rw none refl
+
+-- what a text that ends here is read as
+pub vifs_end : (lines : LinesSoFar) (rows : List (ℕ × VifText)) → WithoutLineFeed lines.begun
+    → vifs_after lines rows [] ≡ (end_of lines >>= λ _. vifs_of rows [])
+vifs_end lines rows without =
+    elim (cases_Bool (eqb lines.ended 0)) [
+      | inl none ↦ header_missing (codes "Interface") (vifs_of rows) lines (vifs_of rows []) without none
+      | inr later ↦ elim (cases_Bool (eqb (length lines.begun) 0)) [
+        | inl none ↦ ends_after_line (codes "Interface") (vifs_of rows) lines later none
+            ∙ rw (none, later) refl
+        | inr begun ↦ ends_in_line (codes "Interface") (vifs_of rows) lines without later begun
+            ∙ ap (λ r. (at_line (lines.ended + 1) r
+            >>= λ row. rows_after vif_at (rows ++ row ∷ []) []) >>= λ all. Ok (from_entries all))
+            (unended rows (last_line lines) refl)
+            ∙ rw begun refl
+      ]
+    ]
 
 -- the empty list may stand
 pub no_rows : AreVifs []

@@ -13,6 +13,7 @@ pub mod OutgoingSteps
 pub mod CacheSteps
 pub mod CacheNumbers
 pub mod ListedRows
+pub mod OtherRows
 pub mod RowsSoFar
 pub use Rattle.mc_text.specs.Addr
 pub use Rattle.mc_text.specs.AddressReading

@@ -69,14 +69,13 @@ header_line first line =
     demand line.ended Unended >>= λ _. demand (begins_with first (words_of line.bytes)) NoHeader
 
 -- a line is a header where none has ended, and is read by a function otherwise
-abbrev pub line_after : {S : Type 0} → List ℕ → (LineText → Result S TableFaultKind) → S → ℕ
-    → LineText → Result S TableFaultKind
+abbrev pub line_after : {S : Type 0} → List ℕ → (LineText → Result S TableFault) → S → ℕ
+    → LineText → Result S TableFault
 line_after first step state ended line =
-    if ended == 0 then (header_line first line >>= λ _. Ok state) else step line
+    if ended == 0 then (at_line 1 (header_line first line) >>= λ _. Ok state) else step line
 
 -- A function reads the lines after the header from a state on, and another one line after a state.
 pub record ReadsInSteps {S A : Type 0} (read : S → List LineText → Result A TableFault)
-    (step : S → LineText → Result S TableFaultKind) : Type 0 where
+    (step : S → LineText → Result S TableFault) : Type 0 where
   pub line : (state : S) (line : LineText) (lines : List LineText)
-      → read state (line ∷ lines) ≡ (at_line line.number (step state line) >>= λ more. read more lines)
-  pub unended : (state : S) (line : LineText) → line.ended ≡ false → step state line ≡ Err Unended
+      → read state (line ∷ lines) ≡ (step state line >>= λ more. read more lines)

@@ -7,15 +7,18 @@ use Rattle.mc_text.specs.Lines.{LineText}
 use Rattle.mc_tables.specs.declared.fault.TableFault.{TableFault}
 use Rattle.mc_tables.specs.declared.fault.TableFaultKind.{TableFaultKind}
 use Rattle.mc_text.specs.Steps.{◌>>=◌}
-use Rattle.mc_tables.specs.Steps.{unless_fault}
+use Rattle.mc_tables.specs.Steps.{at_line, unless_fault}
 use Rattle.mc_tables.specs.TableLines.{rows_after}
 use Rattle.mc_tables.specs.LinesSoFar.{LinesSoFar, no_lines, read_after}
 use Rattle.mc_tables.specs.VifTable.{VifText}
 use Rattle.mc_tables.specs.VifReading.{vif_in_line, vif_at}
 
 -- one line more
-abbrev pub vif_step : List (ℕ × VifText) → LineText → Result (List (ℕ × VifText)) TableFaultKind
-vif_step rows line = vif_in_line rows line >>= λ row. Ok (rows ++ row ∷ [])
+abbrev pub vif_added : List (ℕ × VifText) → LineText → Result (List (ℕ × VifText)) TableFaultKind
+vif_added rows line = vif_in_line rows line >>= λ row. Ok (rows ++ row ∷ [])
+
+abbrev pub vif_step : List (ℕ × VifText) → LineText → Result (List (ℕ × VifText)) TableFault
+vif_step rows line = at_line line.number (vif_added rows line)
 
 -- the table of these rows and those of the lines after them
 abbrev pub vifs_of : List (ℕ × VifText) → List LineText → Result (FinMap nat_cmp VifText) TableFault

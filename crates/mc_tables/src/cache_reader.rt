@@ -5,8 +5,9 @@ ghost use Rattle.std.specs.Prelude.{Ok, Err, OnOk, IfErr, IfSome};
 ghost use Rattle.mc_text.specs.Lines.{max_text};
 ghost use Rattle.mc_tables.specs.declared.fault.TableFaultKind.TheVariants.{TooLarge};
 ghost use Rattle.mc_tables.specs.Steps.{out_of_memory, fault_at};
+ghost use Rattle.mc_tables.specs.LinesSoFar.{AreLinesSoFar};
 ghost use Rattle.mc_tables.specs.ListedRows.{listed_in};
-ghost use Rattle.mc_tables.specs.RowsSoFar.{no_cache, cache_if};
+ghost use Rattle.mc_tables.specs.RowsSoFar.{no_cache, rows_end, cache_if};
 
 use crate::cache_table::CacheTable;
 use crate::fault::TableFault;
@@ -19,8 +20,9 @@ use std::alloc::Global;
 use std::marker::Model;
 
 /// A reader of `/proc/net/ip_mr_cache` that is fed the text in pieces of any size. It keeps the rows
-/// of listed sources and groups, the groups of rows for every source, and the sources and groups of
-/// the other resolved rows.
+/// of listed sources and groups, the groups of rows for every source, and the source, the group and
+/// the line of each other resolved row, among which it looks for a repeated one once: before it
+/// answers another fault, or where the text ends.
 #[derive(Debug, Drop)]
 pub struct CacheReader {
     lines: PieceLines,
@@ -83,7 +85,9 @@ impl CacheReader {
     /// # Errors
     ///
     /// `TooLarge` at line 0 where the text has more than 16,777,216 bytes now; else the first fault
-    /// of the lines that have ended; or `Memory`. Each later call answers the same.
+    /// of the lines that have ended; or `Memory`. That of a repeated row of a source and a group that
+    /// aren't listed waits for the first other fault, or for `finish`. Each later call answers the
+    /// same.
     #[tactic(auto, using(crate::proofs::RowsSoFarLemmas::row_steps))]
     pub fn feed(&mut self, piece: &[u8]) -> Result<(), TableFault>
         // Whatever bytes come then, reading ends as it would have with this piece before them.
@@ -120,11 +124,29 @@ impl CacheReader {
     pub fn finish(self) -> Result<CacheTable, TableFault>
         ensures { result ≡ cache_if self [] }
     {
-        let CacheReader { lines, rows, fault } = self;
+        let CacheReader {
+            lines,
+            mut rows,
+            fault,
+        } = self;
         if let Some(fault) = fault {
             return Err(fault);
         }
-        lines.check_end()?;
+        check_end(&lines, &mut rows)?;
         Ok(CacheTable::from_rows(rows.into_kept()))
     }
+}
+
+/// Refuses a text that ends here: a row that repeats one, and then its last line.
+fn check_end(lines: &PieceLines, rows: &mut ListedRows) -> Result<(), TableFault>
+    ensures end { result ≡ rows_end lines.now rows.old }
+    ensures table { rows.new.rows.table ≡ rows.old.rows.table }
+    ensures rules { AreLinesSoFar lines.now }
+{
+    // Before the header has ended there are no rows.
+    if lines.ended() == 0 {
+        return lines.check_end();
+    }
+    rows.check_repeats()?;
+    lines.check_end()
 }

@@ -1,12 +1,13 @@
 //! The header of a kernel's table.
 
 ghost use Rattle.std.specs.Prelude.{◌≡◌};
+ghost use Rattle.mc_tables.specs.Steps.{at_line};
 ghost use Rattle.mc_tables.specs.TableLines.{begins_with};
 ghost use Rattle.mc_tables.specs.LinesSoFar.{header_line};
 ghost use Rattle.mc_text.specs.LineView.{line_text};
 ghost use Rattle.mc_text.specs.Lines.{words_of};
 
-use crate::fault::TableFaultKind;
+use crate::fault::{TableFault, TableFaultKind};
 use mc_text::{Line, Words};
 
 /// Whether the line's first word is this one.
@@ -20,14 +21,14 @@ fn line_begins_with(line: &[u8], first: &[u8]) -> bool
 }
 
 /// Refuses a line that isn't the header, whose first word is `first`.
-pub fn check_header(line: &Line<'_>, first: &[u8]) -> Result<(), TableFaultKind>
-    ensures { result ≡ header_line first.now (line_text line.now) }
+pub fn check_header(line: &Line<'_>, first: &[u8]) -> Result<(), TableFault>
+    ensures { result ≡ at_line 1 (header_line first.now (line_text line.now)) }
 {
     if !line.ended {
-        return Err(TableFaultKind::Unended);
+        return Err(TableFaultKind::Unended.at(1));
     }
     if !line_begins_with(line.bytes, first) {
-        return Err(TableFaultKind::NoHeader);
+        return Err(TableFaultKind::NoHeader.at(1));
     }
     Ok(())
 }

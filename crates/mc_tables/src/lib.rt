@@ -13,7 +13,7 @@ mod header;
 mod laws;
 mod listed;
 mod listed_rows;
-mod other_pairs;
+mod other_rows;
 mod outgoing;
 mod piece_lines;
 mod rows;

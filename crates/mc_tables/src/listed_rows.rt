@@ -1,23 +1,26 @@
 //! The rows of a cache, of which those of listed sources and groups are kept.
 
-ghost use Rattle.std.specs.Prelude.{◌≡◌, ◌≢◌, ◌<◌, [], OnOk, IfErr, Ok, Err};
+ghost use Rattle.std.specs.Prelude.{◌≡◌, ◌≢◌, ◌<◌, OnOk, OnErr, IfErr, Ok, Err};
+ghost use Rattle.mc_text.specs.LineView.{line_text};
 ghost use Rattle.mc_tables.specs.declared.fault.TableFaultKind.TheVariants.{Memory};
+ghost use Rattle.mc_tables.specs.CacheTable.{IsCache};
 ghost use Rattle.mc_tables.specs.ListedRows.{is_kept};
-ghost use Rattle.mc_tables.specs.RowsSoFar.{listed_so_far, listed_added};
+ghost use Rattle.mc_tables.specs.OtherRows.{without_repeat};
+ghost use Rattle.mc_tables.specs.RowsSoFar.{no_rows, listed_added, line_added};
 
 use crate::cache_row::CacheRow;
 use crate::cache_rows::CacheRows;
 use crate::cache_table::row_with_room;
-use crate::fault::TableFaultKind;
+use crate::fault::{TableFault, TableFaultKind};
 use crate::header::check_header;
 use crate::listed::Listed;
-use crate::other_pairs::OtherPairs;
+use crate::other_rows::OtherRows;
 use crate::rows::Rows;
 use mc_text::{Line, Order};
 use std::alloc::Global;
 use std::marker::Model;
 
-/// The rows that are kept, the sources and groups of the others, and how many rows there are, of a
+/// The rows that are kept, what finds a repeated one of the others, and how many rows there are, of a
 /// router whose machine has this byte order.
 #[derive(Debug, Drop)]
 pub struct ListedRows {
@@ -25,7 +28,7 @@ pub struct ListedRows {
     order: Order,
     listed: Listed,
     kept: CacheRows,
-    others: OtherPairs,
+    others: OtherRows,
     count: usize,
 }
 
@@ -51,14 +54,14 @@ impl Model for ListedRows {
 impl ListedRows {
     /// No rows.
     pub fn new(alloc: Global, order: Order, listed: Listed) -> ListedRows
-        ensures { result ≡ listed_so_far order listed [] }
+        ensures { result ≡ no_rows order listed }
     {
         ListedRows {
             alloc,
             order,
             listed,
             kept: CacheRows::new(alloc),
-            others: OtherPairs::new(alloc),
+            others: OtherRows::new(alloc),
             count: 0,
         }
     }
@@ -71,20 +74,41 @@ impl ListedRows {
         kept
     }
 
-    /// Adds a row.
-    fn add(&mut self, row: CacheRow) -> Result<(), TableFaultKind>
+    /// Adds the row of a line.
+    fn add(&mut self, row: CacheRow, line: u32) -> Result<(), TableFaultKind>
         requires { self.old.rows.count < 65536 }
-        ensures added { OnOk result (listed_added self.old row ≡ Ok self.new) }
+        ensures added { OnOk result (listed_added self.old row line ≡ Ok self.new) }
         ensures fault { IfErr result (λ fault. fault ≢ Memory →
-            listed_added self.old row ≡ Err fault) }
+            listed_added self.old row line ≡ Err fault) }
+        ensures others { OnErr result (self.new.rows.others ≡ self.old.rows.others) }
     {
         if is_kept(&self.listed, &row) {
             self.kept.add(row)?;
         } else {
-            self.others.add(row.origin, row.group)?;
+            self.others.add(row.origin, row.group, line)?;
         }
         self.count += 1;
         Ok(())
+    }
+
+    /// Reads the row of a line and adds it.
+    fn add_row(&mut self, line: &Line<'_>) -> Result<(), TableFaultKind>
+        ensures added { OnOk result (line_added self.old (line_text line.now) ≡ Ok self.new) }
+        ensures fault { IfErr result (λ fault. fault ≢ Memory →
+            line_added self.old (line_text line.now) ≡ Err fault) }
+        ensures others { OnErr result (self.new.rows.others ≡ self.old.rows.others) }
+        ensures stand { OnOk result (IsCache self.old.rows.table → IsCache self.new.rows.table) }
+    {
+        let row = row_with_room(self.alloc, self.count, line, self.order)?;
+        self.add(row, line.number)
+    }
+
+    /// Refuses rows of which one isn't kept and has the source and the group of an earlier line's.
+    pub fn check_repeats(&mut self) -> Result<(), TableFault>
+        ensures repeats { result ≡ without_repeat self.old.rows.others }
+        ensures table { self.new.rows.table ≡ self.old.rows.table }
+    {
+        self.others.check_repeats()
     }
 }
 
@@ -103,12 +127,18 @@ impl Rows for ListedRows {
 
     ghost stand = { λ so_far. IsCache so_far.rows.table };
 
-    fn add_line(&mut self, ended: u32, line: &Line<'_>) -> Result<(), TableFaultKind> {
+    fn add_line(&mut self, ended: u32, line: &Line<'_>) -> Result<(), TableFault> {
         if ended == 0 {
             return check_header(line, b"Group");
         }
-        let row = row_with_room(self.alloc, self.count, line, self.order)?;
-        self.add(row)
+        match self.add_row(line) {
+            Ok(()) => Ok(()),
+            Err(TableFaultKind::Memory) => Err(TableFaultKind::Memory.at(0)),
+            Err(kind) => {
+                self.check_repeats()?;
+                Err(kind.at(line.number))
+            }
+        }
     }
 }
 

@@ -47,6 +47,7 @@ impl PieceLines {
     pub fn ended(&self) -> u32
         ensures ended { result ≡ self.now.ended }
         ensures fits { result ≤ max_text }
+        ensures rules { AreLinesSoFar self.now }
     {
         self.ended
     }

@@ -5,8 +5,7 @@ ghost use Rattle.std.specs.Prelude.{Result, Ok, Err, OnOk, IfOk, IfErr, IfSome};
 ghost use Rattle.mc_text.specs.LineView.{line_text};
 ghost use Rattle.mc_text.specs.Lines.{LineText, max_text};
 ghost use Rattle.mc_tables.specs.declared.fault.TableFault.{TableFault};
-ghost use Rattle.mc_tables.specs.declared.fault.TableFaultKind.{TableFaultKind};
-ghost use Rattle.mc_tables.specs.declared.fault.TableFaultKind.TheVariants.{Memory, TooLarge};
+ghost use Rattle.mc_tables.specs.declared.fault.TableFaultKind.TheVariants.{TooLarge};
 ghost use Rattle.mc_tables.specs.Steps.{out_of_memory, fault_at};
 ghost use Rattle.mc_tables.specs.LinesSoFar.{read_after, line_after, ReadsInSteps};
 
@@ -22,8 +21,8 @@ pub trait Rows {
     // the first word of its header
     ghost header: { List ℕ };
 
-    // the row of a line more
-    ghost step: { Self → LineText → Result Self TableFaultKind };
+    // the row of a line more, or the first fault
+    ghost step: { Self → LineText → Result Self TableFault };
 
     // the table of these rows and those of the lines after them
     ghost table: { Self → List LineText → Result Table TableFault };
@@ -33,10 +32,10 @@ pub trait Rows {
 
     /// Adds the row of a line after so many lines, the first of which is the header. After an error
     /// the rows are of no use.
-    fn add_line(&mut self, ended: u32, line: &Line<'_>) -> Result<(), TableFaultKind>
+    fn add_line(&mut self, ended: u32, line: &Line<'_>) -> Result<(), TableFault>
         ensures added { OnOk result
             (line_after header (step self.old) self.old ended (line_text line.now) ≡ Ok self.new) }
-        ensures fault { IfErr result (λ fault. fault ≢ Memory →
+        ensures fault { IfErr result (λ fault. fault ≢ out_of_memory →
             line_after header (step self.old) self.old ended (line_text line.now) ≡ Err fault) }
         ensures stand { OnOk result (stand self.old → stand self.new) };
 }
@@ -95,12 +94,7 @@ fn read_up_to_end<R: Rows>(
     let Some(end) = lines.take_up_to_end(rest)? else {
         return Ok(None);
     };
-    let ended = lines.ended();
-    match rows.add_line(ended, &lines.line()) {
-        Ok(()) => {
-            lines.end_line();
-            Ok(Some(end))
-        }
-        Err(kind) => Err(kind.at(ended + 1)),
-    }
+    rows.add_line(lines.ended(), &lines.line())?;
+    lines.end_line();
+    Ok(Some(end))
 }

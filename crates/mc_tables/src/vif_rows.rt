@@ -1,8 +1,12 @@
 //! The rows of a table of vifs.
 
-ghost use Rattle.std.specs.Prelude.{◌≡◌, []};
+ghost use Rattle.std.specs.Prelude.{◌≡◌, ◌≢◌, [], OnOk, IfErr, Ok, Err};
+ghost use Rattle.mc_text.specs.LineView.{line_text};
+ghost use Rattle.mc_tables.specs.declared.fault.TableFaultKind.TheVariants.{Memory};
+ghost use Rattle.mc_tables.specs.VifTable.{AreVifs};
+ghost use Rattle.mc_tables.specs.VifsSoFar.{vif_added};
 
-use crate::fault::TableFaultKind;
+use crate::fault::{TableFault, TableFaultKind};
 use crate::header::check_header;
 use crate::rows::Rows;
 use crate::vif_row::VifRow;
@@ -36,6 +40,18 @@ impl VifRows {
         }
     }
 
+    /// Adds the row of a line.
+    fn add_row(&mut self, line: &Line<'_>) -> Result<(), TableFaultKind>
+        ensures added { OnOk result (vif_added self.old (line_text line.now) ≡ Ok self.new) }
+        ensures fault { IfErr result (λ fault. fault ≢ Memory →
+            vif_added self.old (line_text line.now) ≡ Err fault) }
+        ensures stand { OnOk result (AreVifs self.old → AreVifs self.new) }
+    {
+        let row = new_vif(self.vifs.as_slice(), line)?;
+        self.vifs.push(row)?;
+        Ok(())
+    }
+
     /// The rows.
     pub fn into_vec(self) -> Vec<VifRow>
         ensures { result.items ≡ self }
@@ -62,12 +78,13 @@ impl Rows for VifRows {
 
     ghost stand = { AreVifs };
 
-    fn add_line(&mut self, ended: u32, line: &Line<'_>) -> Result<(), TableFaultKind> {
+    fn add_line(&mut self, ended: u32, line: &Line<'_>) -> Result<(), TableFault> {
         if ended == 0 {
             return check_header(line, b"Interface");
         }
-        let row = new_vif(self.vifs.as_slice(), line)?;
-        self.vifs.push(row)?;
-        Ok(())
+        match self.add_row(line) {
+            Ok(()) => Ok(()),
+            Err(kind) => Err(kind.at(line.number)),
+        }
     }
 }

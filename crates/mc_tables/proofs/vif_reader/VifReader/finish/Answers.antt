@@ -1,11 +1,9 @@
 use Rattle.std.proofs.Common.{Ok, [], sym, ◌∙◌, ap}
 use Rattle.std.proofs.lemmas.Result.{err_from_is_err_and}
-use Rattle.std.specs.Prelude.{codes}
 use Rattle.mc_text.specs.Steps.{◌>>=◌}
 use Rattle.mc_tables.specs.Steps.{unless_fault}
-use Rattle.mc_tables.specs.VifsSoFar.{VifsSoFar, vif_step, vifs_of, vifs_after, vifs_if}
-use Rattle.mc_tables.proofs.PieceLemmas.{read_end}
-use Rattle.mc_tables.proofs.VifPieceLemmas.{vif_steps}
+use Rattle.mc_tables.specs.VifsSoFar.{VifsSoFar, vifs_of, vifs_after, vifs_if}
+use Rattle.mc_tables.proofs.VifPieceLemmas.{vifs_end}
 use Rattle.mc_tables.proofs.vif_reader.VifReader.finish.Goals as goal
 
 pub returns-in_err-check_end : goal.returns-in_err-check_end
@@ -15,8 +13,7 @@ returns-in_err-check_end c =
     let p = err_from_is_err_and c.from_residual.result c.from_residual.ensures.1 in
     rw (p.1, p.2) (
     ap (λ r. r >>= λ _. vifs_of rows []) c.in_err-check_end.ensures.end
-    ∙ sym (read_end (codes "Interface") vifs_of vif_step vif_steps lines rows
-    c.check_end.ensures.rules.begun)
+    ∙ sym (vifs_end lines rows c.check_end.ensures.rules.begun)
     ∙ ap (λ fault. unless_fault fault (vifs_after lines rows [])) (sym c.in_default.is)
     ∙ ap (λ (s : VifsSoFar). vifs_if s []) c.self.view_is
     )
@@ -27,7 +24,6 @@ returns c =
     let rows = c.self.inside.rows in
     ap Ok c.from_rows.ensures
     ∙ ap (λ r. r >>= λ _. vifs_of rows []) c.in_ok-check_end.ensures.end
-    ∙ sym (read_end (codes "Interface") vifs_of vif_step vif_steps lines rows
-    c.check_end.ensures.rules.begun)
+    ∙ sym (vifs_end lines rows c.check_end.ensures.rules.begun)
     ∙ ap (λ fault. unless_fault fault (vifs_after lines rows [])) (sym c.in_default.is)
     ∙ ap (λ (s : VifsSoFar). vifs_if s []) c.self.view_is

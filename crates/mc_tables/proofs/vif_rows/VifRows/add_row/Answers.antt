@@ -2,7 +2,7 @@ use Rattle.std.proofs.Common.{sym, subst}
 use Rattle.mc_text.specs.LineView.{line_text}
 use Rattle.mc_tables.specs.VifTable.{AreVifs}
 use Rattle.mc_tables.proofs.VifPieceLemmas.{row_keeps}
-use Rattle.mc_tables.proofs.vif_rows.VifRowsRows.add_line.Goals as goal
+use Rattle.mc_tables.proofs.vif_rows.VifRows.add_row.Goals as goal
 
 pub returns-clause-stand : goal.returns-clause-stand
 returns-clause-stand c = λ stand.

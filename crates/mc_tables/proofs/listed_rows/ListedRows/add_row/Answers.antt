@@ -4,7 +4,7 @@ use Rattle.mc_tables.specs.CacheSteps.{row_with_room}
 use Rattle.mc_tables.specs.RowsSoFar.{ListedSoFar}
 use Rattle.mc_text.proofs.StepLemmas.{on_ok}
 use Rattle.mc_tables.proofs.RowsSoFarLemmas.{row_keeps}
-use Rattle.mc_tables.proofs.listed_rows.ListedRowsRows.add_line.Goals as goal
+use Rattle.mc_tables.proofs.listed_rows.ListedRows.add_row.Goals as goal
 
 pub returns-clause-stand : goal.returns-clause-stand
 returns-clause-stand c =

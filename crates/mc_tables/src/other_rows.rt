@@ -1,0 +1,93 @@
+//! The rows of a cache that are not kept, by what finds a repeated one.
+
+ghost use Rattle.std.specs.Prelude.{◌≡◌, [], ◌∷◌, ◌++◌, OnOk, OnErr, IfErr};
+ghost use Rattle.std.specs.List.Sorted.{IsSorted};
+ghost use Rattle.mc_tables.specs.declared.fault.TableFaultKind.TheVariants.{Memory};
+ghost use Rattle.mc_tables.specs.OtherRows.{row_cmp, repeats, lesser, first_repeat, without_repeat};
+
+use crate::fault::{TableFault, TableFaultKind};
+use mc_text::Addr;
+use std::alloc::Global;
+use std::marker::Model;
+
+/// A row's source and group, and its line.
+type OtherRow = ((Addr, Addr), u32);
+
+/// Rows by what finds a repeated one, in the order of their lines until they are looked through.
+#[derive(Debug, Drop)]
+pub struct OtherRows {
+    rows: Vec<OtherRow>,
+}
+
+impl Model for OtherRows {
+    ghost use Rattle.std.specs.Prelude.{List};
+    ghost use Rattle.mc_tables.specs.OtherRows.{OtherRow};
+
+    ghost Value = { List OtherRow };
+
+    ghost view = { λ s. s.rows.items };
+}
+
+impl OtherRows {
+    /// None.
+    pub fn new(alloc: Global) -> OtherRows
+        ensures { result ≡ [] }
+    {
+        OtherRows {
+            rows: Vec::new(alloc),
+        }
+    }
+
+    /// Adds one.
+    pub fn add(&mut self, source: Addr, group: Addr, line: u32) -> Result<(), TableFaultKind>
+        ensures added { OnOk result (self.new ≡ self.old ++ ((source, group), line) ∷ []) }
+        ensures fault { IfErr result (λ fault. fault ≡ Memory) }
+        ensures err { OnErr result (self.new ≡ self.old) }
+    {
+        self.rows.push(((source, group), line))?;
+        Ok(())
+    }
+
+    /// Refuses rows of which one has the source and the group of an earlier line's.
+    pub fn check_repeats(&mut self) -> Result<(), TableFault>
+        ensures { result ≡ without_repeat self.old }
+    {
+        self.rows.sort_unstable();
+        match first_of_sorted(self.rows.as_slice()) {
+            Some(line) => Err(TableFaultKind::RepeatedEntry.at(line)),
+            None => Ok(()),
+        }
+    }
+}
+
+/// The first line whose row repeats an earlier one, where the rows stand by source and group, and then
+/// by line.
+fn first_of_sorted(rows: &[OtherRow]) -> Option<u32>
+    requires { IsSorted row_cmp rows.now }
+    ensures { result ≡ first_repeat rows.now }
+{
+    let mut first = None;
+    for i in 1..rows.len() {
+        if repeats(&rows[i], &rows[i - 1]) {
+            first = Some(lesser(rows[i].1, first));
+        }
+    }
+    first
+}
+
+/// Whether a row has the source and the group of one of an earlier line.
+fn repeats(row: &OtherRow, earlier: &OtherRow) -> bool
+    ensures { result ≡ repeats row.now earlier.now }
+{
+    earlier.0 == row.0 && earlier.1 < row.1
+}
+
+/// The lesser of a line and of one that may be there.
+fn lesser(line: u32, other: Option<u32>) -> u32
+    ensures { result ≡ lesser line other }
+{
+    match other {
+        Some(other) if other < line => other,
+        _ => line,
+    }
+}

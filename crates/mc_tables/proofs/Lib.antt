@@ -18,7 +18,10 @@ pub mod CacheMapLemmas
 pub mod CacheStepLemmas
 pub mod OtherRowLemmas
 pub mod SortedRowLemmas
+pub mod ListedLemmas
+pub mod KeptRowLemmas
 pub mod RowsSoFarLemmas
+pub mod RowRuleLemmas
 pub mod ListedPartLemmas
 pub mod RuleLemmas
 pub mod LawLemmas

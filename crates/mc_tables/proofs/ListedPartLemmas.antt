@@ -19,7 +19,7 @@ use Rattle.mc_tables.specs.ListedRows.{Listed, is_listed, is_kept_key, is_kept, 
 use Rattle.mc_tables.specs.ListedRows.{IsListedPart}
 use Rattle.mc_text.proofs.StepLemmas.{bind_ok, ok_is}
 use Rattle.mc_tables.proofs.CacheLemmas.{key_total}
-use Rattle.mc_tables.proofs.RowsSoFarLemmas.{differ}
+use Rattle.mc_tables.proofs.KeptRowLemmas.{differ}
 
 -- ---- entries
 

@@ -101,7 +101,7 @@ unfolding first_repeat
 repeat_within rows most = least_line (is_repeat rows) rows most
 
 -- what passes one of two equal tests passes the other
-any_same : {X : Type 0} (p q : X → Bool) (xs : List X) → ((x : X) → p x ≡ q x)
+pub any_same : {X : Type 0} (p q : X → Bool) (xs : List X) → ((x : X) → p x ≡ q x)
     → list_any p xs ≡ list_any q xs
 any_same p q [] same = refl
 any_same p q (x ∷ xs) same =

@@ -2,12 +2,8 @@
 use Rattle.std.proofs.Common.{◌≡◌, ℕ, ◌+◌, ◌≤◌, Bool, true, false, cond, eqb, List, [], ◌∷◌, ◌++◌}
 use Rattle.std.proofs.Common.{length, arith, Option, Some, None, Result, Ok, Err, refl, sym, ap, subst}
 use Rattle.std.proofs.Common.{◌∙◌, inl, inr}
-use Rattle.std.specs.Prelude.{◌⊎◌, nat_lt, not, filter, map, codes, IfSome}
+use Rattle.std.specs.Prelude.{◌⊎◌, nat_lt, not, filter, map, codes}
 use Rattle.std.specs.List.{filter_map, cons_option, list_any, slice_split}
-use Rattle.std.specs.Option.{option_map}
-use Rattle.std.specs.FinMap as fin
-use Rattle.std.specs.FinSet as set
-use Rattle.std.specs.Ordering.{nat_cmp}
 use Rattle.std.proofs.lemmas.Bool.{cases_Bool, le-ltb}
 use Rattle.std.proofs.lemmas.Bool.Decides.{nat_tests}
 use Rattle.std.proofs.lemmas.List.{append-nil, length-append, map-append}
@@ -15,7 +11,6 @@ use Rattle.std.proofs.lemmas.List.Elements.{filter-append, filter_map-append}
 use Rattle.mc_text.specs.declared.text.addr.Order.{Order}
 use Rattle.mc_text.specs.Lines.{LineText, numbered, lines_of}
 use Rattle.mc_text.specs.Lines.{words_of}
-use Rattle.mc_tables.specs.declared.entry.Entry.{Entry}
 use Rattle.mc_tables.specs.declared.fault.TableFault.{TableFault}
 use Rattle.mc_tables.specs.declared.fault.TableFaultKind.{TableFaultKind}
 use Rattle.mc_tables.specs.declared.fault.TableFaultKind.TheVariants.{Unended, RepeatedEntry}
@@ -24,119 +19,24 @@ use Rattle.mc_text.specs.Steps.{◌>>=◌}
 use Rattle.mc_tables.specs.Steps.{demand, at_line}
 use Rattle.mc_tables.specs.TableLines.{is_among, header_in, rows_after}
 use Rattle.mc_tables.specs.LinesSoFar.{LinesSoFar, WithoutLineFeed, header_line, ReadsInSteps}
-use Rattle.mc_tables.specs.CacheTable.{RowText, CacheText, IsEntry, IsCache, key_cmp, same_key}
-use Rattle.mc_tables.specs.CacheTable.{exact_entry, key_of, wildcard_of, table_of}
+use Rattle.mc_tables.specs.CacheTable.{RowText, CacheText, same_key}
+use Rattle.mc_tables.specs.CacheTable.{key_of, table_of}
 use Rattle.mc_tables.specs.CacheReading.{row_in_words, entry_repeats, row_in_line, row_at}
 use Rattle.mc_tables.specs.CacheReading.{cache_rows_in, cache_in}
-use Rattle.mc_tables.specs.CacheSteps.{row_with_room, row_added, has_key, with_exact}
-use Rattle.mc_tables.specs.CacheSteps.{with_number, with_wildcard}
-use Rattle.mc_tables.specs.ListedRows.{Listed, is_listed, is_kept_key, is_kept, kept_rows, listed_in}
+use Rattle.mc_tables.specs.CacheSteps.{row_with_room, row_added}
+use Rattle.mc_tables.specs.ListedRows.{Listed, is_kept_key, is_kept, kept_rows, listed_in}
+use Rattle.mc_tables.specs.ListedRows.{listed_set, is_kept_by}
 use Rattle.mc_tables.specs.OtherRows.{OtherRow, first_repeat, repeat_fault}
 use Rattle.mc_tables.specs.RowsSoFar.{RowsSoFar, other_added, kept_added, one_added, ListedSoFar}
 use Rattle.mc_tables.specs.RowsSoFar.{no_rows, listed_added, line_added, first_fault, row_step}
 use Rattle.mc_tables.specs.RowsSoFar.{table_from, cache_after, rows_end, no_cache, cache_if}
 use Rattle.mc_text.proofs.StepLemmas.{bind_ok, ok_is}
-use Rattle.mc_tables.proofs.StepLemmas.{demand_then}
-use Rattle.mc_tables.proofs.CacheLemmas.{key_total, row_words_found}
-use Rattle.mc_tables.proofs.CacheLookupLemmas.{zero_apart}
 use Rattle.mc_tables.proofs.CacheStepLemmas.{row_follows}
-use Rattle.mc_tables.proofs.EntryLemmas.{row_stands}
-use Rattle.mc_tables.proofs.OtherRowLemmas.{same_is, no_repeat, AreBefore, before_next, before_more}
+use Rattle.mc_tables.proofs.ListedLemmas.{kept_same}
+use Rattle.mc_tables.proofs.OtherRowLemmas.{no_repeat, AreBefore, before_next, before_more}
 use Rattle.mc_tables.proofs.OtherRowLemmas.{repeat_stays, repeat_begins}
 use Rattle.mc_tables.proofs.PieceLemmas.{header_missing, ends_in_line, ends_after_line}
-use Rattle.mc_tables.proofs.RuleLemmas.{cache_rules}
-
--- ---- sources and groups
-
--- no test is its opposite
-no_opposite : (b : Bool) → b ≡ not b → ⊥
-no_opposite true e = cc
-no_opposite false e = cc
-
--- of two of which one alone is listed, each is another
-pub differ : (listed : Listed) (x y : ℕ × ℕ) (b : Bool) → is_listed listed x ≡ b
-    → is_listed listed y ≡ not b → same_key x y ≡ false
-differ listed x y b of_x of_y =
-    elim (cases_Bool (same_key x y)) [
-      | inr other ↦ other
-      | inl same ↦
-          let one = ap (is_listed listed) (same_is x y same) in
-          let wrong : b ≡ not b = sym of_x ∙ one ∙ of_y in
-          absurd (no_opposite b wrong)
-    ]
-
--- ---- the rows that are kept, and the others
-
--- the sources and groups of the others
-abbrev other_keys : Listed → List RowText → List (ℕ × ℕ)
-other_keys listed rows = filter_map key_of (filter (λ row. not (is_kept listed row)) rows)
-
--- one row more to look for a listed source and group in
-kept_step : (listed : Listed) (key : ℕ × ℕ) (row : RowText) (kept rows : List RowText)
-    (own : Option (ℕ × ℕ)) → key_of row ≡ own → is_listed listed key ≡ true
-    → list_any (same_key key) (filter_map key_of kept)
-    ≡ list_any (same_key key) (filter_map key_of rows)
-    → list_any (same_key key) (filter_map key_of (cond (is_kept_key listed own) (row ∷ kept) kept))
-    ≡ list_any (same_key key) (cons_option own (filter_map key_of rows))
-kept_step listed key row kept rows None own is rest = rw own rest
-kept_step listed key row kept rows (Some other) own is rest =
-    elim (cases_Bool (is_listed listed other)) [
-      | inl has ↦ rw (has, own, rest) refl
-      | inr none ↦ rw (none, differ listed key other true is none) rest
-    ]
-
--- a source and a group that are listed are among the rows' where they are among those of the rows
--- that are kept
-kept_among : (listed : Listed) (key : ℕ × ℕ) (rows : List RowText) → is_listed listed key ≡ true
-    → list_any (same_key key) (filter_map key_of (kept_rows listed rows))
-    ≡ list_any (same_key key) (filter_map key_of rows)
-kept_among listed key [] is = refl
-kept_among listed key (row ∷ rows) is =
-    kept_step listed key row (kept_rows listed rows) rows (key_of row) refl is
-    (kept_among listed key rows is)
-
--- one row more to look for another source and group in
-other_step : (listed : Listed) (key : ℕ × ℕ) (row : RowText) (others rows : List RowText)
-    (own : Option (ℕ × ℕ)) → key_of row ≡ own → is_listed listed key ≡ false
-    → list_any (same_key key) (filter_map key_of others)
-    ≡ list_any (same_key key) (filter_map key_of rows)
-    → list_any (same_key key)
-    (filter_map key_of (cond (not (is_kept_key listed own)) (row ∷ others) others))
-    ≡ list_any (same_key key) (cons_option own (filter_map key_of rows))
-other_step listed key row others rows None own is rest = rest
-other_step listed key row others rows (Some other) own is rest =
-    elim (cases_Bool (is_listed listed other)) [
-      | inl has ↦ rw (has, differ listed key other false is has) rest
-      | inr none ↦ rw (none, own, rest) refl
-    ]
-
--- and others where they are among those of the others
-other_among : (listed : Listed) (key : ℕ × ℕ) (rows : List RowText) → is_listed listed key ≡ false
-    → list_any (same_key key) (other_keys listed rows)
-    ≡ list_any (same_key key) (filter_map key_of rows)
-other_among listed key [] is = refl
-other_among listed key (row ∷ rows) is =
-    other_step listed key row (filter (λ r. not (is_kept listed r)) rows) rows (key_of row) refl is
-    (other_among listed key rows is)
-
--- a row that is kept repeats an earlier one where it repeats one that is kept
-kept_repeats : (listed : Listed) (rows : List RowText) (own : Option (ℕ × ℕ))
-    → is_kept_key listed own ≡ true
-    → is_among same_key own (filter_map key_of (kept_rows listed rows))
-    ≡ is_among same_key own (filter_map key_of rows)
-kept_repeats listed rows None is = refl
-kept_repeats listed rows (Some key) is = kept_among listed key rows is
-
--- a row that isn't kept has a source and a group
-other_key : (listed : Listed) (row : RowText) (b : Bool) (entry : Option Entry)
-    → is_kept_key listed (option_map (λ (exact : (ℕ × ℕ) × Entry). exact.0)
-    (cond b None (option_map (λ e. ((row.origin, row.group), e)) entry))) ≡ false
-    → (option_map (λ (exact : (ℕ × ℕ) × Entry). exact.0)
-    (cond b None (option_map (λ e. ((row.origin, row.group), e)) entry))
-    ≡ Some (row.origin, row.group)) × (is_listed listed (row.origin, row.group) ≡ false)
-other_key listed row true entry e = absurd cc
-other_key listed row false None e = absurd cc
-other_key listed row false (Some entry) e = (refl, e)
+use Rattle.mc_tables.proofs.KeptRowLemmas.{kept_repeats, other_among, other_key, other_keys}
 
 -- ---- row by row
 
@@ -206,7 +106,7 @@ numbered_from n (part ∷ next ∷ parts) = (refl, numbered_from (n + 1) (next �
 abbrev so_far_of : Order → Listed → List RowText → List OtherRow → ListedSoFar
 so_far_of order listed rows others = record {
   order = order;
-  listed = listed;
+  listed = listed_set listed;
   rows = record { table = table_of (kept_rows listed rows); others = others; count = length rows };
 }
 
@@ -228,7 +128,7 @@ others_grow so_far new line added =
     let one = bind_ok (one_added so_far.listed rows row line.number) (λ r. Ok (make r)) new read.2 in
     let is : one.0 ≡ new.rows =
     ap (λ (s : ListedSoFar). s.rows) (ok_is {E = TableFaultKind} (make one.0) new one.2) in
-    elim (cases_Bool (is_kept so_far.listed row)) [
+    elim (cases_Bool (is_kept_by so_far.listed row)) [
       | inl kept ↦
           let grown : kept_added rows row ≡ Ok one.0 =
           sym (ap (λ b. cond b (kept_added rows row) (Ok (other_added rows key line.number))) kept)
@@ -314,12 +214,14 @@ module _ (order : Order) (listed : Listed) (lines : List LineText) (n : ℕ) (ro
       kept_repeats listed rows (key_of row) kept in
       let with : CacheText → RowsSoFar = λ t.
       record { table = t; others = others; count = length rows + 1 } in
-      let make : RowsSoFar → ListedSoFar = λ r. record { order = order; listed = listed; rows = r } in
+      let make : RowsSoFar → ListedSoFar = λ r.
+      record { order = order; listed = listed_set listed; rows = r } in
       let grown : listed_added so_far row n
       ≡ ((demand (not (entry_repeats rows row)) RepeatedEntry
       >>= λ _. Ok (with (table_of (kept_rows listed rows ++ row ∷ [])))) >>= λ r. Ok (make r)) =
       ap (λ b. cond b (kept_added so_far.rows row)
-      (Ok (other_added so_far.rows (row.origin, row.group) n)) >>= λ r. Ok (make r)) kept
+      (Ok (other_added so_far.rows (row.origin, row.group) n)) >>= λ r. Ok (make r))
+      (kept_same listed row ∙ kept)
       ∙ ap (λ r. (r >>= λ t. Ok (with t)) >>= λ r. Ok (make r)) (row_follows (kept_rows listed rows) row)
       ∙ ap (λ b. ((demand (not b) RepeatedEntry
       >>= λ _. Ok (table_of (kept_rows listed rows ++ row ∷ []))) >>= λ t. Ok (with t))
@@ -356,10 +258,11 @@ module _ (order : Order) (listed : Listed) (lines : List LineText) (n : ℕ) (ro
       let so_far = so_far_of order listed rows others in
       let own = other_key listed row (eqb row.origin 0) row.entry other in
       let new = others ++ (key, n) ∷ [] in
-      let make : RowsSoFar → ListedSoFar = λ r. record { order = order; listed = listed; rows = r } in
+      let make : RowsSoFar → ListedSoFar = λ r.
+      record { order = order; listed = listed_set listed; rows = r } in
       let grown : listed_added so_far row n ≡ Ok (make (other_added so_far.rows key n)) =
       ap (λ b. cond b (kept_added so_far.rows row) (Ok (other_added so_far.rows key n))
-      >>= λ r. Ok (make r)) other in
+      >>= λ r. Ok (make r)) (kept_same listed row ∙ other) in
       let whole : make (other_added so_far.rows key n)
       ≡ so_far_of order listed (rows ++ row ∷ []) new =
       ap (λ k. make (record { table = table_of k; others = new; count = length rows + 1 }))
@@ -450,13 +353,13 @@ row_steps = record { line = λ so_far line lines. refl }
 
 -- the lines after the header
 after_header : (order : Order) (listed : Listed) (lines : List LineText) → AreFrom 1 lines
-    → (header_in (codes "Group") lines >>= table_from (no_rows order listed))
+    → (header_in (codes "Group") lines >>= table_from (no_rows order (listed_set listed)))
     ≡ ((header_in (codes "Group") lines >>= rows_after (row_at order) [])
     >>= λ all. Ok (table_of (kept_rows listed all)))
 after_header order listed [] numbered = refl
 after_header order listed (header ∷ lines) numbered =
     elim (header_line (codes "Group") header) as (λ r.
-    ((at_line 1 r >>= λ _. Ok lines) >>= table_from (no_rows order listed))
+    ((at_line 1 r >>= λ _. Ok lines) >>= table_from (no_rows order (listed_set listed)))
     ≡ (((at_line 1 r >>= λ _. Ok lines) >>= rows_after (row_at order) [])
     >>= λ all. Ok (table_of (kept_rows listed all)))) [
       | Err kind ↦ refl
@@ -526,107 +429,3 @@ kept_all (Ok rows) = ap (λ all. Ok (table_of all)) (all_kept rows)
 
 pub all_listed : (order : Order) (text : List ℕ) → listed_in order None text ≡ cache_in order text
 all_listed order text = kept_all (cache_rows_in order text)
-
--- ---- what every table keeps
-
--- an entry that is one, if it is for a source, may be added
-exact_keeps : (entries : fin.FinMap key_cmp Entry) (source group : ℕ) (entry : Entry)
-    → eqb source 0 ≡ false → IsEntry entry
-    → ((key : ℕ × ℕ) → IfSome (fin.get entries key) IsEntry)
-    → ((other : ℕ) → fin.get entries (0, other) ≡ None)
-    → ((key : ℕ × ℕ) → IfSome (fin.get (fin.insert entries (source, group) entry) key) IsEntry)
-    × ((other : ℕ) → fin.get (fin.insert entries (source, group) entry) (0, other) ≡ None)
-exact_keeps entries source group entry apart stands all none = (
-  λ key. subst (λ (o : Option Entry). IfSome o IsEntry)
-      (sym (fin.get-insert key_total entries (source, group) entry key))
-      (elim (same_key key (source, group)) as
-      (λ b. IfSome (cond b (Some entry) (fin.get entries key)) IsEntry) [
-        | true ↦ stands
-        | false ↦ all key
-      ]),
-  λ other. fin.get-insert key_total entries (source, group) entry (0, other)
-      ∙ ap (λ b. cond b (Some entry) (fin.get entries (0, other))) (zero_apart other source group apart)
-      ∙ none other,
-)
-
--- and so may a row's
-entry_keeps : (table : CacheText) (source group : ℕ) (b : Bool) (entry : Option Entry)
-    (numbered : List Entry) (wildcards : set.FinSet nat_cmp) → eqb source 0 ≡ b
-    → IfSome entry IsEntry → IsCache table
-    → IsCache (record {
-      entries = with_exact table.entries
-          (cond b None (option_map (λ e. ((source, group), e)) entry));
-      numbered = numbered;
-      wildcards = wildcards;
-    })
-entry_keeps table source group true entry numbered wildcards is stands rules =
-    record { entries = rules.entries; sources = rules.sources }
-entry_keeps table source group false None numbered wildcards is stands rules =
-    record { entries = rules.entries; sources = rules.sources }
-entry_keeps table source group false (Some entry) numbered wildcards is stands rules =
-    let kept = exact_keeps table.entries source group entry is stands rules.entries rules.sources in
-    record { entries = kept.0; sources = kept.1 }
-
--- a table that took a row keeps the rules
-taken_keeps : (table new : CacheText) (row : RowText) → row_added table row ≡ Ok new
-    → IfSome row.entry IsEntry → IsCache table → IsCache new
-taken_keeps table new row is stands rules =
-    let grown : CacheText = record {
-      entries = with_exact table.entries (exact_entry row);
-      numbered = with_number table.numbered (exact_entry row);
-      wildcards = with_wildcard table.wildcards (wildcard_of row);
-    } in
-    let demanded = demand_then (not (has_key table.entries (exact_entry row))) RepeatedEntry
-    (λ _. Ok grown) new is in
-    let keeps : IsCache grown = entry_keeps table row.origin row.group (eqb row.origin 0) row.entry
-    grown.numbered grown.wildcards refl stands rules in
-    subst IsCache (ok_is {E = TableFaultKind} grown new demanded.1) keeps
-
--- and so do rows that took one, kept or not
-one_keeps : (listed : Listed) (rows new : RowsSoFar) (row : RowText) (line : ℕ)
-    → one_added listed rows row line ≡ Ok new → IfSome row.entry IsEntry → IsCache rows.table
-    → IsCache new.table
-one_keeps listed rows new row line is stands rules =
-    let key : ℕ × ℕ = (row.origin, row.group) in
-    elim (cases_Bool (is_kept listed row)) [
-      | inl kept ↦
-          let added : kept_added rows row ≡ Ok new =
-          sym (ap (λ b. cond b (kept_added rows row) (Ok (other_added rows key line))) kept) ∙ is in
-          let make : CacheText → RowsSoFar = λ t.
-          record { table = t; others = rows.others; count = rows.count + 1 } in
-          let table = bind_ok (row_added rows.table row) (λ t. Ok (make t)) new added in
-          subst IsCache
-          (ap (λ (r : RowsSoFar). r.table) (ok_is {E = TableFaultKind} (make table.0) new table.2))
-          (taken_keeps rows.table table.0 row table.1 stands rules)
-      | inr other ↦
-          let added : Ok (other_added rows key line) ≡ Ok new =
-          sym (ap (λ b. cond b (kept_added rows row) (Ok (other_added rows key line))) other) ∙ is in
-          subst IsCache (ap (λ (r : RowsSoFar). r.table)
-          (ok_is {E = TableFaultKind} (other_added rows key line) new added)) rules
-    ]
-
--- the table keeps the rules with a line's row
-pub row_keeps : (so_far new : ListedSoFar) (line : LineText) (row : RowText)
-    → row_with_room so_far.order so_far.rows.count line ≡ Ok row
-    → listed_added so_far row line.number ≡ Ok new → IsCache so_far.rows.table
-    → IsCache new.rows.table
-row_keeps so_far new line row read added rules =
-    let make : RowsSoFar → ListedSoFar = λ r.
-    record { order = so_far.order; listed = so_far.listed; rows = r } in
-    let one = bind_ok (one_added so_far.listed so_far.rows row line.number) (λ r. Ok (make r)) new
-    added in
-    let words = words_of line.bytes in
-    let ended = demand_then line.ended Unended
-    (λ _. demand (nat_lt so_far.rows.count 65536) TooLarge
-    >>= λ _. row_in_words so_far.order words) row read in
-    let room = demand_then (nat_lt so_far.rows.count 65536) TooLarge
-    (λ _. row_in_words so_far.order words) row ended.1 in
-    let stands = row_stands so_far.order words row
-    (row_words_found so_far.order words row room.1) in
-    subst IsCache
-    (ap (λ (s : ListedSoFar). s.rows.table) (ok_is {E = TableFaultKind} (make one.0) new one.2))
-    (one_keeps so_far.listed so_far.rows one.0 row line.number one.1 stands rules)
-
--- the empty table keeps them
-pub nothing_keeps : IsCache (table_of [])
-nothing_keeps = cache_rules [] tt

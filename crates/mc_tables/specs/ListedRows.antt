@@ -2,11 +2,13 @@
 use Rattle.std.specs.Prelude.{◌≡◌, ℕ, ◌==◌, ◌&&◌, Bool, true, false, List, Option, Some, None, Result}
 use Rattle.std.specs.Prelude.{Ok, filter}
 use Rattle.std.specs.List.{list_any}
+use Rattle.std.specs.Coded.{Coded, coded×, coded_ℕ}
 use Rattle.std.specs.FinMap as map
+use Rattle.std.specs.FinSet as set
 use Rattle.mc_text.specs.declared.text.addr.Order.{Order}
 use Rattle.mc_tables.specs.declared.fault.TableFault.{TableFault}
 use Rattle.mc_text.specs.Steps.{◌>>=◌}
-use Rattle.mc_tables.specs.CacheTable.{RowText, CacheText, key_of, table_of}
+use Rattle.mc_tables.specs.CacheTable.{RowText, CacheText, key_cmp, key_of, table_of}
 use Rattle.mc_tables.specs.CacheReading.{cache_rows_in}
 
 -- the sources and groups that are listed, or all
@@ -33,6 +35,34 @@ kept_rows listed rows = filter (is_kept listed) rows
 abbrev pub listed_in : Order → Listed → List ℕ → Result CacheText TableFault
 listed_in order listed text =
     cache_rows_in order text >>= λ rows. Ok (table_of (kept_rows listed rows))
+
+-- ---- listed as a set
+
+-- a reader keeps them as a set, in which each stands once, or all
+abbrev pub ListedSet : Type 0
+ListedSet = Option (set.FinSet key_cmp)
+
+-- a set is stored as its keys
+abbrev pub pairs_code : Coded (set.FinSet key_cmp)
+pairs_code = set.code (coded× coded_ℕ coded_ℕ)
+
+abbrev pub listed_set : Listed → ListedSet
+listed_set None = None
+listed_set (Some keys) = Some (set.from_list keys)
+
+abbrev pub is_in : ListedSet → ℕ × ℕ → Bool
+is_in None key = true
+is_in (Some keys) key = set.contains keys key
+
+-- whether a row is kept whole, by the set
+abbrev pub is_kept_key_by : ListedSet → Option (ℕ × ℕ) → Bool
+is_kept_key_by listed None = true
+is_kept_key_by listed (Some key) = is_in listed key
+
+abbrev pub is_kept_by : ListedSet → RowText → Bool
+is_kept_by listed row = is_kept_key_by listed (key_of row)
+
+-- ---- the listed part
 
 -- A table has of another one the entries of the listed sources and groups and no other entry, and
 -- all groups of rows for every source.

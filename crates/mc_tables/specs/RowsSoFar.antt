@@ -10,7 +10,7 @@ use Rattle.mc_text.specs.Steps.{◌>>=◌}
 use Rattle.mc_tables.specs.Steps.{at_line, unless_fault}
 use Rattle.mc_tables.specs.LinesSoFar.{LinesSoFar, no_lines, end_of, read_after}
 use Rattle.mc_tables.specs.CacheTable.{RowText, CacheText, cache_code, table_of}
-use Rattle.mc_tables.specs.ListedRows.{Listed, is_kept}
+use Rattle.mc_tables.specs.ListedRows.{Listed, ListedSet, listed_set, is_kept_by}
 use Rattle.mc_tables.specs.OtherRows.{OtherRow, without_repeat}
 use Rattle.mc_tables.specs.CacheSteps.{row_with_room, row_added}
 
@@ -45,9 +45,9 @@ kept_added rows row =
     Ok (record { table = table; others = rows.others; count = rows.count + 1 })
 
 -- the row of a line more
-abbrev pub one_added : Listed → RowsSoFar → RowText → ℕ → Result RowsSoFar TableFaultKind
+abbrev pub one_added : ListedSet → RowsSoFar → RowText → ℕ → Result RowsSoFar TableFaultKind
 one_added listed rows row line =
-    if is_kept listed row then kept_added rows row
+    if is_kept_by listed row then kept_added rows row
     else Ok (other_added rows (row.origin, row.group) line)
 
 -- ---- line by line
@@ -56,11 +56,11 @@ one_added listed rows row line =
 -- groups are listed
 pub record ListedSoFar : Type 0 where
   pub order : Order
-  pub listed : Listed
+  pub listed : ListedSet
   pub rows : RowsSoFar
 
 -- no rows have come
-abbrev pub no_rows : Order → Listed → ListedSoFar
+abbrev pub no_rows : Order → ListedSet → ListedSoFar
 no_rows order listed = record {
   order = order;
   listed = listed;
@@ -112,8 +112,13 @@ pub record CacheSoFar : Type 0 where
   pub fault : Option TableFault
 
 -- nothing has come
+abbrev pub nothing_so_far : Order → ListedSet → CacheSoFar
+nothing_so_far order listed =
+    record { lines = no_lines; rows = no_rows order listed; fault = None }
+
+-- where these are listed
 abbrev pub no_cache : Order → Listed → CacheSoFar
-no_cache order listed = record { lines = no_lines; rows = no_rows order listed; fault = None }
+no_cache order listed = nothing_so_far order (listed_set listed)
 
 -- what reading ends with if these bytes come: the table, or the first fault
 abbrev pub cache_if : CacheSoFar → List ℕ → Result CacheText TableFault

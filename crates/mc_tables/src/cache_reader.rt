@@ -7,7 +7,7 @@ ghost use Rattle.mc_tables.specs.declared.fault.TableFaultKind.TheVariants.{TooL
 ghost use Rattle.mc_tables.specs.Steps.{out_of_memory, fault_at};
 ghost use Rattle.mc_tables.specs.LinesSoFar.{AreLinesSoFar};
 ghost use Rattle.mc_tables.specs.ListedRows.{listed_in};
-ghost use Rattle.mc_tables.specs.RowsSoFar.{no_cache, rows_end, cache_if};
+ghost use Rattle.mc_tables.specs.RowsSoFar.{nothing_so_far, no_cache, rows_end, cache_if};
 
 use crate::cache_table::CacheTable;
 use crate::fault::TableFault;
@@ -36,11 +36,12 @@ impl Model for CacheReader {
     ghost use Rattle.mc_text.specs.contracts.text.addr.Order as orders;
     ghost use Rattle.mc_tables.specs.contracts.fault.TableFault as faults;
     ghost use Rattle.mc_tables.specs.CacheTable.{IsCache};
+    ghost use Rattle.mc_tables.specs.ListedRows.{pairs_code};
     ghost use Rattle.mc_tables.specs.RowsSoFar.{CacheSoFar, rows_code};
 
     ghost Value = { CacheSoFar };
 
-    ghost coded = { Prim.hlevel (codes, rows_code, orders.the_row.coded, faults.the_row.coded) };
+    ghost coded = { Prim.hlevel (codes, pairs_code, rows_code, orders.the_row.coded, faults.the_row.coded) };
 
     ghost view = { λ s. record { lines = s.lines; rows = s.rows; fault = s.fault } };
 
@@ -69,9 +70,7 @@ impl CacheReader {
     }
 
     fn of_listed(alloc: Global, order: Order, listed: Listed) -> CacheReader
-        ensures start { result ≡ no_cache order listed }
-        ensures reads { (text : List ℕ) → length text ≤ max_text →
-            cache_if result text ≡ listed_in order listed text }
+        ensures { result ≡ nothing_so_far order listed }
     {
         CacheReader {
             lines: PieceLines::new(alloc),

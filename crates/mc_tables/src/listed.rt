@@ -1,25 +1,63 @@
 //! Which rows of a cache are kept whole.
 
-ghost use Rattle.std.specs.Prelude.{◌≡◌, ◌==◌, ◌&&◌, None, Some};
-ghost use Rattle.std.specs.List.{list_any};
-ghost use Rattle.mc_tables.specs.ListedRows.{is_listed};
+ghost use Rattle.std.specs.Prelude.{◌≡◌, None, Some};
+ghost use Rattle.std.specs.FinSet as set;
+ghost use Rattle.mc_tables.specs.ListedRows.{is_in};
 
 use mc_text::Addr;
 use std::marker::Model;
 
+/// Sources and groups, by source and then by group.
+#[derive(Debug, Drop)]
+struct Pairs {
+    pairs: Vec<(Addr, Addr)>,
+}
+
+impl Model for Pairs {
+    ghost use Rattle.std.specs.FinSet as set;
+    ghost use Rattle.std.specs.List.Sorted.{IsSorted};
+    ghost use Rattle.mc_tables.specs.CacheTable.{key_cmp};
+    ghost use Rattle.mc_tables.specs.ListedRows.{pairs_code};
+
+    ghost Value = { set.FinSet key_cmp };
+
+    ghost coded = { pairs_code };
+
+    ghost view = { λ s. set.from_list s.pairs.items };
+
+    ghost invariant = { λ s. IsSorted key_cmp s.pairs.items };
+}
+
+impl Pairs {
+    fn of(mut pairs: Vec<(Addr, Addr)>) -> Pairs
+        ensures { result ≡ set.from_list pairs.items }
+    {
+        pairs.sort_unstable();
+        Pairs { pairs }
+    }
+
+    fn contains(&self, source: Addr, group: Addr) -> bool
+        ensures { result ≡ set.contains self.now (source, group) }
+    {
+        self.pairs.binary_search(&(source, group)).is_ok()
+    }
+}
+
 /// The sources and groups whose rows are kept, or all.
 #[derive(Debug, Drop)]
 pub struct Listed {
-    pairs: Option<Vec<(Addr, Addr)>>,
+    pairs: Option<Pairs>,
 }
 
 impl Model for Listed {
-    ghost use Rattle.std.specs.Prelude.{ℕ, List, Option};
-    ghost use Rattle.std.specs.Option.{option_map};
+    ghost use Rattle.std.specs.Coded.{codes};
+    ghost use Rattle.mc_tables.specs.ListedRows.{ListedSet, pairs_code};
 
-    ghost Value = { Option (List (ℕ × ℕ)) };
+    ghost Value = { ListedSet };
 
-    ghost view = { λ s. option_map (λ v. v.items) s.pairs };
+    ghost coded = { Prim.hlevel (codes, pairs_code) };
+
+    ghost view = { λ s. s.pairs };
 }
 
 impl Listed {
@@ -32,24 +70,20 @@ impl Listed {
 
     /// These, each a source and a group.
     pub fn of(pairs: Vec<(Addr, Addr)>) -> Listed
-        ensures { result ≡ Some pairs.items }
+        ensures { result ≡ Some (set.from_list pairs.items) }
     {
-        Listed { pairs: Some(pairs) }
+        Listed {
+            pairs: Some(Pairs::of(pairs)),
+        }
     }
 
     /// Whether a source and a group are among them.
     pub fn has(&self, source: Addr, group: Addr) -> bool
-        ensures { result ≡ is_listed self.now (source, group) }
+        ensures { result ≡ is_in self.now (source, group) }
     {
         match &self.pairs {
-            Some(pairs) => has_pair(pairs.as_slice(), source, group),
+            Some(pairs) => pairs.contains(source, group),
             None => true,
         }
     }
-}
-
-fn has_pair(pairs: &[(Addr, Addr)], source: Addr, group: Addr) -> bool
-    ensures { result ≡ list_any (λ k. (k.0 == source) && (k.1 == group)) pairs.now }
-{
-    pairs.iter().any(|pair| pair.0 == source && pair.1 == group)
 }

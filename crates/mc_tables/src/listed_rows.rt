@@ -4,7 +4,7 @@ ghost use Rattle.std.specs.Prelude.{◌≡◌, ◌≢◌, ◌<◌, OnOk, OnErr, 
 ghost use Rattle.mc_text.specs.LineView.{line_text};
 ghost use Rattle.mc_tables.specs.declared.fault.TableFaultKind.TheVariants.{Memory};
 ghost use Rattle.mc_tables.specs.CacheTable.{IsCache};
-ghost use Rattle.mc_tables.specs.ListedRows.{is_kept};
+ghost use Rattle.mc_tables.specs.ListedRows.{is_kept_by};
 ghost use Rattle.mc_tables.specs.OtherRows.{without_repeat};
 ghost use Rattle.mc_tables.specs.RowsSoFar.{no_rows, listed_added, line_added};
 
@@ -36,11 +36,12 @@ impl Model for ListedRows {
     ghost use Rattle.std.specs.Prelude.{◌≤◌, length};
     ghost use Rattle.std.specs.Coded.{codes};
     ghost use Rattle.mc_text.specs.contracts.text.addr.Order as orders;
+    ghost use Rattle.mc_tables.specs.ListedRows.{pairs_code};
     ghost use Rattle.mc_tables.specs.RowsSoFar.{ListedSoFar, rows_code};
 
     ghost Value = { ListedSoFar };
 
-    ghost coded = { Prim.hlevel (codes, rows_code, orders.the_row.coded) };
+    ghost coded = { Prim.hlevel (codes, pairs_code, rows_code, orders.the_row.coded) };
 
     ghost view = { λ s. record {
       order = s.order;
@@ -144,7 +145,7 @@ impl Rows for ListedRows {
 
 /// Whether a row is kept whole.
 fn is_kept(listed: &Listed, row: &CacheRow) -> bool
-    ensures { result ≡ is_kept listed.now row.now }
+    ensures { result ≡ is_kept_by listed.now row.now }
 {
     row.origin.is_unspecified() || row.entry.is_none() || listed.has(row.origin, row.group)
 }

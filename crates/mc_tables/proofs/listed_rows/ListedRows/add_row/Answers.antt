@@ -3,7 +3,7 @@ use Rattle.mc_text.specs.LineView.{line_text}
 use Rattle.mc_tables.specs.CacheSteps.{row_with_room}
 use Rattle.mc_tables.specs.RowsSoFar.{ListedSoFar}
 use Rattle.mc_text.proofs.StepLemmas.{on_ok}
-use Rattle.mc_tables.proofs.RowsSoFarLemmas.{row_keeps}
+use Rattle.mc_tables.proofs.RowRuleLemmas.{row_keeps}
 use Rattle.mc_tables.proofs.listed_rows.ListedRows.add_row.Goals as goal
 
 pub returns-clause-stand : goal.returns-clause-stand

@@ -1,0 +1,106 @@
+-- The rows of a cache that are kept whole, and the others.
+use Rattle.std.proofs.Common.{◌≡◌, ℕ, Bool, true, false, cond, List, [], ◌∷◌}
+use Rattle.std.proofs.Common.{Option, Some, None, refl, sym, ap}
+use Rattle.std.proofs.Common.{◌∙◌, inl, inr}
+use Rattle.std.specs.Prelude.{not, filter}
+use Rattle.std.specs.List.{filter_map, cons_option, list_any}
+use Rattle.std.specs.Option.{option_map}
+use Rattle.std.proofs.lemmas.Bool.{cases_Bool}
+use Rattle.mc_tables.specs.declared.entry.Entry.{Entry}
+use Rattle.mc_tables.specs.TableLines.{is_among}
+use Rattle.mc_tables.specs.CacheTable.{RowText, same_key}
+use Rattle.mc_tables.specs.CacheTable.{key_of}
+use Rattle.mc_tables.specs.ListedRows.{Listed, is_listed, is_kept_key, is_kept, kept_rows}
+use Rattle.mc_tables.proofs.OtherRowLemmas.{same_is}
+
+-- ---- sources and groups
+
+-- no test is its opposite
+no_opposite : (b : Bool) → b ≡ not b → ⊥
+no_opposite true e = cc
+no_opposite false e = cc
+
+-- of two of which one alone is listed, each is another
+pub differ : (listed : Listed) (x y : ℕ × ℕ) (b : Bool) → is_listed listed x ≡ b
+    → is_listed listed y ≡ not b → same_key x y ≡ false
+differ listed x y b of_x of_y =
+    elim (cases_Bool (same_key x y)) [
+      | inr other ↦ other
+      | inl same ↦
+          let one = ap (is_listed listed) (same_is x y same) in
+          let wrong : b ≡ not b = sym of_x ∙ one ∙ of_y in
+          absurd (no_opposite b wrong)
+    ]
+
+-- ---- the rows that are kept, and the others
+
+-- the sources and groups of the others
+abbrev pub other_keys : Listed → List RowText → List (ℕ × ℕ)
+other_keys listed rows = filter_map key_of (filter (λ row. not (is_kept listed row)) rows)
+
+-- one row more to look for a listed source and group in
+kept_step : (listed : Listed) (key : ℕ × ℕ) (row : RowText) (kept rows : List RowText)
+    (own : Option (ℕ × ℕ)) → key_of row ≡ own → is_listed listed key ≡ true
+    → list_any (same_key key) (filter_map key_of kept)
+    ≡ list_any (same_key key) (filter_map key_of rows)
+    → list_any (same_key key) (filter_map key_of (cond (is_kept_key listed own) (row ∷ kept) kept))
+    ≡ list_any (same_key key) (cons_option own (filter_map key_of rows))
+kept_step listed key row kept rows None own is rest = rw own rest
+kept_step listed key row kept rows (Some other) own is rest =
+    elim (cases_Bool (is_listed listed other)) [
+      | inl has ↦ rw (has, own, rest) refl
+      | inr none ↦ rw (none, differ listed key other true is none) rest
+    ]
+
+-- a source and a group that are listed are among the rows' where they are among those of the rows
+-- that are kept
+kept_among : (listed : Listed) (key : ℕ × ℕ) (rows : List RowText) → is_listed listed key ≡ true
+    → list_any (same_key key) (filter_map key_of (kept_rows listed rows))
+    ≡ list_any (same_key key) (filter_map key_of rows)
+kept_among listed key [] is = refl
+kept_among listed key (row ∷ rows) is =
+    kept_step listed key row (kept_rows listed rows) rows (key_of row) refl is
+    (kept_among listed key rows is)
+
+-- one row more to look for another source and group in
+other_step : (listed : Listed) (key : ℕ × ℕ) (row : RowText) (others rows : List RowText)
+    (own : Option (ℕ × ℕ)) → key_of row ≡ own → is_listed listed key ≡ false
+    → list_any (same_key key) (filter_map key_of others)
+    ≡ list_any (same_key key) (filter_map key_of rows)
+    → list_any (same_key key)
+    (filter_map key_of (cond (not (is_kept_key listed own)) (row ∷ others) others))
+    ≡ list_any (same_key key) (cons_option own (filter_map key_of rows))
+other_step listed key row others rows None own is rest = rest
+other_step listed key row others rows (Some other) own is rest =
+    elim (cases_Bool (is_listed listed other)) [
+      | inl has ↦ rw (has, differ listed key other false is has) rest
+      | inr none ↦ rw (none, own, rest) refl
+    ]
+
+-- and others where they are among those of the others
+pub other_among : (listed : Listed) (key : ℕ × ℕ) (rows : List RowText) → is_listed listed key ≡ false
+    → list_any (same_key key) (other_keys listed rows)
+    ≡ list_any (same_key key) (filter_map key_of rows)
+other_among listed key [] is = refl
+other_among listed key (row ∷ rows) is =
+    other_step listed key row (filter (λ r. not (is_kept listed r)) rows) rows (key_of row) refl is
+    (other_among listed key rows is)
+
+-- a row that is kept repeats an earlier one where it repeats one that is kept
+pub kept_repeats : (listed : Listed) (rows : List RowText) (own : Option (ℕ × ℕ))
+    → is_kept_key listed own ≡ true
+    → is_among same_key own (filter_map key_of (kept_rows listed rows))
+    ≡ is_among same_key own (filter_map key_of rows)
+kept_repeats listed rows None is = refl
+kept_repeats listed rows (Some key) is = kept_among listed key rows is
+
+-- a row that isn't kept has a source and a group
+pub other_key : (listed : Listed) (row : RowText) (b : Bool) (entry : Option Entry)
+    → is_kept_key listed (option_map (λ (exact : (ℕ × ℕ) × Entry). exact.0)
+    (cond b None (option_map (λ e. ((row.origin, row.group), e)) entry))) ≡ false
+    → (option_map (λ (exact : (ℕ × ℕ) × Entry). exact.0)
+    (cond b None (option_map (λ e. ((row.origin, row.group), e)) entry))
+    ≡ Some (row.origin, row.group)) × (is_listed listed (row.origin, row.group) ≡ false)
+other_key listed row true entry e = absurd cc
+other_key listed row false None e = absurd cc
+other_key listed row false (Some entry) e = (refl, e)

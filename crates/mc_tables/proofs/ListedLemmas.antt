@@ -1,0 +1,72 @@
+-- Sources and groups that are listed, as a set and in order.
+use Rattle.std.proofs.Common.{◌≡◌, ℕ, true, false, List, length, get_or, Option, Some}
+use Rattle.std.proofs.Common.{None, Result, Ok, Err, refl, sym, ap, ◌∙◌, arith, inl, inr}
+use Rattle.std.specs.Prelude.{◌==◌, ◌&&◌, is_ok}
+use Rattle.std.specs.FinSet as set
+use Rattle.std.specs.List.{All}
+use Rattle.std.specs.List.Sorted.{IsPermutation, IsSorted, IsSearchInRange, IsBinarySearchResult}
+use Rattle.std.specs.Ordering.{is_eq}
+use Rattle.std.proofs.lemmas.Bool.{cases_lt}
+use Rattle.std.proofs.lemmas.Bool.Decides.{nat_tests}
+use Rattle.std.proofs.lemmas.List.Folds.{list_any_at, list_any_none}
+use Rattle.std.proofs.lemmas.List.Sorted.{list_any-IsPermutation, searchable_from_sorted}
+use Rattle.mc_tables.specs.CacheTable.{key_cmp, same_key, key_of}
+use Rattle.mc_tables.specs.CacheTable.{RowText}
+use Rattle.mc_tables.specs.ListedRows.{Listed, is_listed, is_kept_key, is_kept, listed_set, is_in}
+use Rattle.mc_tables.specs.ListedRows.{is_kept_key_by, is_kept_by}
+use Rattle.mc_tables.proofs.CacheLemmas.{key_total, key_laws}
+use Rattle.mc_tables.proofs.CacheMapLemmas.{key_antisymmetric}
+use Rattle.mc_tables.proofs.OtherRowLemmas.{any_same}
+
+-- ---- as a set
+
+-- two tests for one source and group
+key_is : (key k : ℕ × ℕ) → same_key key k ≡ ((k.0 == key.0) && (k.1 == key.1))
+key_is key k = grind (arith, nat_tests)
+
+-- the set has those that are listed
+in_listed : (listed : Listed) (key : ℕ × ℕ) → is_in (listed_set listed) key ≡ is_listed listed key
+in_listed None key = refl
+in_listed (Some keys) key =
+    set.contains-from_list key_total keys key
+    ∙ any_same (same_key key) (λ k. (k.0 == key.0) && (k.1 == key.1)) keys (key_is key)
+
+-- so the same rows are kept
+kept_key_same : (listed : Listed) (own : Option (ℕ × ℕ))
+    → is_kept_key_by (listed_set listed) own ≡ is_kept_key listed own
+kept_key_same listed None = refl
+kept_key_same listed (Some key) = in_listed listed key
+
+pub kept_same : (listed : Listed) (row : RowText)
+    → is_kept_by (listed_set listed) row ≡ is_kept listed row
+kept_same listed row = kept_key_same listed (key_of row)
+
+-- ---- in order
+
+-- in another order they are the same set
+pub set_permuted : (keys sorted : List (ℕ × ℕ)) → IsPermutation keys sorted
+    → set.from_list {R = key_cmp} sorted ≡ set.from_list keys
+set_permuted keys sorted moved =
+    set.same_set key_total key_antisymmetric (set.from_list sorted) (set.from_list keys) (λ q.
+    set.contains-from_list key_total sorted q
+    ∙ sym (list_any-IsPermutation (same_key q) keys sorted moved)
+    ∙ sym (set.contains-from_list key_total keys q))
+
+-- a search finds what the set has
+pub search_finds : (keys : List (ℕ × ℕ)) (key : ℕ × ℕ) (r : Result ℕ ℕ) → IsSorted key_cmp keys
+    → IsSearchInRange r (length keys) → IsBinarySearchResult (λ k. key_cmp k key) keys r
+    → is_ok r ≡ set.contains (set.from_list {R = key_cmp} keys) key
+search_finds keys key (Ok i) up within found =
+    let here : same_key key (get_or keys i key) ≡ true =
+    key_laws.symm key (get_or keys i key) ∙ ap is_eq (found key) in
+    sym (list_any_at (same_key key) keys i key within here)
+    ∙ sym (set.contains-from_list key_total keys key)
+search_finds keys key (Err i) up within found =
+    let split = found (searchable_from_sorted key_total (λ (k : ℕ × ℕ). k) keys key up) in
+    let none : All (λ k. same_key key k ≡ false) keys = λ k d lt.
+    key_laws.symm key (get_or keys k d) ∙ elim (cases_lt k i) [
+      | inl below ↦ ap is_eq (split.0 k d (omega arith) below)
+      | inr above ↦ ap is_eq (split.1 k d above lt)
+    ] in
+    sym (list_any_none (same_key key) keys none)
+    ∙ sym (set.contains-from_list key_total keys key)

@@ -19,9 +19,9 @@ use mc_text::{Addr, Order};
 use std::alloc::Global;
 use std::marker::Model;
 
-/// A reader of `/proc/net/ip_mr_cache` that is fed the text in pieces of any size. It keeps the rows
-/// of listed sources and groups, the groups of rows for every source, and the source, the group and
-/// the line of each other resolved row, among which it looks for a repeated one once: before it
+/// A reader of `/proc/net/ip_mr_cache` that is fed the text in pieces of any size. It keeps the
+/// rows of listed sources and groups, the groups of rows for every source, and the source, the group
+/// and the line of each other resolved row, among which it looks for a repeated one once: before it
 /// answers another fault, or where the text ends.
 #[derive(Debug, Drop)]
 pub struct CacheReader {
@@ -41,7 +41,8 @@ impl Model for CacheReader {
 
     ghost Value = { CacheSoFar };
 
-    ghost coded = { Prim.hlevel (codes, pairs_code, rows_code, orders.the_row.coded, faults.the_row.coded) };
+    ghost coded = { Prim.hlevel
+        (codes, pairs_code, rows_code, orders.the_row.coded, faults.the_row.coded) };
 
     ghost view = { λ s. record { lines = s.lines; rows = s.rows; fault = s.fault } };
 
@@ -84,9 +85,9 @@ impl CacheReader {
     /// # Errors
     ///
     /// `TooLarge` at line 0 where the text has more than 16,777,216 bytes now; else the first fault
-    /// of the lines that have ended; or `Memory`. That of a repeated row of a source and a group that
-    /// aren't listed waits for the first other fault, or for `finish`. Each later call answers the
-    /// same.
+    /// of the lines that have ended; or `Memory`. That of a repeated row whose source and group
+    /// aren't listed waits for the first other fault of a line, or for `finish`. Each later call
+    /// answers the same.
     #[tactic(auto, using(crate::proofs::RowsSoFarLemmas::row_steps))]
     pub fn feed(&mut self, piece: &[u8]) -> Result<(), TableFault>
         // Whatever bytes come then, reading ends as it would have with this piece before them.
@@ -119,7 +120,8 @@ impl CacheReader {
     ///
     /// # Errors
     ///
-    /// The fault that was answered before, or that of the text's end.
+    /// The fault that was answered before; else that of the first repeated row whose source and
+    /// group aren't listed; else that of the text's end.
     pub fn finish(self) -> Result<CacheTable, TableFault>
         ensures { result ≡ cache_if self [] }
     {

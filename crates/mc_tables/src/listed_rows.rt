@@ -20,8 +20,8 @@ use mc_text::{Line, Order};
 use std::alloc::Global;
 use std::marker::Model;
 
-/// The rows that are kept, what finds a repeated one of the others, and how many rows there are, of a
-/// router whose machine has this byte order.
+/// The rows that are kept, what finds a repeated one of the others, and how many rows there are, of
+/// a router whose machine has this byte order.
 #[derive(Debug, Drop)]
 pub struct ListedRows {
     alloc: Global,

@@ -60,8 +60,8 @@ impl OtherRows {
     }
 }
 
-/// The first line whose row repeats an earlier one, where the rows stand by source and group, and then
-/// by line.
+/// The first line whose row repeats an earlier one, where the rows stand by source and group, and
+/// then by line.
 fn first_of_sorted(rows: &[OtherRow]) -> Option<u32>
     requires { IsSorted row_cmp rows.now }
     ensures { result ≡ first_repeat rows.now }

@@ -38,7 +38,7 @@ listed_in order listed text =
 
 -- ---- listed as a set
 
--- a reader keeps them as a set, in which each stands once, or all
+-- those that are listed as a set, whatever their order in the list, or all
 abbrev pub ListedSet : Type 0
 ListedSet = Option (set.FinSet key_cmp)
 
@@ -46,10 +46,12 @@ ListedSet = Option (set.FinSet key_cmp)
 abbrev pub pairs_code : Coded (set.FinSet key_cmp)
 pairs_code = set.code (coded× coded_ℕ coded_ℕ)
 
+-- the set of a list
 abbrev pub listed_set : Listed → ListedSet
 listed_set None = None
 listed_set (Some keys) = Some (set.from_list keys)
 
+-- the set has a source and a group
 abbrev pub is_in : ListedSet → ℕ × ℕ → Bool
 is_in None key = true
 is_in (Some keys) key = set.contains keys key

@@ -116,7 +116,7 @@ abbrev pub nothing_so_far : Order → ListedSet → CacheSoFar
 nothing_so_far order listed =
     record { lines = no_lines; rows = no_rows order listed; fault = None }
 
--- where these are listed
+-- nothing has come, and these are listed
 abbrev pub no_cache : Order → Listed → CacheSoFar
 no_cache order listed = nothing_so_far order (listed_set listed)
 

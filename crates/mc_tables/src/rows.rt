@@ -30,8 +30,8 @@ pub trait Rows {
     // what they keep
     ghost stand: { Self → Type 0 };
 
-    /// Adds the row of a line after so many lines, the first of which is the header. After an error
-    /// the rows are of no use.
+    /// Adds the row of a line after so many lines, the first of which is the header. The fault that
+    /// is answered may be that of an earlier row. After an error the rows are of no use.
     fn add_line(&mut self, ended: u32, line: &Line<'_>) -> Result<(), TableFault>
         ensures added { OnOk result
             (line_after header (step self.old) self.old ended (line_text line.now) ≡ Ok self.new) }

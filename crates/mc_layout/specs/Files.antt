@@ -41,10 +41,14 @@ abbrev pub GivesOf : {X Y E : Type 0} → (Silent : E → Type 0) → Option (Li
 GivesOf Silent told view result step =
     (files : List FileText) → told ≡ Some files → Gives Silent view result (step files)
 
--- what contracts see of a source of files in memory
+-- what contracts see of a source of files, in memory or in a folder
 pub record FilesState : Type 0 where
-  -- the files
+  -- the files, where it tells them
   pub told : Option (List FileText)
+  -- whether a file is open
+  pub is_open : Bool
+  -- the bytes of the open file that are still to come, where it tells them
+  pub left : Option (List ℕ)
   -- how many calls failed
   pub failed : ℕ
 

@@ -12,6 +12,7 @@ mod laws;
 mod map_files;
 mod packed_part;
 mod packing;
+mod piece_source;
 mod slot;
 mod source;
 
@@ -25,5 +26,6 @@ pub use laws::{
 };
 pub use map_files::MapFiles;
 pub use packing::pack;
+pub use piece_source::PieceSource;
 pub use slot::{Slot, slot_at, slot_count};
 pub use source::FileSource;

@@ -1,9 +1,10 @@
 //! Files in memory.
 
-ghost use Rattle.std.specs.Prelude.{◌≡◌, ◌<◌, ◌+◌, map, Some, option_map};
+ghost use Rattle.std.specs.Prelude.{◌≡◌, ◌<◌, ◌+◌, map, Some, None, option_map, false};
 ghost use Rattle.mc_layout.specs.Files.{file_named, file_text};
 
 use crate::fault::FileFault;
+use crate::piece_source::PieceSource;
 use crate::source::FileSource;
 use std::alloc::Global;
 use std::marker::Model;
@@ -12,31 +13,46 @@ use std::marker::Model;
 #[derive(Debug, Drop)]
 pub struct MapFiles<'a> {
     files: &'a [(&'a str, &'a [u8])],
+    left: Option<&'a [u8]>,
     failures: u64,
 }
 
 impl<'a> Model for MapFiles<'a> {
-    ghost use Rattle.std.specs.Prelude.{map, Some};
+    ghost use Rattle.std.specs.Prelude.{map, Some, is_some, option_map};
     ghost use Rattle.mc_layout.specs.Files.{FilesState, file_text};
 
     ghost Value = { FilesState };
 
-    ghost view = { λ s. record { told = Some (map file_text s.files.now); failed = s.failures } };
+    ghost view = { λ s. record {
+      told = Some (map file_text s.files.now);
+      is_open = is_some s.left;
+      left = option_map (λ bytes. bytes.now) s.left;
+      failed = s.failures;
+    } };
 }
 
 impl<'a> MapFiles<'a> {
-    /// A source of the files, each its name and its bytes. Of two with one name it is the first.
+    /// A source of the files, each its name and its bytes. Of two with one name it is the first. No
+    /// file is open yet.
     pub fn new(files: &'a [(&'a str, &'a [u8])]) -> MapFiles<'a>
-        ensures { result ≡ record { told = Some (map file_text files.now); failed = 0 } }
+        ensures { result ≡ record {
+          told = Some (map file_text files.now);
+          is_open = false;
+          left = None;
+          failed = 0;
+        } }
     {
-        MapFiles { files, failures: 0 }
+        MapFiles {
+            files,
+            left: None,
+            failures: 0,
+        }
     }
 
     /// A call fails.
     pub(crate) fn fail(&mut self) -> FileFault
         requires { self.old.failed < u64.MAX }
-        ensures told { self.new.told ≡ self.old.told }
-        ensures failed { self.new.failed ≡ self.old.failed + 1 }
+        ensures state { self.new ≡ record self.old { failed = self.old.failed + 1 } }
         ensures fault { result ≡ FileFault.Failed }
     {
         self.failures += 1;
@@ -70,5 +86,34 @@ impl<'a> FileSource for MapFiles<'a> {
 
     fn failures(&self) -> u64 {
         self.failures
+    }
+}
+
+impl<'a> PieceSource for MapFiles<'a> {
+    ghost is_open = { λ s. s.is_open };
+
+    ghost left = { λ s. s.left };
+
+    fn open(&mut self, _alloc: Global, name: &str) -> Result<(), FileFault> {
+        self.left = bytes_of(self.files, name);
+        if self.left.is_none() {
+            return Err(self.fail());
+        }
+        Ok(())
+    }
+
+    fn read_piece(&mut self, buffer: &mut [u8]) -> Result<usize, FileFault> {
+        let Some(bytes) = self.left else {
+            return Ok(0);
+        };
+        let count = buffer.len().min(bytes.len());
+        let (front, rest) = bytes.split_at(count);
+        buffer[..count].copy_from_slice(front);
+        self.left = Some(rest);
+        Ok(count)
+    }
+
+    fn close(&mut self) {
+        self.left = None;
     }
 }

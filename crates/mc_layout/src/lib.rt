@@ -1,7 +1,7 @@
 //! The layout of a domain: which parts it has, in the one order, and their names in a bundle and in
-//! a folder. The files of a domain's folder, and the bundle that is packed of them. A source of files may be
-//! a folder of the file system or files in memory. Only the topology is judged: of the other files
-//! nothing is known here but their names.
+//! a folder. The files of a domain's folder, and the bundle that is packed of them. A source of
+//! files may be a folder of the file system or files in memory, and gives a file whole or in pieces.
+//! Only the topology is judged: of the other files nothing is known here but their names.
 #![tactic(auto)]
 
 mod belongs;

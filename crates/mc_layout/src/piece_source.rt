@@ -11,8 +11,9 @@ use crate::fault::FileFault;
 use crate::source::FileSource;
 use std::alloc::Global;
 
-/// What files are read from in pieces, one file at a time, by its name. Its calls count among the
-/// source's: `failures` says how many of them all answered `Failed`.
+/// What files are read from in pieces, one file at a time, by its name. Of these calls too
+/// `failures` counts how many answered `Failed`. After a call of `read` nothing is known of the open
+/// file.
 pub trait PieceSource: FileSource {
     // whether a file is open
     ghost is_open: { Self → Bool };
@@ -30,8 +31,8 @@ pub trait PieceSource: FileSource {
         requires { Self.failed self.old < u64.MAX }
         ensures same { Self.names self.new ≡ Self.names self.old }
         ensures kept { Self.told self.new ≡ Self.told self.old }
-        // All bytes of the file with the name are to come.
-        ensures opened { IfSome (Self.told self.old) (λ files. OnOk result
+        // The file is there, and all of its bytes are to come.
+        ensures bytes { IfSome (Self.told self.old) (λ files. OnOk result
             ((bytes : List ℕ) × (file_named files name.now ≡ Some bytes)
             × (left self.new ≡ Some bytes))) }
         ensures open { is_open self.new ≡ is_ok result }

@@ -1,6 +1,6 @@
 //! Files in memory.
 
-ghost use Rattle.std.specs.Prelude.{◌≡◌, ◌<◌, ◌+◌, map, Some, None, option_map, false};
+ghost use Rattle.std.specs.Prelude.{◌≡◌, ◌<◌, ◌+◌, map, Some, option_map, false};
 ghost use Rattle.mc_layout.specs.Files.{file_named, file_text};
 
 use crate::fault::FileFault;

@@ -14,4 +14,5 @@ pub mod Pieces
 pub mod PartsLemmas
 pub mod PartsMeaning
 pub mod SpendingLemmas
+pub mod ToComeLemmas
 mod FirstPlace

@@ -119,7 +119,7 @@ parts_opened (suc n) room text =
 -- ---- the next part
 
 -- nothing before the others
-nothing_before : (read : Result (List PartText) BundleFault) → before [] read ≡ read
+pub nothing_before : (read : Result (List PartText) BundleFault) → before [] read ≡ read
 nothing_before (Ok parts) = refl
 nothing_before (Err fault) = refl
 
@@ -141,7 +141,7 @@ start_means text left =
     ]
 
 -- the bytes of a part are the first ones
-bytes_are : (left : ℕ) (text : List ℕ) (found : List ℕ × List ℕ)
+pub bytes_are : (left : ℕ) (text : List ℕ) (found : List ℕ × List ℕ)
     → part_bytes_at left text ≡ Ok found → found.0 ≡ take left text
 unfolding part_bytes_at
 bytes_are left text found e = grind (arith, nat_tests)

@@ -11,6 +11,7 @@ pub mod Number
 pub mod PartName
 pub mod PartsReading
 pub mod PartsSpending
+pub mod PartsToCome
 pub mod BundleView
 pub mod ReadFault
 pub mod Steps

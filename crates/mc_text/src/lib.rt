@@ -11,8 +11,8 @@ mod memory;
 mod text;
 
 pub use bundle::{
-    Bundle, BundleFault, MAX_PART, Part, PartName, Parts, front_decides, one_list_of_parts,
-    write_bundle, written_is_read,
+    Bundle, BundleFault, MAX_PART, Part, PartName, Parts, collect_part, front_decides,
+    one_list_of_parts, write_bundle, written_is_read,
 };
 pub use io::{
     DeviceFault, FaultyInput, FaultyOutput, FromReader, Input, Output, ReadFault, Stop, ToWriter,

@@ -1,13 +1,13 @@
 //! A bundle part by part, from an input.
 
 ghost use Rattle.std.specs.Prelude.{◌≡◌, ◌≢◌, ◌+◌, ◌<◌, ◌≤◌, ◌++◌, ◌⊎◌, ℕ, List, [], length, take};
-ghost use Rattle.std.specs.Prelude.{Ok, Err, Some, true, false, IfOk, IfErr, OnErr};
+ghost use Rattle.std.specs.Prelude.{Ok, Err, Some, true, false, IfOk, IfErr, IsSome, OnErr};
 ghost use Rattle.mc_text.specs.declared.bundle.stage.Stage.TheVariants as stages;
 ghost use Rattle.mc_text.specs.BundleReading.{bundle_of};
 ghost use Rattle.mc_text.specs.Device.{counted};
 ghost use Rattle.mc_text.specs.PartsReading.{before, is_read, parts_if, passed};
 ghost use Rattle.mc_text.specs.PartsSpending.{Spends, may_come};
-ghost use Rattle.mc_text.specs.Bundle.{max_bundle, max_line};
+ghost use Rattle.mc_text.specs.Bundle.{max_bundle, max_line, max_part};
 
 use crate::bundle::bundle::{MAGIC, MAX_BUNDLE, MAX_PARTS};
 use crate::bundle::bundle_fault::BundleFault;
@@ -87,6 +87,8 @@ impl<R: Input> Parts<R> {
             (λ fault. fault ≢ BundleFault.Read → parts_if self.old done text ≡ Err fault) }
         ensures open { result ≡ Ok true →
             (self.new.stage ≡ stages.Part) × (self.new.left ≡ self.new.size) }
+        ensures named { result ≡ Ok true → IsSome self.new.name }
+        ensures bound { result ≡ Ok true → self.new.size ≤ max_part }
         // There are at most so many as may come.
         ensures fewer { result ≡ Ok true → self.new.parts < self.old.parts }
         ensures end { result ≡ Ok false → self.new.stage ≡ stages.End }

@@ -1,0 +1,52 @@
+//! The bytes of a bundle's present part, collected.
+
+ghost use Rattle.std.specs.Prelude.{◌≡◌, ◌≢◌, ◌<◌, ◌++◌, ℕ, List, Some, Err, IfOk, IfErr, OnOk};
+ghost use Rattle.std.specs.Prelude.{length};
+ghost use Rattle.mc_text.specs.declared.bundle.stage.Stage.TheVariants as stages;
+ghost use Rattle.mc_text.specs.Device.{counted};
+ghost use Rattle.mc_text.specs.PartsReading.{is_read, parts_if};
+ghost use Rattle.mc_text.specs.PartsToCome.{GoesOn};
+
+use crate::bundle::bundle_fault::BundleFault;
+use crate::bundle::parts::Parts;
+use crate::io::Input;
+use std::alloc::Global;
+
+/// Collects what is left of the present part, piece by piece through the buffer, which may not be
+/// empty. The input's count of failures has to be below `u64::MAX`.
+///
+/// # Errors
+///
+/// As `Parts::read`, or `Memory`.
+pub fn collect_part<R: Input>(
+    alloc: Global,
+    parts: &mut Parts<R>,
+    buffer: &mut [u8],
+) -> Result<Vec<u8>, BundleFault>
+    requires open { parts.old.stage ≡ stages.Part }
+    requires room { 0 < length buffer.old }
+    requires failures { parts.old.failed < u64.MAX }
+    // They are the bytes that come of the part, and the bundle stays what it is.
+    ensures bytes { (text done : List ℕ) → parts.old.told ≡ Some text → IfOk result (λ bytes.
+        (later : List ℕ) × (parts.new.told ≡ Some later)
+        × (parts_if parts.old done text ≡ parts_if parts.new (done ++ bytes.items) later)) }
+    ensures whole { OnOk result ((parts.new.stage ≡ stages.Part)
+        × (parts.new.name ≡ parts.old.name) × (parts.new.left ≡ 0)) }
+    ensures goes_on { GoesOn parts.old parts.new }
+    // Which fault it is, unless the input failed or memory ran out.
+    ensures fault { (text done : List ℕ) → parts.old.told ≡ Some text → IfErr result
+        (λ fault. fault ≢ BundleFault.Read → fault ≢ BundleFault.Memory →
+        parts_if parts.old done text ≡ Err fault) }
+    ensures failures { parts.new.failed ≡ counted is_read result parts.old.failed }
+{
+    let mut bytes = Vec::new(alloc);
+    'pieces: loop {
+        let count = parts.read(buffer)?;
+        if count == 0 {
+            return Ok(bytes);
+        }
+        if bytes.extend_from_slice(&buffer[..count]).is_err() {
+            return Err(BundleFault::Memory);
+        }
+    }
+}

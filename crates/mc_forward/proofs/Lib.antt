@@ -11,3 +11,4 @@ pub mod WantsLemmas
 pub mod RunLemmas
 pub mod FirstLemmas
 pub mod RowNoLemmas
+pub mod SameLemmas

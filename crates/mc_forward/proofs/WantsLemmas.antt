@@ -2,7 +2,7 @@
 use Rattle.std.proofs.Common.{◌≡◌, ℕ, ◌+◌, ◌<◌, Bool, true, false, List, [], ◌∷◌, ◌++◌, map, length}
 use Rattle.std.proofs.Common.{take, get_or, slice_get, Some, option_map, refl, ap, sym, subst, ◌∙◌}
 use Rattle.std.proofs.Common.{arith, eqb}
-use Rattle.std.specs.Prelude.{◌↔◌, IsTrue, slice_index_or}
+use Rattle.std.specs.Prelude.{◌↔◌, IfOk, IsTrue, Result, Ok, Err, slice_index_or}
 use Rattle.std.proofs.lemmas.Bool.{eq-eqb}
 use Rattle.std.proofs.lemmas.Map.Keys.{any_passes_from_place}
 use Rattle.std.proofs.lemmas.Option.{slice_get-map, slice_get_within, get_or_from_slice_get}
@@ -14,7 +14,8 @@ use Rattle.mc_topology.specs.declared.flow.Flow.{Flow}
 use Rattle.mc_topology.specs.Topology.{TopologyValue, IsTopology}
 use Rattle.mc_forward.specs.Domains.{TablesValue, AreTables, IsDomain}
 use Rattle.mc_forward.specs.DomainParts.{domain_with}
-use Rattle.mc_forward.specs.Assembling.{EachAt, AreCounted, IsAssembled, ArePlaces, AreWanted}
+use Rattle.mc_forward.specs.Assembling.{EachAt, AreAnswers, AreCounted, IsAssembled, ArePlaces}
+use Rattle.mc_forward.specs.Assembling.{AreWanted}
 use Rattle.mc_forward.proofs.BelowLemmas.{map-push}
 use Rattle.mc_forward.proofs.EachLemmas.{some-at, take-found}
 
@@ -49,16 +50,23 @@ wanted-at flows reports wants size each lan flow records f at here =
     (own.each flow f flag.0 here flag.1)
 
 -- what was worked out makes a domain
-pub domain-of : (t : TopologyValue) (ts : List TablesValue) (rs : List (List Record))
-    (wants : List (List Bool)) → IsTopology t
-    → AreCounted t ts rs → ((router : ℕ) (own : TablesValue) → slice_get ts router ≡ Some own
-    → AreTables own)
-    → length wants ≡ length rs → EachAt (AreWanted t.flows) rs wants
-    → IsDomain (domain_with t ts wants)
-domain-of t ts rs wants rules counted tables size each = record {
+pub domain-of : (t : TopologyValue) (ts : List TablesValue) (wants : List (List Bool))
+    → IsTopology t → length ts ≡ length t.routers
+    → ((router : ℕ) (own : TablesValue) → slice_get ts router ≡ Some own → AreTables own)
+    → AreAnswers t wants → IsDomain (domain_with t ts wants)
+domain-of t ts wants rules counted tables answers = record {
   topology = rules;
-  routers = counted.routers;
+  routers = counted;
   tables = tables;
+  lans = answers.lans;
+  flows = answers.flows;
+}
+
+-- which flows are wanted is an answer for each LAN and flow
+pub answers-of : (t : TopologyValue) (ts : List TablesValue) (rs : List (List Record))
+    (wants : List (List Bool)) → AreCounted t ts rs
+    → length wants ≡ length rs → EachAt (AreWanted t.flows) rs wants → AreAnswers t wants
+answers-of t ts rs wants counted size each = record {
   lans = size ∙ counted.lans;
   flows = λ lan wanted at. (
       let lt = slice_get_within wants lan wanted at in
@@ -118,3 +126,9 @@ wanted-by groups flows places records filters k f filter b are at found admits w
     let told = subst (λ (g : ℕ). FilterAdmits filter f.source ↔ Wants records g f.source) group
     (wants (get_or places k 0) filter found f.source) in
     ((λ t. told.0 (admits.0 t)), (λ w. admits.1 (told.1 w)))
+
+-- what holds of every answer holds of this one
+pub each-answer : {A E : Type 0} (P Q : A → Type 0) (r : Result A E) → IfOk r P
+    → ((x : A) → P x → Q x) → IfOk r Q
+each-answer P Q (Ok x) holds then = then x holds
+each-answer P Q (Err e) holds then = tt

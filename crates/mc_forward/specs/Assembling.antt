@@ -2,6 +2,7 @@
 use Rattle.std.specs.Prelude.{◌≡◌, ◌↔◌, ℕ, Bool, IsTrue, List, [], length, map, filter, Option}
 use Rattle.std.specs.Prelude.{Some, None, slice_get, slice_index_or, option_and_then}
 use Rattle.std.specs.FinMap as finite
+use Rattle.std.specs.List.Sorted.{IsStrictlyIncreasing}
 use Rattle.mc_igmp.specs.declared.record.Record.{Record}
 use Rattle.mc_igmp.specs.Wants.{Wants}
 use Rattle.mc_topology.specs.declared.flow.Flow.{Flow}
@@ -42,6 +43,16 @@ pub record ArePlaces (groups : List ℕ) (flows : List Flow) (places : List ℕ)
   pub count : length places ≡ length flows
   pub each : EachAt (IsPlaceOf groups) flows places
 
+-- what reports are reduced by
+pub record GroupsValue : Type 0 where
+  pub groups : List ℕ
+  pub places : List ℕ
+
+-- the groups of the flows, ascending, and the place of each flow's group among them
+pub record AreGroupsOf (flows : List Flow) (g : GroupsValue) : Type 0 where
+  pub ascending : IsStrictlyIncreasing g.groups
+  pub places : ArePlaces g.groups flows g.places
+
 -- whether the flow is wanted by these records
 abbrev pub IsWanted : List Record → Flow → Bool → Type 0
 IsWanted records f wanted = IsTrue wanted ↔ Wants records f.group f.source
@@ -50,6 +61,12 @@ IsWanted records f wanted = IsTrue wanted ↔ Wants records f.group f.source
 pub record AreWanted (flows : List Flow) (records : List Record) (wanted : List Bool) : Type 0 where
   pub count : length wanted ≡ length flows
   pub each : EachAt (IsWanted records) flows wanted
+
+-- an answer for each LAN and flow
+pub record AreAnswers (t : TopologyValue) (wants : List (List Bool)) : Type 0 where
+  pub lans : length wants ≡ length t.lans
+  pub flows : (lan : ℕ) (wanted : List Bool) → slice_get wants lan ≡ Some wanted
+      → length wanted ≡ length t.flows
 
 -- the LAN of each vif of one router
 abbrev pub places_by : TopologyValue → ℕ → TablesValue → List (Option ℕ)

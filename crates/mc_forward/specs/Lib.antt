@@ -1,5 +1,6 @@
 pub mod Domains
 pub mod Assembling
+pub mod ListedTables
 pub mod RowNumbers
 pub mod DomainParts
 pub mod Rows
@@ -21,3 +22,4 @@ pub use Rattle.mc_topology.specs.Topology
 pub use Rattle.mc_tables.specs.VifTable
 pub use Rattle.mc_tables.specs.VifLookups
 pub use Rattle.mc_tables.specs.CacheTable
+pub use Rattle.mc_tables.specs.ListedRows

@@ -1,13 +1,14 @@
 //! How a domain is put together.
 
-ghost use Rattle.std.specs.Prelude.{◌≡◌, ◌↔◌, IfOk, IfErr, IsErrAnd};
+ghost use Rattle.std.specs.Prelude.{◌≡◌, ◌↔◌, IfOk, IfErr, IsErrAnd, length};
 ghost use Rattle.mc_forward.specs.declared.refused.DomainFault.TheVariants.{Count};
-ghost use Rattle.mc_forward.specs.Assembling.{AreCounted, IsAssembled};
+ghost use Rattle.mc_forward.specs.Assembling.{AreAnswers, AreCounted, IsAssembled};
 ghost use Rattle.mc_forward.specs.Domains.{IsDomain};
 ghost use Rattle.mc_forward.specs.DomainParts.{domain_with, IsWorkedOut};
 
 use crate::domain::{Domain, WorkedOut};
 use crate::interfaces::interfaces_of_lans;
+use crate::items::Items;
 use crate::places::places_of_routers;
 use crate::refused::{DomainFault, Refused};
 use crate::row_numbers::rows_of_routers;
@@ -18,7 +19,33 @@ use mc_text::Memory;
 use mc_topology::Topology;
 use std::alloc::Global;
 
+/// What is worked out of a topology, of the routers' tables and of which LAN wants which flow.
 fn work_out(
+    alloc: Global,
+    topology: &Topology,
+    tables: &[Tables],
+    wants: Vec<Items<bool>>,
+) -> Result<WorkedOut, Memory>
+    requires routers { length tables.now ≡ length topology.now.routers }
+    requires answers { AreAnswers topology.now wants.items }
+    ensures worked_out { IfOk result (λ w.
+        IsWorkedOut (domain_with topology.now tables.now w.wants.items)
+        w.places.items w.interfaces.items w.rows.items) }
+    ensures wants { IfOk result (λ w. w.wants.items ≡ wants.items) }
+{
+    let places = places_of_routers(alloc, topology, tables)?;
+    let interfaces = interfaces_of_lans(alloc, topology.lans(), &places)?;
+    let rows = rows_of_routers(alloc, topology, tables)?;
+    Ok(WorkedOut {
+        wants,
+        places,
+        interfaces,
+        rows,
+    })
+}
+
+/// The same, of the reports of each LAN.
+fn work_out_of_reports(
     alloc: Global,
     topology: &Topology,
     tables: &[Tables],
@@ -32,15 +59,7 @@ fn work_out(
         (domain_with topology.now tables.now w.wants.items)) }
 {
     let wants = wants_of_lans(alloc, topology, reports)?;
-    let places = places_of_routers(alloc, topology, tables)?;
-    let interfaces = interfaces_of_lans(alloc, topology.lans(), &places)?;
-    let rows = rows_of_routers(alloc, topology, tables)?;
-    Ok(WorkedOut {
-        wants,
-        places,
-        interfaces,
-        rows,
-    })
+    work_out(alloc, topology, tables, wants)
 }
 
 impl Domain {
@@ -76,7 +95,7 @@ impl Domain {
                 fault: DomainFault::Count,
             });
         }
-        match work_out(alloc, &topology, &tables, &reports) {
+        match work_out_of_reports(alloc, &topology, &tables, &reports) {
             Ok(worked_out) => Ok(Domain::new(topology, tables, worked_out)),
             Err(Memory) => Err(Refused {
                 topology,
@@ -85,5 +104,27 @@ impl Domain {
                 fault: DomainFault::Memory,
             }),
         }
+    }
+    /// Puts a domain together: its topology, the tables of each router, and for each LAN whether it
+    /// wants each flow, in the topology's order of routers, LANs and flows. There have to be as many
+    /// of each.
+    ///
+    /// # Errors
+    ///
+    /// `Memory` where a growth was refused.
+    pub fn of_wants(
+        alloc: Global,
+        topology: Topology,
+        tables: Vec<Tables>,
+        wants: Vec<Items<bool>>,
+    ) -> Result<Domain, Memory>
+        requires routers { length tables.items ≡ length topology.routers }
+        requires answers { AreAnswers topology wants.items }
+        ensures domain { IfOk result (λ domain.
+            domain ≡ domain_with topology tables.items wants.items) }
+        ensures rules { IfOk result IsDomain }
+    {
+        let worked_out = work_out(alloc, &topology, &tables, wants)?;
+        Ok(Domain::new(topology, tables, worked_out))
     }
 }

@@ -7,7 +7,7 @@ use std::marker::Model;
 
 /// Items of one kind, in order. Its value in contracts is their list.
 #[derive(Debug, Drop)]
-pub(crate) struct Items<T> {
+pub struct Items<T> {
     pub(crate) items: Vec<T>,
 }
 

@@ -33,8 +33,10 @@ pub use flow_laws::{
 };
 pub use flow_view::FlowView;
 pub use interfaces::Interfaces;
+pub use items::Items;
 pub use laws::{domains_are_nets, outgoing_vifs_ascend};
 pub use per_lan::PerLan;
 pub use refused::{DomainFault, Refused};
 pub use row::RowFor;
 pub use tables::Tables;
+pub use wants::FlowGroups;

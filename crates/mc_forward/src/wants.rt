@@ -3,7 +3,7 @@
 ghost use Rattle.std.specs.Prelude.{◌≡◌, ℕ, true, IfOk, Some, length, map, slice_get, vec_len};
 ghost use Rattle.std.specs.List.Sorted.{IsStrictlyIncreasing};
 ghost use Rattle.mc_filter.specs.SourceFilter.{has};
-ghost use Rattle.mc_forward.specs.Assembling.{EachAt, ArePlaces, AreWanted};
+ghost use Rattle.mc_forward.specs.Assembling.{EachAt, AreGroupsOf, ArePlaces, AreWanted};
 
 use crate::items::Items;
 use mc_filter::wants_of_groups;
@@ -11,6 +11,7 @@ use mc_igmp::ReportList;
 use mc_text::{Addr, Memory};
 use mc_topology::Topology;
 use std::alloc::Global;
+use std::marker::Model;
 
 /// The group of each flow.
 fn group_of_each(alloc: Global, topology: &Topology) -> Result<Vec<Addr>, Memory>
@@ -83,6 +84,55 @@ fn wanted_flows(
     Ok(Items { items: flows })
 }
 
+/// What reports are reduced by: the groups of a topology's flows, ascending and each once, and the
+/// place of each flow's group among them.
+#[derive(Debug, Drop)]
+pub struct FlowGroups {
+    groups: Vec<Addr>,
+    places: Vec<usize>,
+}
+
+impl Model for FlowGroups {
+    ghost use Rattle.mc_forward.specs.Assembling.{GroupsValue};
+
+    ghost Value = { GroupsValue };
+
+    ghost view = { λ g. record { groups = g.groups.items; places = g.places.items } };
+}
+
+impl FlowGroups {
+    /// Those of a topology.
+    ///
+    /// # Errors
+    ///
+    /// `Memory` where a growth was refused.
+    pub fn of(alloc: Global, topology: &Topology) -> Result<FlowGroups, Memory>
+        ensures { IfOk result (AreGroupsOf topology.now.flows) }
+    {
+        let groups = groups_of(alloc, topology)?;
+        let places = places_of(alloc, topology, &groups)?;
+        Ok(FlowGroups { groups, places })
+    }
+
+    /// Whether the records of a LAN's reports want each flow of the topology, of which these have to
+    /// be the groups.
+    ///
+    /// # Errors
+    ///
+    /// `Memory` where a growth was refused.
+    pub fn wanted(
+        &self,
+        alloc: Global,
+        topology: &Topology,
+        list: &ReportList,
+    ) -> Result<Items<bool>, Memory>
+        requires { AreGroupsOf topology.now.flows self.now }
+        ensures { IfOk result (AreWanted topology.now.flows list.now) }
+    {
+        wanted_flows(alloc, topology, &self.groups, &self.places, list)
+    }
+}
+
 /// Which flows each LAN wants. Each list is walked over once.
 pub(crate) fn wants_of_lans(
     alloc: Global,
@@ -93,11 +143,10 @@ pub(crate) fn wants_of_lans(
     ensures each { IfOk result (λ wants.
         EachAt (AreWanted topology.now.flows) reports.now wants.items) }
 {
-    let groups = groups_of(alloc, topology)?;
-    let places = places_of(alloc, topology, &groups)?;
+    let groups = FlowGroups::of(alloc, topology)?;
     let mut wants = Vec::new(alloc);
     for list in reports {
-        wants.push(wanted_flows(alloc, topology, &groups, &places, list)?)?;
+        wants.push(groups.wanted(alloc, topology, list)?)?;
     }
     Ok(wants)
 }

@@ -8,11 +8,11 @@ loop-list-preserved c =
     c.loop-list-test.true c.list-item.is in
     record {
       count = count-pushed c.loop-list.wants.items c.push.new.self.items
-          c.in_ok-wanted_flows.field-0 c.loop-list.list-index c.in_ok-push.ensures.items
+          c.in_ok-wanted.field-0 c.loop-list.list-index c.in_ok-push.ensures.items
           c.loop-list.invariant.count;
       each = each-pushed (AreWanted c.args.topology.now.flows) c.args.reports.now
           c.loop-list.wants.items c.push.new.self.items c.list-item.result
-          c.in_ok-wanted_flows.field-0 c.loop-list.list-index c.in_ok-push.ensures.items
-          c.loop-list.invariant.count found c.in_ok-wanted_flows.ensures
+          c.in_ok-wanted.field-0 c.loop-list.list-index c.in_ok-push.ensures.items
+          c.loop-list.invariant.count found c.in_ok-wanted.ensures
           c.loop-list.invariant.each;
     }

@@ -1,0 +1,107 @@
+-- A domain of which each router's cache has the rows of the listed flows alone says of each flow
+-- what the whole one says.
+use Rattle.std.proofs.Common.{◌≡◌, ℕ, zero, suc, Bool, true, List, [], ◌∷◌, ◌++◌, map, length}
+use Rattle.std.proofs.Common.{slice_get, Option, Some, None, refl, ap, sym, subst, arith, ◌||◌}
+use Rattle.std.specs.Prelude.{option_and_then}
+use Rattle.std.specs.FinMap as finite
+use Rattle.std.proofs.lemmas.Bool.{eq-eqb}
+use Rattle.mc_tables.specs.VifTable.{VifText}
+use Rattle.mc_tables.specs.ListedRows.{is_listed}
+use Rattle.mc_topology.specs.declared.flow.Flow.{Flow}
+use Rattle.mc_topology.specs.Topology.{TopologyValue}
+use Rattle.mc_forward.specs.Domains.{TablesValue, vif_of, row_at, lan_of_vif, wants_of, source_of}
+use Rattle.mc_forward.specs.Domains.{ttl_of}
+use Rattle.mc_forward.specs.Assembling.{EachAt}
+use Rattle.mc_forward.specs.DomainParts.{domain_with}
+use Rattle.mc_forward.specs.ListedTables.{AreListed, AreListedTables, Pairwise, SaysTheSame}
+use Rattle.mc_forward.specs.ListedTables.{flow_pairs}
+
+or-true : (b : Bool) → (b || true) ≡ true
+or-true b = grind arith
+
+-- a listed flow's source and group are listed
+flow-listed : (flows : List Flow) (k : ℕ) (f : Flow) → slice_get flows k ≡ Some f
+    → is_listed (Some (flow_pairs flows)) (f.source, f.group) ≡ true
+flow-listed [] k f e = absurd cc
+flow-listed (g ∷ flows) zero f e =
+    let same : g ≡ f = cc in
+    rw (same, eq-eqb f.source f.source refl, eq-eqb f.group f.group refl) refl
+flow-listed (g ∷ flows) (suc k) f e = rw (flow-listed flows k f e) (or-true _)
+
+-- so a router has for it what the whole table has,
+row-same : (flows : List Flow) (part whole : TablesValue) → AreListedTables flows part whole
+    → (k : ℕ) (f : Option Flow) → slice_get flows k ≡ f
+    → row_at (Some part) f ≡ row_at (Some whole) f
+row-same flows part whole listed k None at = refl
+row-same flows part whole listed k (Some f) at =
+    rw (listed.cache.entries (f.source, f.group) (flow-listed flows k f at), listed.cache.wildcards)
+    refl
+
+rows-same : (flows : List Flow) (parts wholes : List TablesValue) → AreListed flows parts wholes
+    → (k router : ℕ) → row_at (slice_get parts router) (slice_get flows k)
+    ≡ row_at (slice_get wholes router) (slice_get flows k)
+rows-same flows [] [] are k router = refl
+rows-same flows [] (whole ∷ wholes) are k router = absurd are
+rows-same flows (part ∷ parts) [] are k router = absurd are
+rows-same flows (part ∷ parts) (whole ∷ wholes) are k zero =
+    row-same flows part whole are.0 k (slice_get flows k) refl
+rows-same flows (part ∷ parts) (whole ∷ wholes) are k (suc router) =
+    rows-same flows parts wholes are.1 k router
+
+-- and its vifs are placed alike
+vifs-same : (flows : List Flow) (parts wholes : List TablesValue) → AreListed flows parts wholes
+    → (router vif : ℕ) → vif_of parts router vif ≡ vif_of wholes router vif
+vifs-same flows [] [] are router vif = refl
+vifs-same flows [] (whole ∷ wholes) are router vif = absurd are
+vifs-same flows (part ∷ parts) [] are router vif = absurd are
+vifs-same flows (part ∷ parts) (whole ∷ wholes) are zero vif =
+    ap (λ vs. finite.get vs vif) are.0.vifs
+vifs-same flows (part ∷ parts) (whole ∷ wholes) are (suc router) vif =
+    vifs-same flows parts wholes are.1 router vif
+
+pub listed-same : (t : TopologyValue) (parts wholes : List TablesValue) (wants : List (List Bool))
+    → AreListed t.flows parts wholes
+    → SaysTheSame (domain_with t wholes wants) (domain_with t parts wants)
+listed-same t parts wholes wants are =
+    let whole = domain_with t wholes wants in
+    let row = λ (flow router : ℕ). sym (rows-same t.flows parts wholes are flow router) in
+    let placed = λ (router vif : ℕ). ap (option_and_then (lan_of_vif t router))
+    (sym (vifs-same t.flows parts wholes are router vif)) in
+    record {
+      topology = refl;
+      nets = λ flow. λ i. record {
+        routers = length t.routers;
+        placed = λ router vif. placed router vif i;
+        row = λ router. row flow router i;
+        wants = wants_of whole flow;
+        source = source_of whole flow;
+        ttl = ttl_of whole flow;
+      };
+    }
+
+-- ---- item by item
+
+module _ {A B : Type 0} (R : A → B → Type 0) where
+  -- one more on both sides
+  pub pairwise-more : (xs : List A) (ys : List B) (x : A) (y : B) → Pairwise R xs ys → R x y
+      → Pairwise R (xs ++ x ∷ []) (ys ++ y ∷ [])
+  pairwise-more [] [] x y are one = (one, tt)
+  pairwise-more [] (z ∷ ys) x y are one = absurd are
+  pairwise-more (z ∷ xs) [] x y are one = absurd are
+  pairwise-more (z ∷ xs) (w ∷ ys) x y are one = (are.0, pairwise-more xs ys x y are.1 one)
+
+  pub pairwise-count : (xs : List A) (ys : List B) → Pairwise R xs ys → length xs ≡ length ys
+  pairwise-count [] [] are = refl
+  pairwise-count [] (y ∷ ys) are = absurd are
+  pairwise-count (x ∷ xs) [] are = absurd are
+  pairwise-count (x ∷ xs) (y ∷ ys) are = ap suc (pairwise-count xs ys are.1)
+
+  pub pairwise-each : (xs : List A) (ys : List B) → Pairwise R xs ys → EachAt R xs ys
+  pairwise-each [] [] are k x y at here = absurd cc
+  pairwise-each [] (w ∷ ys) are k x y at here = absurd are
+  pairwise-each (z ∷ xs) [] are k x y at here = absurd are
+  pairwise-each (z ∷ xs) (w ∷ ys) are zero x y at here =
+      let first : z ≡ x = cc in
+      let second : w ≡ y = cc in
+      subst (λ (a : A). R a y) first (subst (λ (b : B). R z b) second are.0)
+  pairwise-each (z ∷ xs) (w ∷ ys) are (suc k) x y at here = pairwise-each xs ys are.1 k x y at here

@@ -37,21 +37,21 @@ named_ok (Some p) name n part e =
 part_names : (parts : List PartText) → Names (part_named parts)
 part_names parts n slot part e = (named_ok (slice_get parts n) (part_name slot) n part e).1
 
-part_again : (parts : List PartText) (n : ℕ) (slot : Slot) (part : PartText)
+pub part_again : (parts : List PartText) (n : ℕ) (slot : Slot) (part : PartText)
     → slice_get parts n ≡ Some part → part.name ≡ part_name slot
     → part_named parts n slot ≡ Ok part
 part_again parts n slot part at is =
     rw (at, (bytes_eq-Decides part.name (part_name slot)).1 is) refl
 
 -- what a list has at a place is what it begins with from there on
-at-drop : {A : Type 0} (xs : List A) (i : ℕ) (y : A) (ys : List A) → drop i xs ≡ y ∷ ys
+pub at-drop : {A : Type 0} (xs : List A) (i : ℕ) (y : A) (ys : List A) → drop i xs ≡ y ∷ ys
     → slice_get xs i ≡ Some y
 at-drop [] zero y ys e = absurd (cc)
 at-drop [] (suc i) y ys e = absurd (cc)
 at-drop (x ∷ xs) zero y ys e = let same : x ≡ y = cc in ap (λ z. Some z) same
 at-drop (x ∷ xs) (suc i) y ys e = at-drop xs i y ys e
 
-drop-more : {A : Type 0} (xs : List A) (i : ℕ) (y : A) (ys : List A) → drop i xs ≡ y ∷ ys
+pub drop-more : {A : Type 0} (xs : List A) (i : ℕ) (y : A) (ys : List A) → drop i xs ≡ y ∷ ys
     → drop (i + 1) xs ≡ ys
 drop-more xs i y ys e =
     let whole : y ∷ drop (i + 1) xs ≡ y ∷ ys = sym (drop-at xs i y (at-drop xs i y ys e)) ∙ e in cc

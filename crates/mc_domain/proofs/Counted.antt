@@ -1,15 +1,11 @@
 -- What stands for an input has tables for each router and a report list for each LAN.
-use Rattle.std.proofs.Common.{◌≡◌, suc, ℕ, List, [], ◌∷◌, length, Option, Result, Ok, Err, refl, ap}
-use Rattle.std.specs.Prelude.{IfOk}
+use Rattle.std.proofs.Common.{◌≡◌, suc, ℕ, List, [], ◌∷◌, length, Option, refl, ap}
 use Rattle.mc_text.specs.Bundle.{PartText}
 use Rattle.mc_igmp.specs.declared.record.Record.{Record}
 use Rattle.mc_topology.specs.Rows.{RouterRow}
 use Rattle.mc_forward.specs.Assembling.{AreCounted}
 use Rattle.mc_forward.specs.Domains.{TablesValue}
-use Rattle.mc_domain.specs.Input.{InputValue, InputStands, PartsStand, TellReports, TellTables}
-use Rattle.mc_domain.specs.InputView.{certificate_seen, input_value}
-use Rattle.mc_domain.specs.declared.fault.InputFault.{InputFault}
-use Rattle.mc_domain.specs.declared.contents.Contents.{Contents}
+use Rattle.mc_domain.specs.Input.{InputValue, PartsStand, TellReports, TellTables}
 
 reports_count : (lans : List (List ℕ)) (here : List PartText) (all : List (List Record))
     (rest : List PartText)
@@ -39,11 +35,3 @@ counted parts v c stand = record {
   routers = tables_count v.topology.routers stand.of_routers v.tables stand.of_lans stand.tables;
   lans = reports_count v.topology.lans stand.of_lans v.reports stand.last stand.reports;
 }
-
--- and what was read of a bundle
-pub read_counted : (text : List ℕ) (r : Result Contents InputFault)
-    → IfOk r (λ i. InputStands text (input_value i) (certificate_seen i.certificate))
-    → IfOk r (λ i. AreCounted i.topology i.tables.items i.reports.items)
-read_counted text (Ok i) stands =
-    counted stands.parts (input_value i) (certificate_seen i.certificate) stands.stand
-read_counted text (Err fault) stands = tt

@@ -8,13 +8,13 @@ use Rattle.mc_layout.specs.Files.{FileText}
 use Rattle.mc_layout.specs.Layout.{Slot}
 use Rattle.mc_layout.specs.declared.fault.FileFault.{FileFault}
 use Rattle.mc_layout.specs.declared.fault.FileFault.TheVariants as file
-use Rattle.mc_domain.specs.FilesFault.{IsSilent, is_read, of_file}
+use Rattle.mc_domain.specs.SourceFault.{IsSilent, is_read, of_file}
 use Rattle.mc_domain.specs.FilesReading.{part_filed}
 use Rattle.mc_domain.specs.PartsReading.{told_by}
 use Rattle.mc_domain.specs.declared.fault.InputFault.{InputFault}
 use Rattle.mc_domain.specs.declared.fault.InputFault.TheVariants.{Memory}
-use Rattle.mc_domain.specs.declared.files_fault.FilesFault.{FilesFault}
-use Rattle.mc_domain.specs.declared.files_fault.FilesFault.TheVariants.{Input}
+use Rattle.mc_domain.specs.declared.source_fault.SourceFault.{SourceFault}
+use Rattle.mc_domain.specs.declared.source_fault.SourceFault.TheVariants.{Input}
 
 -- a file's fault that is silent is so as that of the files
 silent_of : (fault : FileFault) → IsOfSource fault → IsSilent (of_file fault)
@@ -55,8 +55,8 @@ module _ {X : Type 0} (files : List FileText) (n : ℕ) (slot given : Slot)
       rw (here, told) refl
 
 -- the source failed as often in a call as in its last step, where no earlier one failed
-pub failed_as : {X Y : Type 0} (fault : FilesFault) (r : Result X FilesFault)
-    (s : Result Y FilesFault) (new between old : ℕ) → r ≡ Err fault → s ≡ Err fault
+pub failed_as : {X Y : Type 0} (fault : SourceFault) (r : Result X SourceFault)
+    (s : Result Y SourceFault) (new between old : ℕ) → r ≡ Err fault → s ≡ Err fault
     → new ≡ counted is_read s between → between ≡ old → new ≡ counted is_read r old
 failed_as fault r s new between old is step first before =
     rw (is) (first ∙ rw (step, before) refl)

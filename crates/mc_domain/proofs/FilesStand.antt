@@ -11,12 +11,12 @@ use Rattle.mc_layout.specs.Packing.{ArePacked}
 use Rattle.mc_layout.proofs.PartLemmas.{IsSmall, refused_ok, part_takes, part_again}
 use Rattle.mc_domain.specs.Input.{InputValue}
 use Rattle.mc_domain.specs.InputView.{input_value}
-use Rattle.mc_domain.specs.FilesFault.{Gives, of_file}
+use Rattle.mc_domain.specs.SourceFault.{Gives, of_file}
 use Rattle.mc_domain.specs.FilesInput.{FilesStand}
 use Rattle.mc_domain.specs.FilesReading.{part_filed, files_of}
 use Rattle.mc_domain.specs.declared.contents.Contents.{Contents}
-use Rattle.mc_domain.specs.declared.files_fault.FilesFault.{FilesFault}
-use Rattle.mc_domain.specs.declared.files_fault.FilesFault.TheVariants.{Input}
+use Rattle.mc_domain.specs.declared.source_fault.SourceFault.{SourceFault}
+use Rattle.mc_domain.specs.declared.source_fault.SourceFault.TheVariants.{Input}
 use Rattle.mc_domain.proofs.ServedLemmas.{Serves, Names, served_take, served_again}
 
 filed_names : (files : List FileText) → Names (part_filed files)
@@ -65,12 +65,12 @@ files_again files v h =
 -- ---- what a call answers
 
 -- what was read of the files, they stand for
-pub read_stands : (told : Option (List FileText)) (r : Result Contents FilesFault)
+pub read_stands : (told : Option (List FileText)) (r : Result Contents SourceFault)
     → ((files : List FileText) → told ≡ Some files → Gives input_value r (files_of files))
     → IfOk r (λ input. IfSome told (λ files. FilesStand files (input_value input)))
 read_stands None r given = none r
   where
-    none : (r : Result Contents FilesFault)
+    none : (r : Result Contents SourceFault)
         → IfOk r (λ input. IfSome None (λ (files : List FileText). FilesStand files
         (input_value input)))
     none (Ok input) = tt
@@ -79,7 +79,7 @@ read_stands (Some files) (Ok input) given = files_take files (input_value input)
 read_stands (Some files) (Err fault) given = tt
 
 -- and files that stand for an input are read as that
-pub read_again : (told : Option (List FileText)) (r : Result Contents FilesFault)
+pub read_again : (told : Option (List FileText)) (r : Result Contents SourceFault)
     → ((files : List FileText) → told ≡ Some files → Gives input_value r (files_of files))
     → (files : List FileText) (v : InputValue) → told ≡ Some files → FilesStand files v
     → Gives input_value r (Ok v)

@@ -1,11 +1,17 @@
 mod BundleStand
+mod ComingLemmas
 mod Counted
+mod FeedLemmas
 mod FilesLemmas
 mod FilesStand
 pub mod OneDomain
+mod InTurnLemmas
+mod KeptLemmas
+mod MeansLemmas
 mod OneInput
 mod ReadLemmas
 mod ReadingLemmas
 mod ServedLemmas
-pub mod WholeText
+mod TakenLemmas
+mod TurnLemmas
 pub mod WithCertificate

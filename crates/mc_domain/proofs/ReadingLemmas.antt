@@ -175,13 +175,6 @@ module _ {F : Type 0} (as_ours : InputFault → F) (source : ℕ → Slot → Re
   unfolding reading
   topology_refused judge fault topology = rw (topology) refl
 
-  -- with the topology known, the names and the contents are judged
-  pub reading_beside : (judge : TopologyValue → Result (Unit {0}) F) (t : TopologyValue)
-      → told_by as_ours (source 0 topology_slot) topology_of ≡ Ok t
-      → reading as_ours source judge ≡ (judge t >>= λ _. contents as_ours source t)
-  unfolding reading
-  reading_beside judge t topology = rw (topology) refl
-
   -- what is judged is read as its contents are
   pub contents_of : (judge : TopologyValue → Result (Unit {0}) F) (t : TopologyValue) (x : Unit {0})
       → told_by as_ours (source 0 topology_slot) topology_of ≡ Ok t → judge t ≡ Ok x

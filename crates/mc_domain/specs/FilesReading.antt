@@ -6,16 +6,16 @@ use Rattle.mc_text.specs.Bundle.{PartText}
 use Rattle.mc_layout.specs.FilePart.{file_part}
 use Rattle.mc_layout.specs.Files.{FileText}
 use Rattle.mc_layout.specs.Layout.{Slot}
-use Rattle.mc_domain.specs.FilesFault.{of_file}
+use Rattle.mc_domain.specs.SourceFault.{of_file}
 use Rattle.mc_domain.specs.Input.{InputValue}
 use Rattle.mc_domain.specs.PartsReading.{reading}
-use Rattle.mc_domain.specs.declared.files_fault.FilesFault.{FilesFault}
-use Rattle.mc_domain.specs.declared.files_fault.FilesFault.TheVariants.{Input}
+use Rattle.mc_domain.specs.declared.source_fault.SourceFault.{SourceFault}
+use Rattle.mc_domain.specs.declared.source_fault.SourceFault.TheVariants.{Input}
 
 -- the part of a slot, as its file makes it
-abbrev pub part_filed : List FileText → ℕ → Slot → Result PartText FilesFault
+abbrev pub part_filed : List FileText → ℕ → Slot → Result PartText SourceFault
 part_filed files n slot = refused_as of_file (file_part files slot)
 
 -- the input of the files
-abbrev pub files_of : List FileText → Result InputValue FilesFault
+abbrev pub files_of : List FileText → Result InputValue SourceFault
 files_of files = reading Input (part_filed files) (λ t. Ok tt)

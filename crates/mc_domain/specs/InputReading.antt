@@ -12,7 +12,7 @@ use Rattle.mc_topology.specs.Topology.{TopologyValue}
 use Rattle.mc_layout.specs.Belongs.{belongs}
 use Rattle.mc_layout.specs.Layout.{Slot, part_name, slots}
 use Rattle.mc_domain.specs.Input.{InputValue}
-use Rattle.mc_domain.specs.PartsReading.{contents, reading}
+use Rattle.mc_domain.specs.PartsReading.{reading}
 use Rattle.mc_domain.specs.declared.fault.InputFault.{InputFault}
 use Rattle.mc_domain.specs.declared.fault.InputFault.TheVariants.{Bundle, Parts, Memory}
 
@@ -42,11 +42,6 @@ refused_part (Some n) = Err (Parts (n + 1))
 abbrev pub names_in : (certified : Bool) → List PartText → TopologyValue
     → Result (Unit {0}) InputFault
 names_in certified parts t = refused_part (belongs certified t parts)
-
--- what is told beside the topology, where the names and the number of all parts are right
-abbrev pub contents_in : Bool → List PartText → TopologyValue → Result InputValue InputFault
-contents_in certified parts t =
-    names_in certified parts t >>= λ _. contents (λ fault. fault) (part_named parts) t
 
 -- the input of the parts
 abbrev pub input_in : Bool → List PartText → Result InputValue InputFault

@@ -1,6 +1,6 @@
 -- What was read of a bundle or of files, as the value that it stands for.
-use Rattle.std.specs.Prelude.{ℕ, List, Option, Some, None}
-use denote.Ref.{Bor}
+use Rattle.std.specs.Prelude.{ℕ, List, Option, Vec, option_map}
+use Rattle.std.specs.declared.alloc.Global.{Global}
 use Rattle.mc_igmp.specs.declared.record.Record.{Record}
 use Rattle.mc_topology.specs.Topology.{TopologyValue}
 use Rattle.mc_forward.specs.Domains.{TablesValue}
@@ -15,9 +15,5 @@ abbrev pub input_value : Contents → InputValue
 input_value c = input_with c.topology c.tables.items c.reports.items
 
 -- the text of the certificate
-abbrev pub certificate_seen : Option (Bor (List ℕ)) → Option (List ℕ)
-certificate_seen None = None
-certificate_seen (Some text) = Some text.now
-
-abbrev pub input_seen : Contents → InputValue × Option (List ℕ)
-input_seen c = (input_value c, certificate_seen c.certificate)
+abbrev pub text_seen : Option (Vec ℕ Global) → Option (List ℕ)
+text_seen text = option_map (λ bytes. bytes.items) text

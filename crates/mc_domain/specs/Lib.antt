@@ -1,8 +1,9 @@
 pub mod Input
 pub mod InputReading
 pub mod InputView
+pub mod PartsInTurn
 pub mod PartsReading
-pub mod FilesFault
+pub mod SourceFault
 pub mod FilesInput
 pub mod FilesReading
 pub mod Meaning
@@ -17,6 +18,7 @@ pub use Rattle.mc_tables.specs.VifTable
 pub use Rattle.mc_tables.specs.VifReading
 pub use Rattle.mc_tables.specs.CacheTable
 pub use Rattle.mc_tables.specs.CacheReading
+pub use Rattle.mc_tables.specs.ListedRows
 pub use Rattle.mc_igmp.specs.ReportList
 pub use Rattle.mc_igmp.specs.ReadingList
 pub use Rattle.mc_topology.specs.Topology
@@ -24,3 +26,4 @@ pub use Rattle.mc_topology.specs.Stands
 pub use Rattle.mc_topology.specs.Reading
 pub use Rattle.mc_forward.specs.Domains
 pub use Rattle.mc_forward.specs.Assembling
+pub use Rattle.mc_forward.specs.ListedTables

@@ -3,6 +3,7 @@ use Rattle.std.specs.Prelude.{ℕ, List, Option, None}
 use Rattle.mc_layout.specs.Files.{FileText}
 use Rattle.mc_forward.specs.Assembling.{IsAssembled}
 use Rattle.mc_forward.specs.Domains.{DomainValue, IsDomain}
+use Rattle.mc_forward.specs.ListedTables.{SaysTheSame}
 use Rattle.mc_domain.specs.FilesInput.{FilesStand}
 use Rattle.mc_domain.specs.Input.{InputValue, InputStands}
 
@@ -22,6 +23,13 @@ MeansDomain text certificate d = Means (λ t input. InputStands t input certific
 -- the same, where there is to be none
 abbrev pub MeansUncertified : List ℕ → DomainValue → Type 0
 MeansUncertified text d = MeansDomain text None d
+
+-- It means a domain that says of each flow what this one says.
+pub record MeansListed (text : List ℕ) (certificate : Option (List ℕ)) (d : DomainValue) : Type 0
+  where
+    pub whole : DomainValue
+    pub means : MeansDomain text certificate whole
+    pub same : SaysTheSame whole d
 
 -- the files tell the domain
 abbrev pub MeansFiles : List FileText → DomainValue → Type 0

@@ -1,113 +1,309 @@
-//! One part of a bundle, which has to have the name of its slot, and what it tells.
+//! One part of a bundle, which has to have the name of its slot, and what is kept of what it tells.
 
-ghost use Rattle.std.specs.Prelude.{◌≡◌, ◌<◌, IsTrue, length, OnOk, IfErr, Ok, Err, Some, slice_get};
+ghost use Rattle.std.specs.Prelude.{◌≡◌, ◌≢◌, ◌<◌, ◌≤◌, ℕ, List, Some, Ok, Err, IfOk, IfErr};
+ghost use Rattle.std.specs.Prelude.{drop, length, Result};
 ghost use Rattle.mc_text.specs.Bundle.{PartText};
-ghost use Rattle.mc_topology.specs.Names.{is_name};
-ghost use Rattle.mc_layout.specs.Layout.{cache_slot, reports_slot, slots, topology_slot, vif_slot};
-ghost use Rattle.mc_domain.specs.InputReading.{Gives, names_in as names_of_parts};
-ghost use Rattle.mc_domain.specs.InputReading.{part_named};
-ghost use Rattle.mc_domain.specs.PartsReading.{cache_of as told_cache, reports_of as told_reports, told_by};
+ghost use Rattle.mc_text.specs.Device.{counted};
+ghost use Rattle.mc_text.specs.PartsToCome.{GoesOn, Passes};
+ghost use Rattle.mc_text.specs.Steps.{refused_as};
+ghost use Rattle.mc_tables.specs.ListedRows.{IsListedPart, listed_in};
+ghost use Rattle.mc_tables.specs.RowsSoFar.{cache_if, no_cache};
+ghost use Rattle.mc_text.specs.Lines.{max_text};
+ghost use Rattle.mc_layout.specs.Layout.{part_name, slots, topology_slot};
+ghost use Rattle.mc_forward.specs.Assembling.{AreGroupsOf, AreWanted};
+ghost use Rattle.mc_forward.specs.ListedTables.{flow_pairs};
+ghost use Rattle.mc_domain.specs.PartsInTurn.{IsAt, IsToldOf, Refuses, Tells, coming, once_named, names_from};
+ghost use Rattle.mc_domain.specs.PartsInTurn.{of_first, topology_first};
+ghost use Rattle.mc_domain.specs.PartsReading.{cache_of as told_cache, reports_of as told_reports};
 ghost use Rattle.mc_domain.specs.PartsReading.{topology_of as told_topology, vifs_of as told_vifs};
+ghost use Rattle.mc_domain.specs.SourceFault.{IsSilent, is_read};
+ghost use Rattle.mc_domain.specs.declared.fault.InputFault.{InputFault as FaultOfInput};
+ghost use Rattle.mc_domain.specs.declared.fault.InputFault.TheVariants.{Cache as RefusedCache};
+ghost use Rattle.mc_domain.specs.declared.source_fault.SourceFault.TheVariants.{Input as refused};
 
 use crate::fault::InputFault;
-use crate::told::{cache_of, reports_of, topology_of, vifs_of};
-use mc_igmp::ReportList;
-use mc_layout::{Slot, first_other};
-use mc_tables::{CacheTable, VifTable};
-use mc_text::{Bundle, Order};
+use crate::slot_part::{open_named, open_slot, read_on, read_to_end};
+use crate::source_fault::SourceFault;
+use crate::table_part::feed_part;
+use crate::told::{cache_told, topology_of, vifs_told, wanted_of};
+use mc_forward::{FlowGroups, Items};
+use mc_layout::Slot;
+use mc_tables::{CacheReader, CacheTable, VifReader, VifTable};
+use mc_text::{Input, Order, Part, Parts, collect_part};
 use mc_topology::Topology;
 use std::alloc::Global;
 
-/// Looks at the names and the number of all parts.
-pub(crate) fn names_in(
-    bundle: &Bundle<'_>,
+/// What is kept of a part, or why it is refused: its fault is held back until all parts that come
+/// have the names of the slots from a number on.
+fn kept<R: Input, K: Drop>(
+    parts: &mut Parts<R>,
     topology: &Topology,
     certified: bool,
-) -> Result<(), InputFault>
-    ensures named { result ≡ names_of_parts certified bundle.now topology.now }
-    ensures count { OnOk result (length bundle.now ≡ length (slots certified topology.now)) }
+    number: u32,
+    told: Result<K, InputFault>,
+) -> Result<K, SourceFault>
+    requires within { number ≤ length (slots certified topology.now) }
+    requires failures { parts.old.failed < u64.MAX }
+    ensures kept { IfOk result (λ kept. (told ≡ Ok kept) × (parts.new ≡ parts.old)) }
+    // What is to come is refused for its framing or for a name, or for this fault.
+    ensures fault { (text : List ℕ) (read : List PartText → Result (Unit {0}) FaultOfInput) →
+        parts.old.told ≡ Some text → IfErr result (λ fault. ¬ IsSilent fault →
+        (own : FaultOfInput) × (told ≡ Err own)
+        × ((own ≢ InputFault.Memory → (others : List PartText) → read others ≡ Err own) →
+        refused_as refused (coming parts.old text (once_named certified topology.now number read))
+        ≡ Err fault)) }
+    ensures goes_on { GoesOn parts.old parts.new }
+    ensures failures { parts.new.failed ≡ counted is_read result parts.old.failed }
 {
-    match first_other(bundle, topology, certified) {
-        None => Ok(()),
-        Some(number) => Err(InputFault::Parts(number + 1)),
+    match told {
+        Ok(kept) => Ok(kept),
+        Err(InputFault::Memory) => Err(SourceFault::Input(InputFault::Memory)),
+        Err(fault) => {
+            read_on(parts, topology, certified, number)?;
+            Err(SourceFault::Input(fault))
+        }
     }
 }
 
-/// Looks whether the part with a number, counted from 0, is there and has the name of the slot.
-fn named(bundle: &Bundle<'_>, number: u32, slot: &Slot<'_>) -> Result<(), InputFault>
+/// What the part of a router's vifs tells.
+fn read_vifs<R: Input>(
+    alloc: Global,
+    parts: &mut Parts<R>,
+    buffer: &mut [u8],
+    topology: &Topology,
+    certified: bool,
+    number: u32,
+) -> Result<Result<VifTable, InputFault>, SourceFault>
+    requires within { number < length (slots certified topology.now) }
     requires few { number < u32.MAX }
-    ensures within { OnOk result (number < length bundle.now) }
-    ensures ok { OnOk result ((part : PartText) → slice_get bundle.now number ≡ Some part
-        → part_named bundle.now number slot.now ≡ Ok part) }
-    ensures err { IfErr result (λ fault. part_named bundle.now number slot.now ≡ Err fault) }
+    requires room { 0 < length buffer.old }
+    requires failures { parts.old.failed < u64.MAX }
+    ensures told { IfOk result (λ told. Passes parts.old parts.new (λ part.
+        IsAt certified topology.now number part.name
+        × IsToldOf (λ kept vifs. kept ≡ vifs) told (told_vifs part))) }
+    ensures fault { IfErr result (Refuses parts.old
+        (names_from number (drop number (slots certified topology.now)))) }
+    ensures goes_on { GoesOn parts.old parts.new }
+    ensures failures { parts.new.failed ≡ counted is_read result parts.old.failed }
 {
-    let place = number as usize;
-    if place >= bundle.count() {
-        return Err(InputFault::Parts(number + 1));
+    open_slot(parts, topology, certified, number)?;
+    let mut reader = VifReader::new(alloc);
+    feed_part(parts, buffer, &mut reader)?;
+    Ok(vifs_told(parts.name(), reader.finish()))
+}
+
+/// The vifs of a router, in the part of the slot with a number.
+pub(crate) fn vifs_in<R: Input>(
+    alloc: Global,
+    parts: &mut Parts<R>,
+    buffer: &mut [u8],
+    topology: &Topology,
+    certified: bool,
+    number: u32,
+) -> Result<VifTable, SourceFault>
+    requires within { number < length (slots certified topology.now) }
+    requires few { number < u32.MAX }
+    requires room { 0 < length buffer.old }
+    requires failures { parts.old.failed < u64.MAX }
+    ensures vifs { IfOk result (λ kept. Tells parts.old parts.new certified topology.now number
+        told_vifs (λ vifs. kept ≡ vifs)) }
+    ensures fault { IfErr result (Refuses parts.old
+        (once_named certified topology.now number (of_first told_vifs))) }
+    ensures goes_on { GoesOn parts.old parts.new }
+    ensures failures { parts.new.failed ≡ counted is_read result parts.old.failed }
+{
+    let told = read_vifs(alloc, parts, buffer, topology, certified, number)?;
+    kept(parts, topology, certified, number + 1, told)
+}
+
+/// What the part of a router's cache tells, of which the rows of these sources and groups are kept.
+fn read_cache<R: Input>(
+    parts: &mut Parts<R>,
+    buffer: &mut [u8],
+    topology: &Topology,
+    certified: bool,
+    number: u32,
+    reader: CacheReader,
+) -> Result<Result<CacheTable, InputFault>, SourceFault>
+    requires within { number < length (slots certified topology.now) }
+    requires few { number < u32.MAX }
+    requires room { 0 < length buffer.old }
+    requires start { reader.lines.size ≡ 0 }
+    requires failures { parts.old.failed < u64.MAX }
+    ensures told { IfOk result (λ told. Passes parts.old parts.new (λ part.
+        IsAt certified topology.now number part.name × (length part.bytes ≤ max_text)
+        × IsToldOf (λ kept cache. kept ≡ cache) told
+        (refused_as (RefusedCache part.name) (cache_if reader part.bytes)))) }
+    ensures fault { IfErr result (Refuses parts.old
+        (names_from number (drop number (slots certified topology.now)))) }
+    ensures goes_on { GoesOn parts.old parts.new }
+    ensures failures { parts.new.failed ≡ counted is_read result parts.old.failed }
+{
+    open_slot(parts, topology, certified, number)?;
+    let mut reader = reader;
+    feed_part(parts, buffer, &mut reader)?;
+    Ok(cache_told(parts.name(), reader.finish()))
+}
+
+/// A reader of a router's cache that keeps what it says of the flows.
+fn reader_of_flows(
+    alloc: Global,
+    topology: &Topology,
+    order: Order,
+) -> Result<CacheReader, InputFault>
+    ensures start { IfOk result (λ reader.
+        reader ≡ no_cache order (Some (flow_pairs topology.now.flows))) }
+    ensures reads { IfOk result (λ reader. (text : List ℕ) → length text ≤ max_text →
+        cache_if reader text ≡ listed_in order (Some (flow_pairs topology.now.flows)) text) }
+    ensures memory { IfErr result (λ fault. fault ≡ InputFault.Memory) }
+{
+    let mut listed = Vec::with_capacity(alloc, topology.flows() as usize)?;
+    for flow in 0..topology.flows() {
+        let flow = topology.flow(flow);
+        listed.push((flow.source, flow.group))?;
     }
-    let part = bundle.part(place);
-    if !slot.is_named(part.name.as_bytes()) {
-        return Err(InputFault::Parts(number + 1));
-    }
-    Ok(())
+    Ok(CacheReader::new(alloc, order, listed))
+}
+
+/// The forwarding cache of a router of this byte order, in the part of the slot with a number, of
+/// which the rows of listed flows are kept.
+pub(crate) fn cache_in<R: Input>(
+    alloc: Global,
+    parts: &mut Parts<R>,
+    buffer: &mut [u8],
+    topology: &Topology,
+    certified: bool,
+    number: u32,
+    order: Order,
+) -> Result<CacheTable, SourceFault>
+    requires within { number < length (slots certified topology.now) }
+    requires few { number < u32.MAX }
+    requires room { 0 < length buffer.old }
+    requires failures { parts.old.failed < u64.MAX }
+    ensures cache { IfOk result (λ kept. Tells parts.old parts.new certified topology.now number
+        (told_cache order) (IsListedPart (Some (flow_pairs topology.now.flows)) kept)) }
+    ensures fault { IfErr result (Refuses parts.old
+        (once_named certified topology.now number (of_first (told_cache order)))) }
+    ensures goes_on { GoesOn parts.old parts.new }
+    ensures failures { parts.new.failed ≡ counted is_read result parts.old.failed }
+{
+    let reader = reader_of_flows(alloc, topology, order)?;
+    let told = read_cache(parts, buffer, topology, certified, number, reader)?;
+    kept(parts, topology, certified, number + 1, told)
+}
+
+/// What the part of a LAN's reports tells: which flows they want.
+fn read_reports<R: Input>(
+    alloc: Global,
+    parts: &mut Parts<R>,
+    buffer: &mut [u8],
+    topology: &Topology,
+    groups: &FlowGroups,
+    certified: bool,
+    number: u32,
+) -> Result<Result<Items<bool>, InputFault>, SourceFault>
+    requires within { number < length (slots certified topology.now) }
+    requires few { number < u32.MAX }
+    requires room { 0 < length buffer.old }
+    requires groups { AreGroupsOf topology.now.flows groups.now }
+    requires failures { parts.old.failed < u64.MAX }
+    ensures told { IfOk result (λ told. Passes parts.old parts.new (λ part.
+        IsAt certified topology.now number part.name
+        × IsToldOf (λ wanted records. AreWanted topology.now.flows records wanted)
+        told (told_reports part))) }
+    ensures count { IfOk result (λ told. IfOk told (λ wanted.
+        length wanted ≡ length topology.now.flows)) }
+    ensures fault { IfErr result (Refuses parts.old
+        (names_from number (drop number (slots certified topology.now)))) }
+    ensures goes_on { GoesOn parts.old parts.new }
+    ensures failures { parts.new.failed ≡ counted is_read result parts.old.failed }
+{
+    open_slot(parts, topology, certified, number)?;
+    let bytes = collect_part(alloc, parts, buffer)?;
+    let part = Part {
+        name: parts.name(),
+        bytes: &bytes,
+    };
+    Ok(wanted_of(alloc, topology, groups, &part))
+}
+
+/// Which flows a LAN wants, by its reports in the part of the slot with a number.
+pub(crate) fn wanted_in<R: Input>(
+    alloc: Global,
+    parts: &mut Parts<R>,
+    buffer: &mut [u8],
+    topology: &Topology,
+    groups: &FlowGroups,
+    certified: bool,
+    number: u32,
+) -> Result<Items<bool>, SourceFault>
+    requires within { number < length (slots certified topology.now) }
+    requires few { number < u32.MAX }
+    requires room { 0 < length buffer.old }
+    requires groups { AreGroupsOf topology.now.flows groups.now }
+    requires failures { parts.old.failed < u64.MAX }
+    ensures wanted { IfOk result (λ wanted. Tells parts.old parts.new certified topology.now number
+        told_reports (λ records. AreWanted topology.now.flows records wanted)) }
+    ensures count { IfOk result (λ wanted. length wanted ≡ length topology.now.flows) }
+    ensures fault { IfErr result (Refuses parts.old
+        (once_named certified topology.now number (of_first told_reports))) }
+    ensures goes_on { GoesOn parts.old parts.new }
+    ensures failures { parts.new.failed ≡ counted is_read result parts.old.failed }
+{
+    let told = read_reports(alloc, parts, buffer, topology, groups, certified, number)?;
+    kept(parts, topology, certified, number + 1, told)
+}
+
+/// The text of the certificate, in the part of the slot with a number.
+pub(crate) fn certificate_in<R: Input>(
+    alloc: Global,
+    parts: &mut Parts<R>,
+    buffer: &mut [u8],
+    topology: &Topology,
+    certified: bool,
+    number: u32,
+) -> Result<Vec<u8>, SourceFault>
+    requires within { number < length (slots certified topology.now) }
+    requires few { number < u32.MAX }
+    requires room { 0 < length buffer.old }
+    requires failures { parts.old.failed < u64.MAX }
+    ensures text { IfOk result (λ text. Passes parts.old parts.new (λ part.
+        IsAt certified topology.now number part.name × (part.bytes ≡ text.items))) }
+    ensures fault { IfErr result (Refuses parts.old
+        (names_from number (drop number (slots certified topology.now)))) }
+    ensures goes_on { GoesOn parts.old parts.new }
+    ensures failures { parts.new.failed ≡ counted is_read result parts.old.failed }
+{
+    open_slot(parts, topology, certified, number)?;
+    Ok(collect_part(alloc, parts, buffer)?)
 }
 
 /// The topology, in the first part.
-pub(crate) fn topology_in(alloc: Global, bundle: &Bundle<'_>) -> Result<Topology, InputFault>
-    ensures { Gives (λ topology. topology) result
-        (told_by (λ fault. fault) (part_named bundle.now 0 topology_slot) told_topology) }
-{
-    named(bundle, 0, &Slot::topology())?;
-    topology_of(alloc, &bundle.part(0))
-}
-
-/// The vifs of a router, in the part with a number.
-pub(crate) fn vifs_in(
+pub(crate) fn topology_in<R: Input>(
     alloc: Global,
-    bundle: &Bundle<'_>,
-    number: u32,
-    router: &str,
-) -> Result<VifTable, InputFault>
-    requires few { number < u32.MAX }
-    requires name { IsTrue (is_name router.now) }
-    ensures { Gives (λ vifs. vifs) result
-        (told_by (λ fault. fault) (part_named bundle.now number (vif_slot router.now)) told_vifs) }
+    parts: &mut Parts<R>,
+    buffer: &mut [u8],
+) -> Result<Topology, SourceFault>
+    requires room { 0 < length buffer.old }
+    requires failures { parts.old.failed < u64.MAX }
+    ensures topology { IfOk result (λ topology. Passes parts.old parts.new (λ part.
+        (part.name ≡ part_name topology_slot) × (told_topology part ≡ Ok topology))) }
+    ensures fault { IfErr result (Refuses parts.old topology_first) }
+    ensures goes_on { GoesOn parts.old parts.new }
+    ensures failures { parts.new.failed ≡ counted is_read result parts.old.failed }
 {
-    named(bundle, number, &Slot::vifs(router))?;
-    vifs_of(alloc, &bundle.part(number as usize))
-}
-
-/// The forwarding cache of a router, in the part with a number.
-pub(crate) fn cache_in(
-    alloc: Global,
-    bundle: &Bundle<'_>,
-    number: u32,
-    router: &str,
-    order: Order,
-) -> Result<CacheTable, InputFault>
-    requires few { number < u32.MAX }
-    requires name { IsTrue (is_name router.now) }
-    ensures { Gives (λ cache. cache) result
-        (told_by (λ fault. fault) (part_named bundle.now number (cache_slot router.now))
-        (told_cache order)) }
-{
-    named(bundle, number, &Slot::cache(router))?;
-    cache_of(alloc, &bundle.part(number as usize), order)
-}
-
-/// The report list of a LAN, in the part with a number.
-pub(crate) fn reports_in(
-    alloc: Global,
-    bundle: &Bundle<'_>,
-    number: u32,
-    lan: &str,
-) -> Result<ReportList, InputFault>
-    requires few { number < u32.MAX }
-    requires name { IsTrue (is_name lan.now) }
-    ensures { Gives (λ reports. reports) result
-        (told_by (λ fault. fault) (part_named bundle.now number (reports_slot lan.now))
-        told_reports) }
-{
-    named(bundle, number, &Slot::reports(lan))?;
-    reports_of(alloc, &bundle.part(number as usize))
+    open_named(parts, &Slot::topology(), 0)?;
+    let bytes = collect_part(alloc, parts, buffer)?;
+    let part = Part {
+        name: parts.name(),
+        bytes: &bytes,
+    };
+    match topology_of(alloc, &part) {
+        Ok(topology) => Ok(topology),
+        Err(InputFault::Memory) => Err(SourceFault::Input(InputFault::Memory)),
+        Err(fault) => {
+            read_to_end(parts)?;
+            Err(SourceFault::Input(fault))
+        }
+    }
 }

@@ -1,54 +1,161 @@
 //! The domain that a bundle or a folder's files mean, put together of what they tell.
 
-ghost use Rattle.std.specs.Prelude.{◌≡◌, ◌≢◌, ◌<◌, Err, IfErr, IfOk, IfSome, is_some};
+ghost use Rattle.std.specs.Prelude.{◌≡◌, ◌<◌, ℕ, Err, IfErr, IfOk, IfSome, List, MatchResult, Option};
+ghost use Rattle.std.specs.Prelude.{Some, is_some, length};
+ghost use Rattle.mc_text.specs.Bundle.{max_input};
 ghost use Rattle.mc_text.specs.Device.{counted};
+ghost use Rattle.mc_text.specs.PartsToCome.{GoesOn};
+ghost use Rattle.mc_text.specs.ReadFault.{ConsumesUpTo};
+ghost use Rattle.mc_text.specs.Steps.{refused_as};
 ghost use Rattle.mc_forward.specs.Assembling.{AreCounted, IsAssembled};
-ghost use Rattle.mc_forward.specs.Domains.{IsDomain};
-ghost use Rattle.mc_domain.specs.FilesFault.{IsSilent, is_read};
+ghost use Rattle.mc_forward.specs.Domains.{DomainValue, IsDomain};
+ghost use Rattle.mc_forward.specs.ListedTables.{SaysTheSame};
 ghost use Rattle.mc_domain.specs.FilesReading.{files_of};
 ghost use Rattle.mc_domain.specs.InputReading.{input_of};
-ghost use Rattle.mc_domain.specs.InputView.{certificate_seen};
-ghost use Rattle.mc_domain.specs.Meaning.{MeansDomain, MeansFiles};
+ghost use Rattle.mc_domain.specs.InputView.{text_seen};
+ghost use Rattle.mc_domain.specs.Meaning.{MeansDomain, MeansFiles, MeansListed};
+ghost use Rattle.mc_domain.specs.PartsInTurn.{IsReadOf, Refuses, told_in};
+ghost use Rattle.mc_domain.specs.SourceFault.{IsSilent, is_read};
+ghost use Rattle.mc_domain.specs.declared.source_fault.SourceFault.TheVariants.{Input as refused};
 
+use crate::bundle::contents_in;
+use crate::bundle_part::topology_in;
 use crate::contents::Contents;
 use crate::fault::InputFault;
 use crate::files::read_files;
-use crate::files_fault::FilesFault;
-use crate::input::read_input;
+use crate::source_fault::SourceFault;
 use mc_forward::{Domain, DomainFault};
 use mc_layout::FileSource;
+use mc_text::{Input, Parts};
 use std::alloc::Global;
+
+/// How many bytes of a part are read at once.
+const PIECE: usize = 65_536;
 
 /// A domain, and the text of the certificate where one was asked for.
 #[derive(Drop)]
-pub struct DomainRead<'a> {
+pub struct DomainRead {
     /// The domain.
     pub domain: Domain,
     /// The text of the certificate.
-    pub certificate: Option<&'a [u8]>,
+    pub certificate: Option<Vec<u8>>,
 }
 
-/// The domain of what a bundle or files tell.
-fn assembled<'a>(alloc: Global, contents: Contents<'a>) -> Result<DomainRead<'a>, InputFault>
-    requires counted { AreCounted contents.topology contents.tables.items contents.reports.items }
-    ensures assembled { IfOk result (λ read.
-        IsAssembled contents.entry.topology contents.entry.tables.items
-        contents.entry.reports.items read.domain) }
-    ensures certificate { IfOk result (λ read. read.certificate ≡ contents.entry.certificate) }
+/// The domain that the parts of a bundle tell.
+fn read_parts<R: Input>(
+    alloc: Global,
+    parts: &mut Parts<R>,
+    buffer: &mut [u8],
+    certified: bool,
+) -> Result<DomainRead, SourceFault>
+    requires room { 0 < length buffer.old }
+    requires failures { parts.old.failed < u64.MAX }
+    ensures told { IfOk result (λ read. (text : List ℕ) → parts.old.told ≡ Some text →
+        IsReadOf parts.old text certified read.domain (text_seen read.certificate)) }
+    ensures certified { IfOk result (λ read. is_some read.certificate ≡ certified) }
     ensures rules { IfOk result (λ read. IsDomain read.domain) }
+    ensures fault { IfErr result (Refuses parts.old (told_in certified)) }
+    ensures goes_on { GoesOn parts.old parts.new }
+    ensures failures { parts.new.failed ≡ counted is_read result parts.old.failed }
+{
+    let topology = topology_in(alloc, parts, buffer)?;
+    let listed = contents_in(alloc, parts, buffer, &topology, certified)?;
+    let certificate = listed.certificate;
+    let domain = Domain::of_wants(alloc, topology, listed.tables, listed.wants)?;
+    Ok(DomainRead {
+        domain,
+        certificate,
+    })
+}
+
+/// The domain that an input's bundle means, whose parts are read in pieces through the buffer.
+fn read_through<R: Input>(
+    alloc: Global,
+    input: &mut R,
+    buffer: &mut [u8],
+    certified: bool,
+) -> Result<DomainRead, SourceFault>
+    requires room { 0 < length buffer.old }
+    requires failures { R.failed input.old < u64.MAX }
+    ensures same { R.names input.new ≡ R.names input.old }
+    ensures means { IfOk result (λ read. IfSome (R.told input.old) (λ text.
+        MeansListed text (text_seen read.certificate) read.domain)) }
+    ensures certified { IfOk result (λ read. is_some read.certificate ≡ certified) }
+    ensures rules { IfOk result (λ read. IsDomain read.domain) }
+    ensures only { (text : List ℕ) (certificate : Option (List ℕ)) (domain : DomainValue) →
+        R.told input.old ≡ Some text → is_some certificate ≡ certified →
+        MeansDomain text certificate domain → MatchResult result
+        (λ read. SaysTheSame domain read.domain × (text_seen read.certificate ≡ certificate))
+        IsSilent }
+    ensures fault { (text : List ℕ) → R.told input.old ≡ Some text → IfErr result (λ fault.
+        ¬ IsSilent fault → refused_as refused (input_of certified text) ≡ Err fault) }
+    ensures consumed { ConsumesUpTo max_input (R.told input.old) (R.told input.new) }
+    ensures failures { R.failed input.new ≡ counted is_read result (R.failed input.old) }
+{
+    let mut parts = Parts::new(input);
+    let read = read_parts(alloc, &mut parts, buffer, certified);
+    let _input = parts.into_input();
+    read
+}
+
+/// Reads the domain that an input's bundle means: the parts `topology`, `vif/<router>` and
+/// `cache/<router>` for each router, `igmp/<lan>` for each LAN, each in the order of the topology,
+/// and `certificate` where `certified` says that one is to be there. Each part is read as it comes
+/// and let go; of the tables the rows of listed flows are kept. The count of the input's failures
+/// has to be below `u64::MAX`.
+///
+/// # Errors
+///
+/// The framing of the whole bundle is judged first, then the name of the first part, the topology,
+/// the names and the number of all parts, and then their contents in their order: reading goes on
+/// to the bundle's end, and the first fault in this order is answered. `Read` where the input
+/// failed, and `Input` with `Memory` where memory ran out, each at once.
+pub fn domain_in<R: Input>(
+    alloc: Global,
+    input: &mut R,
+    certified: bool,
+) -> Result<DomainRead, SourceFault>
+    requires { R.failed input.old < u64.MAX }
+    ensures same { R.names input.new ≡ R.names input.old }
+    // The bundle means a domain with the certificate, and what was read says the same of each flow.
+    ensures means { IfOk result (λ read. IfSome (R.told input.old) (λ text.
+        MeansListed text (text_seen read.certificate) read.domain)) }
+    // It has the text of a certificate exactly where one was asked for.
+    ensures certified { IfOk result (λ read. is_some read.certificate ≡ certified) }
+    ensures rules { IfOk result (λ read. IsDomain read.domain) }
+    // A bundle that means a domain is read, and as that, unless the input fails or memory runs out.
+    ensures only { (text : List ℕ) (certificate : Option (List ℕ)) (domain : DomainValue) →
+        R.told input.old ≡ Some text → is_some certificate ≡ certified →
+        MeansDomain text certificate domain → MatchResult result
+        (λ read. SaysTheSame domain read.domain × (text_seen read.certificate ≡ certificate))
+        IsSilent }
+    // Which fault it is.
+    ensures fault { (text : List ℕ) → R.told input.old ≡ Some text → IfErr result (λ fault.
+        ¬ IsSilent fault → refused_as refused (input_of certified text) ≡ Err fault) }
+    // No more is read than the greatest bundle and a line, whatever the answer.
+    ensures consumed { ConsumesUpTo max_input (R.told input.old) (R.told input.new) }
+    // Read comes only where the input's failures rose in the call.
+    ensures failures { R.failed input.new ≡ counted is_read result (R.failed input.old) }
+{
+    let mut buffer = Vec::from_elem(alloc, 0u8, PIECE)?;
+    read_through(alloc, input, &mut buffer, certified)
+}
+
+/// The domain of what files tell.
+fn assembled(alloc: Global, contents: Contents) -> Result<Domain, InputFault>
+    requires counted { AreCounted contents.topology contents.tables.items contents.reports.items }
+    ensures assembled { IfOk result (IsAssembled contents.topology contents.tables.items
+        contents.reports.items) }
+    ensures rules { IfOk result IsDomain }
     ensures memory { IfErr result (λ fault. fault ≡ InputFault.Memory) }
 {
     let Contents {
         topology,
         tables,
         reports,
-        certificate,
     } = contents;
     match Domain::assemble(alloc, topology, tables, reports) {
-        Ok(domain) => Ok(DomainRead {
-            domain,
-            certificate,
-        }),
+        Ok(domain) => Ok(domain),
         Err(refused) => {
             // Since their numbers fit, memory alone can be wanting.
             prove!(matches!(refused.fault, DomainFault::Memory));
@@ -57,38 +164,13 @@ fn assembled<'a>(alloc: Global, contents: Contents<'a>) -> Result<DomainRead<'a>
     }
 }
 
-/// Reads the domain that a bundle means, with the text of a certificate where `certified` says that
-/// one is to be there.
-///
-/// # Errors
-///
-/// The bundle's first fault, in the order of `read_input`. Or `Memory`.
-pub fn domain_in<'a>(
-    alloc: Global,
-    text: &'a [u8],
-    certified: bool,
-) -> Result<DomainRead<'a>, InputFault>
-    // The bundle means the domain, and it has the text of a certificate exactly where one was asked
-    // for.
-    ensures means { IfOk result (λ read.
-        MeansDomain text.now (certificate_seen read.certificate) read.domain) }
-    ensures certified { IfOk result (λ read. is_some (certificate_seen read.certificate)
-        ≡ certified) }
-    ensures rules { IfOk result (λ read. IsDomain read.domain) }
-    // Which fault it is, unless memory runs out.
-    ensures fault { IfErr result (λ fault. fault ≢ InputFault.Memory
-        → input_of certified text.now ≡ Err fault) }
-{
-    assembled(alloc, read_input(alloc, text, certified)?)
-}
-
 /// Reads the domain that a folder's files mean. The count of the source's failures has to be below
 /// `u64::MAX`.
 ///
 /// # Errors
 ///
 /// The files' first fault, in the order of `read_files`.
-pub fn domain_of<F: FileSource>(alloc: Global, files: &mut F) -> Result<Domain, FilesFault>
+pub fn domain_of<F: FileSource>(alloc: Global, files: &mut F) -> Result<Domain, SourceFault>
     requires { F.failed files.old < u64.MAX }
     ensures same { F.names files.new ≡ F.names files.old }
     ensures kept { F.told files.new ≡ F.told files.old }
@@ -102,6 +184,5 @@ pub fn domain_of<F: FileSource>(alloc: Global, files: &mut F) -> Result<Domain, 
     // A file is unread only where the source's failures rose in the call.
     ensures failures { F.failed files.new ≡ counted is_read result (F.failed files.old) }
 {
-    let read = assembled(alloc, read_files(alloc, files)?)?;
-    Ok(read.domain)
+    Ok(assembled(alloc, read_files(alloc, files)?)?)
 }

@@ -5,9 +5,9 @@ ghost use Rattle.mc_domain.specs.declared.fault.InputFault.TheVariants.{Memory};
 
 use mc_igmp::ListFault;
 use mc_tables::TableFault;
-use mc_text::{BundleFault, PartName};
+use mc_text::{BundleFault, Memory as NoMemory, PartName};
 use mc_topology::TopologyFault;
-use std::alloc::AllocFailed;
+use std::alloc::{AllocError, AllocFailed};
 
 /// Why a bundle tells no domain: its first fault in the order in which its parts are judged.
 #[derive(Clone, Copy, Debug, PartialEq, Eq)]
@@ -29,10 +29,26 @@ pub enum InputFault {
     Memory,
 }
 
+impl From<AllocError> for InputFault {
+    ghost from_gives = { λ _ fault. fault ≡ Memory };
+
+    fn from(_refused: AllocError) -> InputFault {
+        InputFault::Memory
+    }
+}
+
 impl<T: Drop> From<AllocFailed<T>> for InputFault {
     ghost from_gives = { λ _ fault. fault ≡ Memory };
 
     fn from(_refused: AllocFailed<T>) -> InputFault {
+        InputFault::Memory
+    }
+}
+
+impl From<NoMemory> for InputFault {
+    ghost from_gives = { λ _ fault. fault ≡ Memory };
+
+    fn from(_refused: NoMemory) -> InputFault {
         InputFault::Memory
     }
 }

@@ -4,13 +4,13 @@ ghost use Rattle.std.specs.Prelude.{◌≡◌, ◌<◌, ℕ, IsTrue};
 ghost use Rattle.mc_text.specs.Device.{counted};
 ghost use Rattle.mc_topology.specs.Names.{is_name};
 ghost use Rattle.mc_layout.specs.Layout.{cache_slot, reports_slot, topology_slot, vif_slot};
-ghost use Rattle.mc_domain.specs.FilesFault.{GivesOf, is_read};
+ghost use Rattle.mc_domain.specs.SourceFault.{GivesOf, is_read};
 ghost use Rattle.mc_domain.specs.FilesReading.{part_filed};
 ghost use Rattle.mc_domain.specs.PartsReading.{cache_of as told_cache, reports_of as told_reports, told_by};
 ghost use Rattle.mc_domain.specs.PartsReading.{topology_of as told_topology, vifs_of as told_vifs};
-ghost use Rattle.mc_domain.specs.declared.files_fault.FilesFault.TheVariants.{Input};
+ghost use Rattle.mc_domain.specs.declared.source_fault.SourceFault.TheVariants.{Input};
 
-use crate::files_fault::FilesFault;
+use crate::source_fault::SourceFault;
 use crate::told::{cache_of, reports_of, topology_of, vifs_of};
 use mc_igmp::ReportList;
 use mc_layout::{FileSource, Slot, part_of_file};
@@ -23,7 +23,7 @@ use std::alloc::Global;
 pub(crate) fn topology_in<F: FileSource>(
     alloc: Global,
     files: &mut F,
-) -> Result<Topology, FilesFault>
+) -> Result<Topology, SourceFault>
     requires reads { F.failed files.old < u64.MAX }
     ensures same { F.names files.new ≡ F.names files.old }
     ensures kept { F.told files.new ≡ F.told files.old }
@@ -40,7 +40,7 @@ pub(crate) fn vifs_in<F: FileSource>(
     alloc: Global,
     files: &mut F,
     router: &str,
-) -> Result<VifTable, FilesFault>
+) -> Result<VifTable, SourceFault>
     requires name { IsTrue (is_name router.now) }
     requires reads { F.failed files.old < u64.MAX }
     ensures same { F.names files.new ≡ F.names files.old }
@@ -59,7 +59,7 @@ pub(crate) fn cache_in<F: FileSource>(
     files: &mut F,
     router: &str,
     order: Order,
-) -> Result<CacheTable, FilesFault>
+) -> Result<CacheTable, SourceFault>
     requires name { IsTrue (is_name router.now) }
     requires reads { F.failed files.old < u64.MAX }
     ensures same { F.names files.new ≡ F.names files.old }
@@ -77,7 +77,7 @@ pub(crate) fn reports_in<F: FileSource>(
     alloc: Global,
     files: &mut F,
     lan: &str,
-) -> Result<ReportList, FilesFault>
+) -> Result<ReportList, SourceFault>
     requires name { IsTrue (is_name lan.now) }
     requires reads { F.failed files.old < u64.MAX }
     ensures same { F.names files.new ≡ F.names files.old }

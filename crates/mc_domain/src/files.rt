@@ -6,18 +6,18 @@ ghost use Rattle.mc_text.specs.Device.{counted};
 ghost use Rattle.mc_layout.specs.Files.{FileText};
 ghost use Rattle.mc_forward.specs.Assembling.{AreCounted};
 ghost use Rattle.mc_topology.specs.Names.{is_name};
-ghost use Rattle.mc_domain.specs.FilesFault.{Gives, GivesOf, is_read};
+ghost use Rattle.mc_domain.specs.SourceFault.{Gives, GivesOf, is_read};
 ghost use Rattle.mc_domain.specs.FilesInput.{FilesStand};
 ghost use Rattle.mc_domain.specs.FilesReading.{files_of, part_filed};
 ghost use Rattle.mc_domain.specs.Input.{InputValue};
 ghost use Rattle.mc_domain.specs.InputView.{input_value, input_with};
 ghost use Rattle.mc_domain.specs.PartsReading.{all_reports, all_tables, contents, lans_number};
 ghost use Rattle.mc_domain.specs.PartsReading.{router_tables};
-ghost use Rattle.mc_domain.specs.declared.files_fault.FilesFault.TheVariants.{Input};
+ghost use Rattle.mc_domain.specs.declared.source_fault.SourceFault.TheVariants.{Input};
 
 use crate::contents::Contents;
 use crate::file_part::{cache_in, reports_in, topology_in, vifs_in};
-use crate::files_fault::FilesFault;
+use crate::source_fault::SourceFault;
 use mc_forward::Tables;
 use mc_igmp::ReportList;
 use mc_layout::FileSource;
@@ -32,7 +32,7 @@ fn tables_of<F: FileSource>(
     files: &mut F,
     router: &str,
     order: Order,
-) -> Result<Tables, FilesFault>
+) -> Result<Tables, SourceFault>
     requires name { IsTrue (is_name router.now) }
     requires reads { F.failed files.old < u64.MAX }
     ensures same { F.names files.new ≡ F.names files.old }
@@ -51,7 +51,7 @@ fn tables_in<F: FileSource>(
     alloc: Global,
     files: &mut F,
     topology: &Topology,
-) -> Result<Vec<Tables>, FilesFault>
+) -> Result<Vec<Tables>, SourceFault>
     requires reads { F.failed files.old < u64.MAX }
     ensures same { F.names files.new ≡ F.names files.old }
     ensures kept { F.told files.new ≡ F.told files.old }
@@ -75,7 +75,7 @@ fn reports_of_lans<F: FileSource>(
     alloc: Global,
     files: &mut F,
     topology: &Topology,
-) -> Result<Vec<ReportList>, FilesFault>
+) -> Result<Vec<ReportList>, SourceFault>
     requires reads { F.failed files.old < u64.MAX }
     ensures same { F.names files.new ≡ F.names files.old }
     ensures kept { F.told files.new ≡ F.told files.old }
@@ -98,7 +98,7 @@ fn tables_and_reports_in<F: FileSource>(
     alloc: Global,
     files: &mut F,
     topology: &Topology,
-) -> Result<(Vec<Tables>, Vec<ReportList>), FilesFault>
+) -> Result<(Vec<Tables>, Vec<ReportList>), SourceFault>
     requires reads { F.failed files.old < u64.MAX }
     ensures same { F.names files.new ≡ F.names files.old }
     ensures kept { F.told files.new ≡ F.told files.old }
@@ -123,10 +123,7 @@ fn tables_and_reports_in<F: FileSource>(
 /// The first fault in this order: `Read` where a file isn't there or can't be read, `TooLarge`
 /// where it has too many bytes, and `Input` with what is wrong in it. Or `Input` with `Memory`.
 #[tactic(auto, unfolding(crate::specs::PartsReading::reading))]
-pub fn read_files<F: FileSource>(
-    alloc: Global,
-    files: &mut F,
-) -> Result<Contents<'static>, FilesFault>
+pub fn read_files<F: FileSource>(alloc: Global, files: &mut F) -> Result<Contents, SourceFault>
     requires reads { F.failed files.old < u64.MAX }
     ensures same { F.names files.new ≡ F.names files.old }
     ensures kept { F.told files.new ≡ F.told files.old }
@@ -150,6 +147,5 @@ pub fn read_files<F: FileSource>(
         topology,
         tables: told.0,
         reports: told.1,
-        certificate: None,
     })
 }

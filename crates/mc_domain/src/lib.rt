@@ -2,23 +2,24 @@
 //! each by its reader, in the one order in which they are judged, and the domain that they mean.
 #![tactic(auto)]
 
+mod bundle;
 mod bundle_part;
 mod contents;
 mod domain;
 mod fault;
 mod file_part;
 mod files;
-mod files_fault;
-mod input;
 mod laws;
+mod slot_part;
+mod source_fault;
+mod table_part;
 mod told;
 
 pub use contents::Contents;
 pub use domain::{DomainRead, domain_in, domain_of};
 pub use fault::InputFault;
 pub use files::read_files;
-pub use files_fault::FilesFault;
-pub use input::read_input;
 pub use laws::{
     files_stand_for_one_input, packed_files_stand_for_their_input, texts_stand_for_one_input,
 };
+pub use source_fault::SourceFault;

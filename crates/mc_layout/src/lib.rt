@@ -4,7 +4,6 @@
 //! Only the topology is judged: of the other files nothing is known here but their names.
 #![tactic(auto)]
 
-mod belongs;
 mod fault;
 mod file_part;
 mod folder;
@@ -16,7 +15,6 @@ mod piece_source;
 mod slot;
 mod source;
 
-pub use belongs::first_other;
 pub use fault::{FileFault, PackFault};
 pub use file_part::{FilePart, part_of_file};
 pub use folder::Folder;

@@ -1,10 +1,9 @@
 -- What a run of `mcaudit check` shows of the text that it read.
 use Rattle.std.proofs.Common.{◌≡◌, ◌≢◌, ℕ, zero, suc, ◌<◌, Bool, true, List, [], ◌∷◌, length, All}
-use Rattle.std.proofs.Common.{Option, Some, None, Err, refl, sym, ap, subst, ◌∙◌, arith}
-use Rattle.std.specs.Prelude.{is_some, unwrap_or, slice_get}
+use Rattle.std.proofs.Common.{Option, Some, Err, refl, sym, ap, subst, ◌∙◌, arith}
+use Rattle.std.specs.Prelude.{unwrap_or, slice_get}
 use Rattle.std.specs.List.{list_all}
 use Rattle.std.proofs.lemmas.Bool.{and_parts}
-use denote.Ref.{Bor}
 use Rattle.mc_theory.specs.Certificates.{Entry}
 use Rattle.mc_theory.specs.Headline.{HeadlineHolds}
 use Rattle.mc_topology.specs.Topology.{TopologyValue}
@@ -21,23 +20,13 @@ use Rattle.mc_check.specs.Verdicts.{is_yes, OfEachFlow, IsExact, HasCopies, HasF
 use Rattle.mc_check.specs.Verdicts.{YesKeepsHeadline}
 use Rattle.mc_check.specs.declared.verdict.Verdict.{Verdict}
 use Rattle.mc_check.specs.declared.verdict.Verdict.TheVariants.{Yes, No}
-use Rattle.mc_domain.specs.InputView.{certificate_seen}
-use Rattle.mc_domain.specs.Meaning.{MeansDomain}
-use Rattle.mc_run.specs.InputMeaning.{HasBadCertificate, IsRefusedFor, MeansCertified}
+use Rattle.mc_domain.specs.Meaning.{MeansDomain, MeansListed}
+use Rattle.mc_run.specs.InputMeaning.{HasBadCertificate, IsRefusedFor, MeansListedWith}
 use Rattle.mc_run.specs.CheckRun.{IsTextOfVerdicts, KeepsHeadline}
-use Rattle.mc_run.specs.Failures.{IsNoDeviceFault}
 use Rattle.mc_run.specs.RunFault.{of_certificate, of_certificate_kind}
 use Rattle.mc_run.specs.VerdictText.{IsVerdict, AreVerdicts, are_yes, check_text}
 
 -- ---- the certificate
-
--- the text of a certificate that is there
-pub unwrapped : (o : Option (Bor (List ℕ))) (other text : Bor (List ℕ))
-    → is_some (certificate_seen o) ≡ true → text ≡ unwrap_or o other
-    → certificate_seen o ≡ Some text.now
-unwrapped None other text is same = absurd cc
-unwrapped (Some here) other text is same =
-    ap (λ (b : Bor (List ℕ)). Some b.now) (sym same)
 
 kind_refused : (text : List ℕ) (f : CertFault) (k : CertFaultKind) → f.kind ≡ k
     → (f ≢ out_of_memory → HasBadCertificate text f)
@@ -54,40 +43,34 @@ kind_refused text f kinds.TooMany is bad = (refl, bad (λ e. absurd (cc)))
 kind_refused text f kinds.Memory is bad = tt
 
 -- a certificate that is refused, or for which there is no memory
-pub certificate_refused : (text : List ℕ) (o : Option (List ℕ)) (read : List ℕ) (d : DomainValue)
-    (t : TopologyValue) (f : CertFault) → MeansDomain text o d → o ≡ Some read → t ≡ d.topology
+pub certificate_refused : (text read : List ℕ) (o : Option (List ℕ)) (d : DomainValue)
+    (t : TopologyValue) (f : CertFault) → MeansListed text o d → o ≡ Some read → t ≡ d.topology
     → (f ≢ out_of_memory → reading_of t read ≡ Err f) → IsRefusedFor true text (of_certificate f)
-certificate_refused text o read d t f means there same refused =
-    let domain : MeansDomain text (Some read) d =
-    subst (λ (c : Option (List ℕ)). MeansDomain text c d) there means in
+certificate_refused text read o d t f means there same refused =
+    let domain : MeansDomain text (Some read) means.whole =
+    subst (λ (c : Option (List ℕ)). MeansDomain text c means.whole) there means.means in
     kind_refused text f f.kind refl (λ other. (
       read,
-      d,
+      means.whole,
       domain,
-      subst (λ (x : TopologyValue). reading_of x read ≡ Err f) same (refused other),
+      subst (λ (x : TopologyValue). reading_of x read ≡ Err f) (same ∙ sym means.same.topology)
+          (refused other),
     ))
 
-pub not_by_device : (f : CertFault) (k : CertFaultKind) → IsNoDeviceFault (of_certificate_kind f k)
-not_by_device f kinds.NotJson = (refl, refl)
-not_by_device f kinds.BadVersion = (refl, refl)
-not_by_device f kinds.MissingKey = (refl, refl)
-not_by_device f kinds.UnknownKey = (refl, refl)
-not_by_device f kinds.BadKind = (refl, refl)
-not_by_device f kinds.BadNumber = (refl, refl)
-not_by_device f kinds.UnknownName = (refl, refl)
-not_by_device f kinds.WrongFlows = (refl, refl)
-not_by_device f kinds.TooMany = (refl, refl)
-not_by_device f kinds.Memory = (refl, refl)
-
 -- a certificate that is read
-pub certified : (text : List ℕ) (o : Option (List ℕ)) (read : List ℕ) (d : DomainValue)
-    (t : TopologyValue) (lists : List Tree) → MeansDomain text o d → o ≡ Some read → t ≡ d.topology
-    → CertificateStands t read lists → MeansCertified text d lists
-certified text o read d t lists means there same stands = record {
-  certificate = read;
-  domain = subst (λ (c : Option (List ℕ)). MeansDomain text c d) there means;
-  lists_stand = subst (λ (x : TopologyValue). CertificateStands x read lists) same stands;
-}
+pub certified : (text read : List ℕ) (o : Option (List ℕ)) (d : DomainValue)
+    (t : TopologyValue) (lists : List Tree) → MeansListed text o d → o ≡ Some read → t ≡ d.topology
+    → CertificateStands t read lists → MeansListedWith text d lists
+certified text read o d t lists means there same stands = (
+  means.whole,
+  record {
+    certificate = read;
+    domain = subst (λ (c : Option (List ℕ)). MeansDomain text c means.whole) there means.means;
+    lists_stand = subst (λ (x : TopologyValue). CertificateStands x read lists)
+        (same ∙ sym means.same.topology) stands;
+  },
+  means.same,
+)
 
 -- the LANs of a certificate's entries are the topology's
 pub lans_among : (t : TopologyValue) (lists : List Tree) → BelongsTo t lists

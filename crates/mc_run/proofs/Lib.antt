@@ -7,6 +7,7 @@ pub mod MakeLemmas
 pub mod PackingLemmas
 pub mod ReplayLemmas
 pub mod RunLemmas
+pub mod SameLemmas
 pub mod TextLemmas
 pub mod VerdictLines
 pub mod WantsLemmas

@@ -10,10 +10,11 @@ use Rattle.mc_replay.specs.Travels.{IsRunOfChoices, replay_of}
 use Rattle.mc_replay.specs.declared.travel.Travel.{Travel}
 use Rattle.mc_run.specs.declared.said.Said.{Said}
 use Rattle.mc_run.specs.declared.fault.RunFault.{RunFault}
-use Rattle.mc_domain.specs.Meaning.{MeansUncertified}
+use Rattle.mc_domain.specs.Meaning.{MeansListed}
 use Rattle.mc_run.specs.Failures.{IsNoDeviceFault}
 use Rattle.mc_run.specs.ReplayRun.{HasNoTravel, IsReplayRefused, IsTextOfTravel, is_clean}
 use Rattle.mc_run.specs.ReplayRun.{replay_text}
+use Rattle.mc_run.proofs.SameLemmas.{same_no_flow}
 
 -- the text of a travel through a domain
 pub travel_made : (d : DomainValue) (flow ttl : ℕ) (choices : Choices) (place : ℕ)
@@ -36,12 +37,19 @@ travel_made d flow ttl choices place t f travel clean written counted same stand
 
 -- the domain lists no such flow, or memory ran out
 pub travel_refused : (told : Option (List ℕ)) (flow : ℕ) (d : DomainValue)
-    (r : Result Said RunFault) → IfSome told (λ text. MeansUncertified text d)
+    (r : Result Said RunFault) → IfSome told (λ text. MeansListed text None d)
     → IfErr r (HasNoTravel d flow) → IfErr r (λ f. IfSome told (λ text. IsReplayRefused flow text f))
 travel_refused told flow d (Ok said) means is = tt
 travel_refused None flow d (Err f) means is = tt
 travel_refused (Some text) flow d (Err f) means (inl is) =
-    rw (is.0) (refl, record { domain = d; means = means; holds = is.1 })
+    rw (is.0) (
+      refl,
+      record {
+        domain = means.whole;
+        means = means.means;
+        holds = same_no_flow means.same flow is.1;
+      },
+    )
 travel_refused (Some text) flow d (Err f) means (inr is) = rw is tt
 
 pub travel_no_device : (d : DomainValue) (flow : ℕ) (r : Result Said RunFault)

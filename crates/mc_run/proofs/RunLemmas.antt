@@ -1,8 +1,9 @@
 -- What a run shows of what it was handed, of its devices, and of what it says.
-use Rattle.std.proofs.Common.{◌≡◌, ◌≢◌, ℕ, Bool, true, false, List, [], ◌∷◌, ◌++◌, length, take, drop}
+use Rattle.std.proofs.Common.{◌≡◌, ℕ, Bool, true, false, List, [], ◌∷◌, ◌++◌, length, take, drop}
 use Rattle.std.proofs.Common.{inl, inr, Option, Some, None, Result, Ok, Err}
 use Rattle.std.proofs.Common.{refl, sym, ap, subst, ◌∙◌, arith, append_assoc}
-use Rattle.std.specs.Prelude.{◌+◌, cond, IfErr, IfOk, IfSome, IsTrue, codes}
+use Rattle.std.specs.Prelude.{◌+◌, cond, IfErr, IfOk, IfSome, IsTrue, Vec, codes, is_some}
+use Rattle.std.specs.declared.alloc.Global.{Global}
 use Rattle.std.specs.String.{string_bytes}
 use Rattle.std.specs.Io.KnownBytes.{Appends}
 use Rattle.std.proofs.lemmas.Bool.{false≢true}
@@ -10,98 +11,113 @@ use Rattle.std.proofs.lemmas.List.{take_all, length-append, take-append-drop}
 use Rattle.mc_forward.specs.Domains.{DomainValue}
 use Rattle.mc_cert.specs.Certificate.{Tree}
 use Rattle.mc_domain.specs.InputReading.{input_of}
-use Rattle.mc_domain.proofs.WholeText.{input_of-front, read_whole}
 use Rattle.mc_domain.specs.declared.fault.InputFault.{InputFault}
 use Rattle.mc_domain.specs.declared.fault.InputFault.TheVariants as input
-use Rattle.mc_run.specs.RunFault.{of_input}
+use Rattle.mc_run.specs.RunFault.{of_source}
 use Rattle.mc_run.specs.declared.fault.RunFault.{RunFault}
-use Rattle.mc_run.specs.declared.fault.RunFault.TheVariants.{Bundle, Parts, Topology, Vif, Cache}
-use Rattle.mc_run.specs.declared.fault.RunFault.TheVariants.{PartReports, Reports, Certificate}
-use Rattle.mc_run.specs.declared.fault.RunFault.TheVariants.{NoSuchFlow, Read, Write, Memory}
+use Rattle.mc_run.specs.declared.fault.RunFault.TheVariants.{Write}
 use Rattle.mc_run.specs.declared.said.Said.{Said}
-use Rattle.mc_domain.specs.Meaning.{OfDomain}
-use Rattle.mc_run.specs.InputMeaning.{IsRefusedFor, MeansCertified}
+use Rattle.mc_forward.specs.ListedTables.{SaysTheSame}
+use Rattle.mc_text.specs.Steps.{refused_as}
+use Rattle.mc_domain.specs.Input.{InputValue}
+use Rattle.mc_domain.specs.InputView.{text_seen}
+use Rattle.mc_domain.specs.Meaning.{MeansListed, MeansUncertified, OfDomain}
+use Rattle.mc_domain.specs.SourceFault.{IsSilent}
+use Rattle.mc_domain.specs.declared.source_fault.SourceFault.{SourceFault}
+use Rattle.mc_domain.specs.declared.source_fault.SourceFault.TheVariants as source
+use Rattle.mc_run.specs.InputMeaning.{IsRefusedFor, MeansListedWith, MeansWithLists}
 use Rattle.mc_run.specs.CheckRun.{IsLineStart, SaysYes, WroteYes}
 use Rattle.mc_text.specs.Device.{counted}
 use Rattle.mc_run.specs.Failures.{IsNoDeviceFault, is_read, is_write}
 use Rattle.mc_run.specs.Said.{Answers, IsSaid, Writes, WritesPart}
 
--- what was read is all
-pub certified_whole : (text : List ℕ) (d : DomainValue) (lists : List Tree)
-    → MeansCertified (take 268435552 text) d lists → MeansCertified text d lists
-certified_whole text d lists m =
-    subst (λ (t : List ℕ). MeansCertified t d lists)
-    (read_whole text m.domain.input (Some m.certificate) m.domain.stands) m
-
 -- why a bundle is refused, as the run's fault
-pub bundle_refused : (with : Bool) (text : List ℕ) (f : InputFault)
-    → (f ≢ input.Memory → input_of with text ≡ Err f) → IsRefusedFor with text (of_input f)
-bundle_refused with text (input.Bundle f) is = is (λ same. absurd cc)
-bundle_refused with text (input.Parts place) is = is (λ same. absurd cc)
-bundle_refused with text (input.Topology f) is = is (λ same. absurd cc)
-bundle_refused with text (input.Vif part f) is = is (λ same. absurd cc)
-bundle_refused with text (input.Cache part f) is = is (λ same. absurd cc)
-bundle_refused with text (input.Reports part f) is = is (λ same. absurd cc)
-bundle_refused with text input.Memory is = tt
+bundle_refused : (with : Bool) (text : List ℕ) (f own : InputFault)
+    → (let r : Result InputValue SourceFault = refused_as source.Input (input_of with text) in r)
+    ≡ Err (source.Input own) → f ≡ own → input_of with text ≡ Err f
+bundle_refused with text f own e same = by (input_of with text) e
+  where
+    by : (r : Result InputValue InputFault) → refused_as source.Input r ≡ Err (source.Input own)
+        → r ≡ Err f
+    by (Ok v) e = absurd cc
+    by (Err fault) e = cc
 
--- this was read of what the input tells
-abbrev pub IsRead : Option (List ℕ) → List ℕ → Type 0
-IsRead told taken = IfSome told (λ text. taken ≡ take 268435552 text)
+pub source_refused : (with : Bool) (text : List ℕ) (f : SourceFault)
+    → (¬ IsSilent f → refused_as source.Input (input_of with text) ≡ Err f)
+    → IsRefusedFor with text (of_source f)
+source_refused with text source.Read is = tt
+source_refused with text (source.Input (input.Bundle f)) is =
+    bundle_refused with text _ _ (is (λ silent. elim silent [ inl e ↦ absurd cc | inr e ↦ absurd cc ]))
+    refl
+source_refused with text (source.Input (input.Parts place)) is =
+    bundle_refused with text _ _ (is (λ silent. elim silent [ inl e ↦ absurd cc | inr e ↦ absurd cc ]))
+    refl
+source_refused with text (source.Input (input.Topology f)) is =
+    bundle_refused with text _ _ (is (λ silent. elim silent [ inl e ↦ absurd cc | inr e ↦ absurd cc ]))
+    refl
+source_refused with text (source.Input (input.Vif part f)) is =
+    bundle_refused with text _ _ (is (λ silent. elim silent [ inl e ↦ absurd cc | inr e ↦ absurd cc ]))
+    refl
+source_refused with text (source.Input (input.Cache part f)) is =
+    bundle_refused with text _ _ (is (λ silent. elim silent [ inl e ↦ absurd cc | inr e ↦ absurd cc ]))
+    refl
+source_refused with text (source.Input (input.Reports part f)) is =
+    bundle_refused with text _ _ (is (λ silent. elim silent [ inl e ↦ absurd cc | inr e ↦ absurd cc ]))
+    refl
+source_refused with text (source.Input input.Memory) is = tt
 
-pub refused_whole : (with : Bool) (text : List ℕ) (f : RunFault)
-    → IsRefusedFor with (take 268435552 text) f → IsRefusedFor with text f
-refused_whole with text (Bundle f) is = sym (input_of-front with text) ∙ is
-refused_whole with text (Parts place) is = sym (input_of-front with text) ∙ is
-refused_whole with text (Topology f) is = sym (input_of-front with text) ∙ is
-refused_whole with text (Vif part f) is = sym (input_of-front with text) ∙ is
-refused_whole with text (Cache part f) is = sym (input_of-front with text) ∙ is
-refused_whole with text (PartReports part f) is = sym (input_of-front with text) ∙ is
-refused_whole with text (Reports f) is = is
-refused_whole with text (Certificate f) is =
-    let m = is.1.2 in
-    let whole = read_whole text m.input (Some is.1.0) m.stands in
-    subst (λ (t : List ℕ). IsRefusedFor with t (Certificate f)) whole is
-refused_whole with text (NoSuchFlow number) is = is
-refused_whole with text Read is = tt
-refused_whole with text Write is = tt
-refused_whole with text Memory is = tt
-
--- what holds of what was read holds of all that an input tells
-pub of_all : (told : Option (List ℕ)) (taken : List ℕ) (P : List ℕ → Type 0)
-    → ((text : List ℕ) → P (take 268435552 text) → P text) → IsRead told taken → P taken
-    → IfSome told P
-of_all None taken P whole read holds = tt
-of_all (Some text) taken P whole read holds = whole text (subst P read holds)
-
--- the same of what a call answers,
-pub ok_of_all : {A F : Type 0} (told : Option (List ℕ)) (taken : List ℕ) (r : Result A F)
-    (P : A → List ℕ → Type 0) → ((x : A) (text : List ℕ) → P x (take 268435552 text) → P x text)
-    → IsRead told taken → IfOk r (λ x. P x taken) → IfOk r (λ x. IfSome told (P x))
-ok_of_all told taken (Ok x) P whole read holds = of_all told taken (P x) (whole x) read holds
-ok_of_all told taken (Err f) P whole read holds = tt
-
--- and of its fault
-pub err_of_all : {A F : Type 0} (told : Option (List ℕ)) (taken : List ℕ) (r : Result A F)
-    (P : F → List ℕ → Type 0) → ((f : F) (text : List ℕ) → P f (take 268435552 text) → P f text)
-    → IsRead told taken → IfErr r (λ f. P f taken) → IfErr r (λ f. IfSome told (P f))
-err_of_all told taken (Ok x) P whole read holds = tt
-err_of_all told taken (Err f) P whole read holds = of_all told taken (P f) (whole f) read holds
+-- and of all that an input tells
+pub told_refused : (told : Option (List ℕ)) (with : Bool) (f : SourceFault)
+    → ((text : List ℕ) → told ≡ Some text → ¬ IsSilent f
+    → refused_as source.Input (input_of with text) ≡ Err f)
+    → IfSome told (λ text. IsRefusedFor with text (of_source f))
+told_refused None with f is = tt
+told_refused (Some text) with f is = source_refused with text f (is text refl)
 
 -- ---- what is meant
 
--- what holds of a domain holds of what is meant, where it is that domain
-pub of_meant : {X D : Type 0} (Means : X → D → Type 0) (Holds : D → Type 0) (told : Option X) (d : D)
-    → IfSome told (λ x. Means x d) → Holds d → IfSome told (OfDomain Means Holds)
-of_meant Means Holds None d means holds = tt
-of_meant Means Holds (Some x) d means holds =
-    record { domain = d; means = means; holds = holds }
+-- no certificate was asked for, and none was read
+pub listed_alone : (told : Option (List ℕ)) (certificate : Option (Vec ℕ Global)) (d : DomainValue)
+    → is_some certificate ≡ false
+    → IfSome told (λ text. MeansListed text (text_seen certificate) d)
+    → IfSome told (λ text. MeansListed text None d)
+listed_alone None certificate d none means = tt
+listed_alone (Some text) None d none means = means
+listed_alone (Some text) (Some bytes) d none means = absurd cc
+
+-- what holds of a domain holds of what is meant, where that says the same of each flow
+pub of_listed : (Holds : DomainValue → Type 0) (told : Option (List ℕ)) (d : DomainValue)
+    → ((whole : DomainValue) → SaysTheSame whole d → Holds d → Holds whole)
+    → IfSome told (λ text. MeansListed text None d) → Holds d
+    → IfSome told (OfDomain MeansUncertified Holds)
+of_listed Holds None d moves means holds = tt
+of_listed Holds (Some text) d moves means holds = record {
+  domain = means.whole;
+  means = means.means;
+  holds = moves means.whole means.same holds;
+}
 
 -- the same of what a call answers
-pub ok_meant : {X D A F : Type 0} (Means : X → D → Type 0) (Holds : A → D → Type 0)
-    (told : Option X) (d : D) (r : Result A F) → IfSome told (λ x. Means x d)
-    → IfOk r (λ a. Holds a d) → IfOk r (λ a. IfSome told (OfDomain Means (Holds a)))
-ok_meant Means Holds told d (Ok a) means holds = of_meant Means (Holds a) told d means holds
-ok_meant Means Holds told d (Err f) means holds = tt
+pub ok_listed : {A F : Type 0} (Holds : A → DomainValue → Type 0) (told : Option (List ℕ))
+    (d : DomainValue) (r : Result A F)
+    → ((a : A) (whole : DomainValue) → SaysTheSame whole d → Holds a d → Holds a whole)
+    → IfSome told (λ text. MeansListed text None d)
+    → IfOk r (λ a. Holds a d) → IfOk r (λ a. IfSome told (OfDomain MeansUncertified (Holds a)))
+ok_listed Holds told d (Ok a) moves means holds = of_listed (Holds a) told d (moves a) means holds
+ok_listed Holds told d (Err f) moves means holds = tt
+
+-- the same with the lists of a certificate
+pub of_listed_with : (Holds : DomainValue → List Tree → Type 0) (told : Option (List ℕ))
+    (d : DomainValue) (lists : List Tree)
+    → ((whole : DomainValue) → SaysTheSame whole d → Holds d lists → Holds whole lists)
+    → IfSome told (λ text. MeansListedWith text d lists) → Holds d lists
+    → IfSome told (OfDomain MeansWithLists (λ c. Holds c.domain c.lists))
+of_listed_with Holds None d lists moves means holds = tt
+of_listed_with Holds (Some text) d lists moves means holds = record {
+  domain = record { domain = means.0; lists = lists };
+  means = means.1;
+  holds = moves means.0 means.2 holds;
+}
 
 -- what follows of a domain follows of what is meant
 pub more_meant : {X D : Type 0} (Means : X → D → Type 0) (Holds More : D → Type 0)

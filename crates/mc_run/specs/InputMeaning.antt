@@ -2,6 +2,7 @@
 -- bundle, or a folder's files, are refused.
 use Rattle.std.specs.Prelude.{◌≡◌, ℕ, Bool, IsTrue, List, Some, Err, ⊤}
 use Rattle.mc_forward.specs.Domains.{DomainValue}
+use Rattle.mc_forward.specs.ListedTables.{SaysTheSame}
 use Rattle.mc_cert.specs.Certificate.{Tree}
 use Rattle.mc_cert.specs.Stands.{CertificateStands}
 use Rattle.mc_cert.specs.Reading.{reading_of}
@@ -10,13 +11,13 @@ use Rattle.mc_layout.specs.Files.{FileText}
 use Rattle.mc_domain.specs.FilesReading.{files_of}
 use Rattle.mc_domain.specs.InputReading.{input_of}
 use Rattle.mc_domain.specs.Meaning.{MeansDomain}
-use Rattle.mc_domain.specs.declared.files_fault.FilesFault.{FilesFault}
+use Rattle.mc_domain.specs.declared.source_fault.SourceFault.{SourceFault}
 use Rattle.mc_domain.specs.declared.fault.InputFault.TheVariants as input
 use Rattle.mc_run.specs.declared.fault.RunFault.{RunFault}
 use Rattle.mc_run.specs.declared.fault.RunFault.TheVariants.{Bundle, Parts, Topology, Vif, Cache}
 use Rattle.mc_run.specs.declared.fault.RunFault.TheVariants.{PartReports, Reports, Certificate}
 use Rattle.mc_run.specs.declared.fault.RunFault.TheVariants.{NoSuchFlow, Read, Write, Memory}
-use Rattle.mc_run.specs.RunFault.{of_files}
+use Rattle.mc_run.specs.RunFault.{of_source}
 
 -- ---- what it means
 
@@ -35,6 +36,11 @@ pub record CertifiedDomain : Type 0 where
 -- and that a bundle means them
 abbrev pub MeansWithLists : List ℕ → CertifiedDomain → Type 0
 MeansWithLists text c = MeansCertified text c.domain c.lists
+
+-- It means a domain with these lists that says of each flow what this one says.
+abbrev pub MeansListedWith : List ℕ → DomainValue → List Tree → Type 0
+MeansListedWith text d lists =
+    (whole : DomainValue) × MeansCertified text whole lists × SaysTheSame whole d
 
 -- ---- why it is refused
 
@@ -71,4 +77,4 @@ AreRefusedFor files Read = ⊤
 AreRefusedFor files Write = ⊤
 AreRefusedFor files Memory = ⊤
 AreRefusedFor files fault =
-    (cause : FilesFault) × (files_of files ≡ Err cause) × (fault ≡ of_files cause)
+    (cause : SourceFault) × (files_of files ≡ Err cause) × (fault ≡ of_source cause)

@@ -9,9 +9,8 @@ use Rattle.mc_cert.specs.declared.fault.CertFaultKind.{CertFaultKind}
 use Rattle.mc_cert.specs.declared.fault.CertFaultKind.TheVariants as certificate
 use Rattle.mc_domain.specs.declared.fault.InputFault.{InputFault}
 use Rattle.mc_domain.specs.declared.fault.InputFault.TheVariants as input
-use Rattle.mc_domain.specs.declared.files_fault.FilesFault.{FilesFault}
-use Rattle.mc_domain.specs.declared.files_fault.FilesFault.TheVariants as files
-use Rattle.mc_text.specs.declared.bundle.bundle_fault.BundleFault.TheVariants as bundle
+use Rattle.mc_domain.specs.declared.source_fault.SourceFault.{SourceFault}
+use Rattle.mc_domain.specs.declared.source_fault.SourceFault.TheVariants as source
 use Rattle.mc_run.specs.declared.fault.RunFault.{RunFault}
 use Rattle.mc_run.specs.declared.fault.RunFault.TheVariants.{Bundle, Parts, Topology, Vif, Cache}
 use Rattle.mc_run.specs.declared.fault.RunFault.TheVariants.{PartReports, Reports, Certificate}
@@ -39,11 +38,10 @@ of_input (input.Cache part fault) = Cache part fault
 of_input (input.Reports part fault) = PartReports part fault
 of_input input.Memory = Memory
 
--- with those of a folder's files, of which one that is too large is told of the bundle,
-abbrev pub of_files : FilesFault → RunFault
-of_files (files.Input fault) = of_input fault
-of_files files.TooLarge = Bundle bundle.TooLarge
-of_files files.Read = Read
+-- with those of what a domain is read of,
+abbrev pub of_source : SourceFault → RunFault
+of_source (source.Input fault) = of_input fault
+of_source source.Read = Read
 
 -- and with those of a certificate
 abbrev pub of_certificate_kind : CertFault → CertFaultKind → RunFault

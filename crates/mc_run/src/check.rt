@@ -1,28 +1,30 @@
 //! `mcaudit check`: whether a certificate proves that a domain forwards every listed flow as it
 //! should.
 
-ghost use Rattle.std.specs.Prelude.{◌≡◌, ◌≢◌, ◌<◌, IfErr, IfOk, IfSome, IsTrue, Err, false, true};
+ghost use Rattle.std.specs.Prelude.{◌≡◌, ◌≢◌, ◌<◌, ℕ, IfErr, IfOk, IfSome, IsTrue, List, Err, false};
+ghost use Rattle.std.specs.Prelude.{is_some, true};
 ghost use Rattle.std.specs.String.{string_bytes};
 ghost use Rattle.mc_text.specs.Bundle.{max_input};
 ghost use Rattle.mc_text.specs.ReadFault.{ConsumesUpTo};
 ghost use Rattle.mc_cert.specs.Certificate.{BelongsTo};
 ghost use Rattle.mc_forward.specs.Domains.{IsDomain};
-ghost use Rattle.mc_run.specs.InputMeaning.{IsRefusedFor, MeansCertified};
+ghost use Rattle.mc_domain.specs.InputView.{text_seen};
+ghost use Rattle.mc_domain.specs.Meaning.{MeansListed};
+ghost use Rattle.mc_run.specs.InputMeaning.{IsRefusedFor, MeansListedWith};
 ghost use Rattle.mc_run.specs.CheckRun.{HeadlineOf, IsTextOfVerdicts, IsVerdictText};
 ghost use Rattle.mc_run.specs.CheckRun.{KeepsHeadline, SaysYes};
 ghost use Rattle.mc_text.specs.Device.{counted};
 ghost use Rattle.mc_run.specs.Failures.{IsNoDeviceFault, is_read, is_write};
 ghost use Rattle.mc_run.specs.Said.{Answers, Writes, WritesPart};
 
-use crate::domain_input::MAX_INPUT;
 use crate::fault::RunFault;
 use crate::said::{Said, say};
 use crate::verdict_text::{are_yes, check_text};
 use mc_cert::Certificate;
 use mc_check::check_all;
-use mc_domain::domain_in;
+use mc_domain::{DomainRead, domain_in};
 use mc_forward::Domain;
-use mc_text::{Input, Memory as NoMemory, Output, read_to_limit};
+use mc_text::{Input, Memory as NoMemory, Output};
 use std::alloc::Global;
 
 /// A domain, and a certificate of its topology.
@@ -32,29 +34,40 @@ struct Certified {
     certificate: Certificate,
 }
 
-/// The domain and the certificate that a bundle tells.
-fn certified_in(alloc: Global, text: &[u8]) -> Result<Certified, RunFault>
-    ensures means { IfOk result (λ read. MeansCertified text.now read.domain read.certificate) }
+/// A domain that was read, with its certificate.
+fn with_certificate(alloc: Global, read: DomainRead) -> Result<Certified, RunFault>
+    requires rules { IsDomain read.domain }
+    requires certified { is_some read.certificate ≡ true }
+    ensures means { (text : List ℕ) →
+        MeansListed text (text_seen read.certificate) read.domain →
+        IfOk result (λ read. MeansListedWith text read.domain read.certificate) }
     ensures belongs { IfOk result (λ read. BelongsTo read.domain.topology read.certificate) }
-    ensures rules { IfOk result (λ read. IsDomain read.domain) }
-    ensures refused { IfErr result (IsRefusedFor true text.now) }
+    ensures refused { (text : List ℕ) →
+        MeansListed text (text_seen read.certificate) read.domain →
+        IfErr result (IsRefusedFor true text) }
     ensures no_device { IfErr result IsNoDeviceFault }
 {
-    let input = domain_in(alloc, text, true)?;
-    let text = input.certificate.unwrap_or(b"");
-    let certificate = Certificate::read(alloc, text, input.domain.topology())?;
+    let DomainRead {
+        domain,
+        certificate,
+    } = read;
+    let Some(text) = certificate else {
+        unreachable!()
+    };
+    let certificate = Certificate::read(alloc, &text, domain.topology())?;
     Ok(Certified {
-        domain: input.domain,
+        domain,
         certificate,
     })
 }
 
-/// The domain and the certificate that an input's bundle tells.
+/// The domain and the certificate that an input's bundle tells: it says of each flow what the
+/// bundle says.
 fn read_certified<R: Input>(alloc: Global, input: &mut R) -> Result<Certified, RunFault>
     requires { R.failed input.old < u64.MAX }
     ensures same { R.names input.new ≡ R.names input.old }
     ensures means { IfOk result (λ read. IfSome (R.told input.old) (λ text.
-        MeansCertified text read.domain read.certificate)) }
+        MeansListedWith text read.domain read.certificate)) }
     ensures belongs { IfOk result (λ read. BelongsTo read.domain.topology read.certificate) }
     ensures refused { IfErr result (λ fault.
         IfSome (R.told input.old) (λ text. IsRefusedFor true text fault)) }
@@ -62,8 +75,8 @@ fn read_certified<R: Input>(alloc: Global, input: &mut R) -> Result<Certified, R
     ensures no_write { IfErr result (λ fault. is_write fault ≡ false) }
     ensures failures { R.failed input.new ≡ counted is_read result (R.failed input.old) }
 {
-    let text = read_to_limit(alloc, input, MAX_INPUT)?;
-    certified_in(alloc, &text)
+    let read = domain_in(alloc, input, true)?;
+    with_certificate(alloc, read)
 }
 
 /// The text of the verdicts on the flows of a domain, by its certificate, and whether all are yes.

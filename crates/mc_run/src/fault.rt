@@ -3,10 +3,10 @@
 ghost use Rattle.std.specs.Prelude.{◌≡◌};
 ghost use Rattle.mc_run.specs.declared.fault.RunFault.TheVariants.{Memory};
 ghost use Rattle.mc_run.specs.PackingRun.{of_packing};
-ghost use Rattle.mc_run.specs.RunFault.{of_certificate, of_files, of_input, of_list, of_reading};
+ghost use Rattle.mc_run.specs.RunFault.{of_certificate, of_source, of_input, of_list, of_reading};
 
 use mc_cert::{CertFault, CertFaultKind};
-use mc_domain::{FilesFault, InputFault};
+use mc_domain::{InputFault, SourceFault};
 use mc_igmp::{ListFault, ListFaultKind};
 use mc_layout::PackFault;
 use mc_tables::TableFault;
@@ -73,15 +73,14 @@ impl From<InputFault> for RunFault {
     }
 }
 
-/// A folder's files are refused. A file that is too large for a bundle is told of the bundle.
-impl From<FilesFault> for RunFault {
-    ghost from_gives = { λ files fault. fault ≡ of_files files };
+/// A bundle, or a folder's files, are refused.
+impl From<SourceFault> for RunFault {
+    ghost from_gives = { λ files fault. fault ≡ of_source files };
 
-    fn from(fault: FilesFault) -> RunFault {
+    fn from(fault: SourceFault) -> RunFault {
         match fault {
-            FilesFault::Input(fault) => RunFault::from(fault),
-            FilesFault::TooLarge => RunFault::Bundle(BundleFault::TooLarge),
-            FilesFault::Read => RunFault::Read,
+            SourceFault::Input(fault) => RunFault::from(fault),
+            SourceFault::Read => RunFault::Read,
         }
     }
 }

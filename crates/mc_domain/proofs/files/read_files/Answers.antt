@@ -1,7 +1,7 @@
-use Rattle.std.proofs.Common.{◌∙◌, ap, refl, None, Ok, Err}
+use Rattle.std.proofs.Common.{◌∙◌, ap, refl, Ok, Err}
 use Rattle.std.proofs.lemmas.Result.{err_from_is_err_and}
 use Rattle.mc_domain.specs.FilesReading.{part_filed}
-use Rattle.mc_domain.specs.declared.files_fault.FilesFault.TheVariants.{Input}
+use Rattle.mc_domain.specs.declared.source_fault.SourceFault.TheVariants.{Input}
 use Rattle.mc_domain.proofs.FilesLemmas.{failed_as}
 use Rattle.mc_domain.proofs.ReadingLemmas.{topology_refused, contents_of}
 use Rattle.mc_domain.proofs.FilesStand.{read_stands, read_again}
@@ -51,7 +51,6 @@ returns-clause-found g c =
       topology = c.in_ok-topology.topology;
       tables = c.in_ok-told.told.0;
       reports = c.in_ok-told.told.1;
-      certificate = None;
     })) (returns-clause-fault g c)
 
 pub returns-clause-only : goal.returns-clause-only
@@ -60,5 +59,4 @@ returns-clause-only g c =
       topology = c.in_ok-topology.topology;
       tables = c.in_ok-told.told.0;
       reports = c.in_ok-told.told.1;
-      certificate = None;
     })) (returns-clause-fault g c)

@@ -3,7 +3,7 @@ use Rattle.std.proofs.lemmas.Grind.{elements}
 use Rattle.std.proofs.lemmas.Result.{err_from_is_err_and}
 use Rattle.mc_domain.specs.FilesReading.{part_filed}
 use Rattle.mc_domain.specs.PartsReading.{lans_number}
-use Rattle.mc_domain.specs.declared.files_fault.FilesFault.TheVariants.{Input}
+use Rattle.mc_domain.specs.declared.source_fault.SourceFault.TheVariants.{Input}
 use Rattle.mc_domain.proofs.ReadingLemmas.{reports_refused, reports_next, reports_end}
 use Rattle.mc_domain.proofs.files.reports_of_lans.Goals as goal
 

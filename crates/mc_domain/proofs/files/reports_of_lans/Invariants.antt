@@ -3,7 +3,7 @@ use Rattle.mc_layout.specs.Files.{FileText}
 use Rattle.mc_text.proofs.StepLemmas.{with_front}
 use Rattle.mc_domain.specs.FilesReading.{part_filed}
 use Rattle.mc_domain.specs.PartsReading.{all_reports, lans_number}
-use Rattle.mc_domain.specs.declared.files_fault.FilesFault.TheVariants.{Input}
+use Rattle.mc_domain.specs.declared.source_fault.SourceFault.TheVariants.{Input}
 use Rattle.mc_domain.proofs.files.reports_of_lans.Given as goal
 
 abbrev pub invariant-loop-lan : goal.invariant-loop-lan

@@ -1,7 +1,7 @@
 use Rattle.std.proofs.Common.{◌∙◌, ap, Err}
 use Rattle.std.proofs.lemmas.Result.{err_from_is_err_and}
 use Rattle.mc_domain.specs.FilesReading.{part_filed}
-use Rattle.mc_domain.specs.declared.files_fault.FilesFault.TheVariants.{Input}
+use Rattle.mc_domain.specs.declared.source_fault.SourceFault.TheVariants.{Input}
 use Rattle.mc_domain.proofs.ReadingLemmas.{tables_refused_in, reports_refused_in, contents_read}
 use Rattle.mc_domain.proofs.files.tables_and_reports_in.Goals as goal
 

@@ -2,7 +2,7 @@ use Rattle.std.proofs.Common.{◌∙◌, ◌+◌, ◌*◌, ap, Err, arith}
 use Rattle.std.proofs.lemmas.Grind.{elements}
 use Rattle.std.proofs.lemmas.Result.{err_from_is_err_and}
 use Rattle.mc_domain.specs.FilesReading.{part_filed}
-use Rattle.mc_domain.specs.declared.files_fault.FilesFault.TheVariants.{Input}
+use Rattle.mc_domain.specs.declared.source_fault.SourceFault.TheVariants.{Input}
 use Rattle.mc_domain.proofs.ReadingLemmas.{tables_refused, tables_next, tables_end}
 use Rattle.mc_domain.proofs.files.tables_in.Goals as goal
 

@@ -3,7 +3,7 @@ use Rattle.mc_layout.specs.Files.{FileText}
 use Rattle.mc_text.proofs.StepLemmas.{with_front}
 use Rattle.mc_domain.specs.FilesReading.{part_filed}
 use Rattle.mc_domain.specs.PartsReading.{all_tables}
-use Rattle.mc_domain.specs.declared.files_fault.FilesFault.TheVariants.{Input}
+use Rattle.mc_domain.specs.declared.source_fault.SourceFault.TheVariants.{Input}
 use Rattle.mc_domain.proofs.files.tables_in.Given as goal
 
 abbrev pub invariant-loop-router : goal.invariant-loop-router

@@ -1,7 +1,7 @@
 use Rattle.std.proofs.Common.{◌∙◌, ◌+◌, ap, Err}
 use Rattle.std.proofs.lemmas.Result.{err_from_is_err_and}
 use Rattle.mc_domain.specs.FilesReading.{part_filed}
-use Rattle.mc_domain.specs.declared.files_fault.FilesFault.TheVariants.{Input}
+use Rattle.mc_domain.specs.declared.source_fault.SourceFault.TheVariants.{Input}
 use Rattle.mc_domain.proofs.ReadingLemmas.{vifs_refused, cache_refused, tables_read}
 use Rattle.mc_domain.proofs.files.tables_of.Goals as goal
 

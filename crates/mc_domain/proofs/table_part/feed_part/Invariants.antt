@@ -1,0 +1,25 @@
+use Rattle.std.proofs.Common.{◌≡◌, ◌+◌, ◌<◌, ◌≤◌, ◌++◌, ℕ, List, [], Some, length}
+use Rattle.mc_text.specs.Lines.{max_text}
+use Rattle.mc_text.specs.declared.bundle.stage.Stage.TheVariants as stages
+use Rattle.mc_text.specs.PartsReading.{parts_if}
+use Rattle.mc_text.specs.PartsToCome.{GoesOn}
+use Rattle.mc_domain.proofs.table_part.feed_part.Given as goal
+
+abbrev pub invariant-pieces : goal.invariant-pieces
+invariant-pieces g l = record {
+  goes_on : GoesOn l.fn.parts l.parts;
+  failures : l.parts.failed ≡ l.fn.parts.failed;
+  opened : l.parts.stage ≡ stages.Part;
+  name : l.parts.name ≡ l.fn.parts.name;
+  room : 0 < length l.buffer;
+  within : g.T.TableReader.size l.reader + l.parts.left ≤ max_text;
+  part : (text : List ℕ) → l.fn.parts.told ≡ Some text →
+      (later : List ℕ) × (done : List ℕ) × (l.parts.told ≡ Some later)
+      × (parts_if l.fn.parts [] text ≡ parts_if l.parts done later)
+      × (length done ≡ g.T.TableReader.size l.reader)
+      × ((more : List ℕ) → g.T.TableReader.size l.reader + length more ≤ max_text →
+      g.T.TableReader.ends l.fn.reader (done ++ more) ≡ g.T.TableReader.ends l.reader more);
+}
+
+abbrev pub decreases-pieces : goal.decreases-pieces
+decreases-pieces g l = l.parts.left

@@ -1,0 +1,43 @@
+-- Why the parts of a bundle, or a folder's files, tell no domain, and which faults say nothing of
+-- them.
+use Rattle.std.specs.Prelude.{◌≡◌, ◌⊎◌, Bool, true, false, List, Option, Result}
+use Rattle.mc_text.specs.Steps as Steps
+use Rattle.mc_text.specs.declared.bundle.bundle_fault.BundleFault.{BundleFault}
+use Rattle.mc_text.specs.declared.bundle.bundle_fault.BundleFault.TheVariants as bundle
+use Rattle.mc_layout.specs.Files as Files
+use Rattle.mc_layout.specs.Files.{FileText}
+use Rattle.mc_layout.specs.declared.fault.FileFault.{FileFault}
+use Rattle.mc_layout.specs.declared.fault.FileFault.TheVariants as file
+use Rattle.mc_domain.specs.declared.fault.InputFault.TheVariants.{Bundle, Memory}
+use Rattle.mc_domain.specs.declared.source_fault.SourceFault.{SourceFault}
+use Rattle.mc_domain.specs.declared.source_fault.SourceFault.TheVariants.{Input, Read}
+
+-- the fault of a source of files, of which one that is too large is told of the bundle,
+abbrev pub of_file : FileFault → SourceFault
+of_file file.Failed = Read
+of_file file.TooLarge = Input (Bundle bundle.TooLarge)
+of_file file.Memory = Input Memory
+
+-- and that of a bundle's parts
+abbrev pub of_bundle : BundleFault → SourceFault
+of_bundle bundle.Read = Read
+of_bundle bundle.Memory = Input Memory
+of_bundle fault = Input (Bundle fault)
+
+-- that the source failed or memory ran out says nothing of what it gives
+abbrev pub IsSilent : SourceFault → Type 0
+IsSilent fault = (fault ≡ Read) ⊎ (fault ≡ Input Memory)
+
+-- what a call answers, seen by view, unless the source fails or memory runs out
+abbrev pub Gives : {X Y : Type 0} → (X → Y) → Result X SourceFault → Result Y SourceFault → Type 0
+Gives = Steps.Gives IsSilent
+
+-- the same of what the files give that a source tells
+abbrev pub GivesOf : {X Y : Type 0} → Option (List FileText) → (X → Y) → Result X SourceFault
+    → (List FileText → Result Y SourceFault) → Type 0
+GivesOf = Files.GivesOf IsSilent
+
+-- the fault of a source that failed, which it counts
+abbrev pub is_read : SourceFault → Bool
+is_read Read = true
+is_read fault = false

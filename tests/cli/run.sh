@@ -14,6 +14,7 @@
 #   stdout.same the path of a file that is its standard output, from the top of the repository
 #   stderr      its standard error (without it: empty); or stderr.has, of which it has each line's text
 #   memory      the most KiB of memory that it may take (without it: as much as there is)
+#   stack       the most KiB of stack that it may take (without it: as much as this shell has)
 #   status      its exit status (without it: 0)
 #
 # The last line counts the cases: N passed, M failed. The status is 0 if none failed and one was run.
@@ -65,10 +66,12 @@ run_case() {
     fi
     limit=unlimited
     [ ! -f "$folder/memory" ] || limit=$(cat "$folder/memory")
+    stack=$(ulimit -s)
+    [ ! -f "$folder/stack" ] || stack=$(cat "$folder/stack")
     if [ -f "$folder/stdin.pipe" ]; then
         sh "$folder/stdin.pipe" | "$program" "$@" > "$output" 2> "$scratch/stderr"
     else
-        (ulimit -v "$limit" && exec "$program" "$@") < "$input" > "$output" 2> "$scratch/stderr"
+        (ulimit -v "$limit" && ulimit -s "$stack" && exec "$program" "$@") < "$input" > "$output" 2> "$scratch/stderr"
     fi
     status=$?
     wanted=0

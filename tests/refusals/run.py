@@ -9,7 +9,8 @@ program has one refusal, on the examples and on a few cases, and what may come o
   memory    status 4, `no memory` and no output; or the answer of the run that nothing disturbed, where
             what was refused wasn't needed
   a file    status 3, `failed: read` and no output
-  a read    the same; or, where the bytes that were read decide it, the refusal of the text, and no output
+  a read    the same, whatever stands before it; but where the framing of a bundle is wrong and the bytes up to
+            where that is met were read, that it is so
   a write   status 3, `failed: write`, and exactly what the output had taken
 
 Devices that give or take a few bytes at a time change nothing.
@@ -31,6 +32,7 @@ from concurrent.futures import ThreadPoolExecutor
 TOP = os.path.dirname(os.path.dirname(os.path.dirname(os.path.abspath(__file__))))
 PIECES = (1, 2, 3, 7, 64, 4096)
 MOST_STOPS = 400  # of a long text not every place is tried, but so many, evenly
+ALL_STOPS = 2000  # of the input of the first run every place is
 NO_MEMORY = (4, b"", b"no memory\n")
 READ_FAILED = (3, b"", b"failed: read\n")
 GAVE_UP = re.compile(rb"error: .*(Memory|AllocError|AllocFailed).*\nthe test failed: its result gives status 1\n\Z")
@@ -40,9 +42,11 @@ ABOUT_MEMORY = re.compile(r"\b(memory|pieces)::|refused_growth")  # what the tes
 class Tried:
     """A run of the program, and what comes of it undisturbed."""
 
-    def __init__(self, program, library, words, given):
+    def __init__(self, program, library, words, given, met=None, stops=MOST_STOPS):
         self.whole = [program, *words]
         self.library, self.given = library, given
+        # after how many bytes of the input it is met that the framing is wrong, and how many places are tried
+        self.met, self.stops = met, stops
         with tempfile.NamedTemporaryFile() as count:
             self.answer = self.run("COUNT", count.name)
             self.growths, self.files, self.reads = map(int, count.read().split())
@@ -62,8 +66,9 @@ class Tried:
             yield "OPEN_FAILS", number, (READ_FAILED,)
         for number in range(1, self.reads + 1):
             yield "READ_FAILS", number, (READ_FAILED,)
-        for end in places(len(self.given) + 1) if self.given is not None else ():
-            yield "INPUT_ENDS", end, (READ_FAILED, (2, b"", self.cut_at(end)))
+        for end in self.ends():
+            is_met = self.met is not None and end >= self.met
+            yield "INPUT_ENDS", end, (self.answer if is_met else READ_FAILED,)
         output = self.answer[1]
         for end in places(len(output)):
             yield "OUTPUT_ENDS", end, ((3, output[:end], b"failed: write\n"),)
@@ -73,10 +78,12 @@ class Tried:
             yield "FILE_PIECE", piece, (self.answer,)
             yield "OUTPUT_PIECE", piece, (self.answer,)
 
-    def cut_at(self, end):
-        """What is said of a text that ends after so many bytes, where it is refused."""
-        done = subprocess.run(self.whole, input=self.given[:end], capture_output=True, timeout=60, check=False)
-        return done.stderr
+    def ends(self):
+        """Returns the places of the input, and its end, where it fails."""
+        if self.given is None:
+            return []
+        around = () if self.met is None else (self.met - 1, self.met, self.met + 1)
+        return sorted({*places(len(self.given) + 1, self.stops), len(self.given), *around})
 
     def is_allowed(self, found, allowed):
         """Whether an answer is one of those that may come."""
@@ -115,9 +122,9 @@ def tests_about_memory(program, library):
             yield TriedTest(program, library, name)
 
 
-def places(length):
+def places(length, stops=MOST_STOPS):
     """Returns the places of a text of so many bytes that are tried."""
-    return range(0, length, max(1, length // MOST_STOPS))
+    return range(0, length, max(1, length // stops))
 
 
 def text_of(path):
@@ -125,14 +132,29 @@ def text_of(path):
         return file.read()
 
 
+def wrong_framings(bundle):
+    """Yields texts that are no bundle, and how many of their bytes show it, counted by hand."""
+    first, rest = bundle[:17], bundle[17:]
+    line = rest.index(b"\n") + 1  # of the first part
+    size = int(rest[:line].split()[2])
+    part = 17 + line + size  # where the line feed after the first part stands
+    yield b"mcaudit bundle 2\n" + rest, 17
+    yield first + b"part topology 01\n" + rest[line:], 17 + 17  # at the line's end
+    yield first + b"x" * 200, 17 + 96  # at the last byte that a line may have
+    yield first + b"part topology 16777217\n" + rest[line:], 17 + 23
+    yield bundle[:part] + b"x" + bundle[part + 1:], part + 1  # at that byte
+    yield bundle + b"x" + bundle, len(bundle) + 1
+
+
 def runs_of(program):
-    """Returns the words and the input of each run that is tried."""
+    """Returns the words and the input of each run that is tried, and what `Tried` takes beside them."""
     bundle, faulty, reports = map(text_of, ("examples/network.bundle", "examples/second-router.bundle", "examples/reports"))
     made = text_of("examples/steps/pack-certified.stdout")  # its certificate is as `make` writes it
     folders = f"{TOP}/examples/network", f"{TOP}/examples/second-router"
     plain, other = (subprocess.run([program, "pack", it], stdout=subprocess.PIPE, check=True).stdout for it in folders)
     return [
-        (["check"], bundle),
+        (["check"], bundle, None, ALL_STOPS),
+        *((["check"], text, met) for text, met in wrong_framings(bundle)),
         (["check"], faulty),
         (["check"], made),
         (["check"], bundle[:700]),
@@ -152,8 +174,8 @@ def runs_of(program):
 
 def tries(program, programs_of_tests, library):
     """Yields each run that is tried, of the program and of its tests."""
-    for words, given in runs_of(program):
-        yield Tried(program, library, words, given)
+    for run in runs_of(program):
+        yield Tried(program, library, *run)
     for tests in programs_of_tests:
         yield from tests_about_memory(tests, library)
 

@@ -1,20 +1,21 @@
--- What one file of a folder tells, and what the source counts.
+-- What one file of a folder tells, and what is kept of it.
 use Rattle.std.specs.Prelude.{◌≡◌, ℕ, List, Result, Ok, Err, refl}
 use Rattle.std.proofs.Common.{ap, ◌∙◌, inl, inr, subst}
 use Rattle.mc_text.specs.Bundle.{PartText}
-use Rattle.mc_text.specs.Device.{counted}
 use Rattle.mc_layout.specs.FilePart.{IsOfSource, file_part}
 use Rattle.mc_layout.specs.Files.{FileText}
 use Rattle.mc_layout.specs.Layout.{Slot}
 use Rattle.mc_layout.specs.declared.fault.FileFault.{FileFault}
 use Rattle.mc_layout.specs.declared.fault.FileFault.TheVariants as file
-use Rattle.mc_domain.specs.SourceFault.{IsSilent, is_read, of_file}
+use Rattle.mc_domain.specs.SourceFault.{IsSilent, of_file}
 use Rattle.mc_domain.specs.FilesReading.{part_filed}
+use Rattle.mc_domain.specs.Kept.{GivesKept}
+use Rattle.mc_domain.specs.PartsInTurn.{IsToldOf}
 use Rattle.mc_domain.specs.PartsReading.{told_by}
 use Rattle.mc_domain.specs.declared.fault.InputFault.{InputFault}
 use Rattle.mc_domain.specs.declared.fault.InputFault.TheVariants.{Memory}
-use Rattle.mc_domain.specs.declared.source_fault.SourceFault.{SourceFault}
 use Rattle.mc_domain.specs.declared.source_fault.SourceFault.TheVariants.{Input}
+use Rattle.mc_domain.proofs.KeptLemmas.{fault_is, told_ok}
 
 -- a file's fault that is silent is so as that of the files
 silent_of : (fault : FileFault) → IsOfSource fault → IsSilent (of_file fault)
@@ -54,9 +55,20 @@ module _ {X : Type 0} (files : List FileText) (n : ℕ) (slot given : Slot)
       let told = subst (λ (p : PartText). read p ≡ Ok x) same found in
       rw (here, told) refl
 
--- the source failed as often in a call as in its last step, where no earlier one failed
-pub failed_as : {X Y : Type 0} (fault : SourceFault) (r : Result X SourceFault)
-    (s : Result Y SourceFault) (new between old : ℕ) → r ≡ Err fault → s ≡ Err fault
-    → new ≡ counted is_read s between → between ≡ old → new ≡ counted is_read r old
-failed_as fault r s new between old is step first before =
-    rw (is) (first ∙ rw (step, before) refl)
+module _ {K Y : Type 0} (Keeps : K → Y → Type 0) (files : List FileText) (n : ℕ)
+    (slot given : Slot) (read : PartText → Result Y InputFault) (part : PartText)
+    (is : given ≡ slot) (made : file_part files given ≡ Ok part) where
+  -- the file's part is refused by who keeps of it
+  pub kept_refused : (fault : InputFault) → IsToldOf Keeps (Err fault) (read part)
+      → (¬ IsSilent (Input fault))
+      → told_by Input (part_filed files n slot) read ≡ Err (Input fault)
+  kept_refused fault told says =
+      told_refused files n slot given read part part fault is made refl
+      (fault_is Keeps fault (read part) told) says
+
+  -- or this is kept of what it tells
+  pub kept_read : (kept : K) → IsToldOf Keeps (Ok kept) (read part)
+      → GivesKept Keeps (Ok kept) (told_by Input (part_filed files n slot) read)
+  kept_read kept told =
+      let own = told_ok Keeps (Ok kept) (read part) kept told refl in
+      (own.0, told_read files n slot given read part part own.0 is made refl own.1, own.2)

@@ -1,8 +1,7 @@
 -- What a folder's files are read as is what they stand for.
-use Rattle.std.specs.Prelude.{◌≡◌, ℕ, ◌+◌, false, List, [], ◌∷◌, Option, Some, None, Result, Ok, Err}
-use Rattle.std.specs.Prelude.{IfOk, IfSome, refl}
+use Rattle.std.specs.Prelude.{◌≡◌, ℕ, ◌+◌, false, List, [], ◌∷◌, None, Ok}
+use Rattle.std.specs.Prelude.{refl}
 use Rattle.std.specs.List.{AllByRecursion}
-use Rattle.std.proofs.Common.{subst}
 use Rattle.mc_text.specs.Bundle.{PartText}
 use Rattle.mc_layout.specs.FilePart.{file_part}
 use Rattle.mc_layout.specs.Files.{FileText}
@@ -10,12 +9,9 @@ use Rattle.mc_layout.specs.Layout.{Slot, slots}
 use Rattle.mc_layout.specs.Packing.{ArePacked}
 use Rattle.mc_layout.proofs.PartLemmas.{IsSmall, refused_ok, part_takes, part_again}
 use Rattle.mc_domain.specs.Input.{InputValue}
-use Rattle.mc_domain.specs.InputView.{input_value}
-use Rattle.mc_domain.specs.SourceFault.{Gives, of_file}
+use Rattle.mc_domain.specs.SourceFault.{of_file}
 use Rattle.mc_domain.specs.FilesInput.{FilesStand}
 use Rattle.mc_domain.specs.FilesReading.{part_filed, files_of}
-use Rattle.mc_domain.specs.declared.contents.Contents.{Contents}
-use Rattle.mc_domain.specs.declared.source_fault.SourceFault.{SourceFault}
 use Rattle.mc_domain.specs.declared.source_fault.SourceFault.TheVariants.{Input}
 use Rattle.mc_domain.proofs.ServedLemmas.{Serves, Names, served_take, served_again}
 
@@ -61,27 +57,3 @@ pub files_again : (files : List FileText) (v : InputValue) → FilesStand files 
 files_again files v h =
     (served_again Input (part_filed files) (λ t. Ok tt) h.parts v None h.stand []
     (filed_again files 0 (slots false v.topology) h.parts h.packed h.sizes) refl).0
-
--- ---- what a call answers
-
--- what was read of the files, they stand for
-pub read_stands : (told : Option (List FileText)) (r : Result Contents SourceFault)
-    → ((files : List FileText) → told ≡ Some files → Gives input_value r (files_of files))
-    → IfOk r (λ input. IfSome told (λ files. FilesStand files (input_value input)))
-read_stands None r given = none r
-  where
-    none : (r : Result Contents SourceFault)
-        → IfOk r (λ input. IfSome None (λ (files : List FileText). FilesStand files
-        (input_value input)))
-    none (Ok input) = tt
-    none (Err fault) = tt
-read_stands (Some files) (Ok input) given = files_take files (input_value input) (given files refl)
-read_stands (Some files) (Err fault) given = tt
-
--- and files that stand for an input are read as that
-pub read_again : (told : Option (List FileText)) (r : Result Contents SourceFault)
-    → ((files : List FileText) → told ≡ Some files → Gives input_value r (files_of files))
-    → (files : List FileText) (v : InputValue) → told ≡ Some files → FilesStand files v
-    → Gives input_value r (Ok v)
-read_again told r given files v is stands =
-    subst (Gives input_value r) (files_again files v stands) (given files is)

@@ -30,7 +30,7 @@ use Rattle.mc_domain.proofs.ComingLemmas.{coming_refused, names_refused, passed_
 
 module _ {K Y : Type 0} (Keeps : K → Y → Type 0) where
   -- what is kept is kept of what is told
-  told_ok : (told : Result K InputFault) (read : Result Y InputFault) (kept : K)
+  pub told_ok : (told : Result K InputFault) (read : Result Y InputFault) (kept : K)
       → IsToldOf Keeps told read → told ≡ Ok kept → (y : Y) × (read ≡ Ok y) × Keeps kept y
   told_ok (Ok own) (Ok y) kept is e =
       let same : own ≡ kept = cc in (y, refl, subst (λ k. Keeps k y) same is)
@@ -38,7 +38,7 @@ module _ {K Y : Type 0} (Keeps : K → Y → Type 0) where
   told_ok (Err fault) read kept is e = absurd cc
 
   -- a fault that isn't want of memory is the part's
-  fault_is : (fault : InputFault) (read : Result Y InputFault) → IsToldOf Keeps (Err fault) read
+  pub fault_is : (fault : InputFault) (read : Result Y InputFault) → IsToldOf Keeps (Err fault) read
       → fault ≢ input.Memory → read ≡ Err fault
   fault_is input.Memory read is loud = absurd (loud refl)
   fault_is fault read is loud = is
@@ -111,7 +111,7 @@ refused_name read certified t n s own refused = λ text known loud.
 -- ---- the rows of listed flows
 
 -- the faults of the rows that are kept are those of the whole cache
-listed_is : (order : Order) (pairs : List (ℕ × ℕ)) (name bytes : List ℕ)
+pub listed_is : (order : Order) (pairs : List (ℕ × ℕ)) (name bytes : List ℕ)
     (told : Result CacheText InputFault) (found : Result CacheText TableFault)
     → listed_in order (Some pairs) bytes ≡ found
     → IsToldOf (λ kept cache. kept ≡ cache) told (refused_as (input.Cache name) found)

@@ -2,7 +2,9 @@ mod BundleStand
 mod ComingLemmas
 mod Counted
 mod FeedLemmas
+mod FilesFeedLemmas
 mod FilesLemmas
+mod FilesMeansLemmas
 mod FilesStand
 pub mod OneDomain
 mod InTurnLemmas

@@ -19,15 +19,16 @@ use Rattle.mc_layout.specs.Layout.{part_name, topology_slot}
 use Rattle.mc_forward.specs.Assembling.{AreAnswers, AreWanted, IsAssembled}
 use Rattle.mc_forward.specs.Domains.{AreTables, DomainValue, IsDomain, TablesValue}
 use Rattle.mc_forward.specs.DomainParts.{domain_with}
-use Rattle.mc_forward.specs.ListedTables.{AreListed, AreListedTables, SaysTheSame}
+use Rattle.mc_forward.specs.ListedTables.{AreListedTables, SaysTheSame}
 use Rattle.mc_forward.proofs.SameLemmas.{listed-same, pairwise-count, pairwise-each}
 use Rattle.mc_forward.proofs.WantsLemmas.{assembled-of, domain-of}
-use Rattle.mc_domain.specs.Input.{InputValue, InputStands, TellTables}
+use Rattle.mc_domain.specs.Input.{InputValue, InputStands, PartsStand, TellTables}
 use Rattle.mc_domain.specs.InputReading.{input_of}
 use Rattle.mc_domain.specs.InputView.{text_seen}
-use Rattle.mc_domain.specs.Meaning.{MeansDomain, MeansListed}
+use Rattle.mc_domain.specs.Meaning.{Means, MeansDomain, MeansListed, MeansSame}
 use Rattle.mc_domain.specs.PartsInTurn.{IsReadOf, Refuses, coming, once_named, tables_then, told_in}
-use Rattle.mc_domain.specs.PartsInTurn.{AreWantedBy, topology_first}
+use Rattle.mc_domain.specs.Kept.{IsDomainOf}
+use Rattle.mc_domain.specs.PartsInTurn.{topology_first}
 use Rattle.mc_domain.specs.PartsReading.{topology_of}
 use Rattle.mc_domain.specs.SourceFault.{IsSilent}
 use Rattle.mc_domain.specs.declared.fault.InputFault.TheVariants as input
@@ -96,31 +97,28 @@ tables_told (r ∷ rs) (vif ∷ cache ∷ here) (t ∷ ts) rest h (suc router) o
     tables_told rs here ts rest h.1 router own at
 
 -- the input means a domain of which this one says what it says
-kept_means : (text : List ℕ) (certificate : Option (List ℕ)) (v : InputValue) (t : TopologyValue)
-    (tables : List TablesValue) (wants : List (List Bool))
-    → InputStands text v certificate → v.topology ≡ t → AreListed t.flows tables v.tables
-    → (let d = domain_with t tables wants in IsDomain d)
-    → AreWantedBy t v.reports wants
-    → MeansListed text certificate (domain_with t tables wants)
-kept_means text certificate v t tables wants stands same listed rules wanted =
-    let whole = domain_with t v.tables wants in
-    let count = pairwise-count (AreListedTables t.flows) tables v.tables listed in
-    let each = pairwise-each (AreWanted t.flows) v.reports wants wanted in
-    let size = pairwise-count (AreWanted t.flows) v.reports wants wanted in
-    let assembled = assembled-of t v.tables v.reports wants (sym size) each in
-    let answers : AreAnswers t wants = record { lans = rules.lans; flows = rules.flows } in
-    let told = tables_told v.topology.routers stands.stand.of_routers v.tables stands.stand.of_lans
-    stands.stand.tables in
-    let is = domain-of t v.tables wants rules.topology (sym count ∙ rules.routers) told answers in
+pub kept_means : {X : Type 0} (Stands : X → InputValue → Type 0) (x : X) (parts : List PartText)
+    (certificate : Option (List ℕ)) (v : InputValue) (d : DomainValue) → Stands x v
+    → PartsStand parts v certificate → IsDomainOf d v → IsDomain d → MeansSame (Means Stands) x d
+kept_means Stands x parts certificate v d stands stand kept rules =
+    let t = d.topology in
+    let whole = domain_with t v.tables d.wants in
+    let count = pairwise-count (AreListedTables t.flows) d.tables v.tables kept.listed in
+    let each = pairwise-each (AreWanted t.flows) v.reports d.wants kept.wanted in
+    let size = pairwise-count (AreWanted t.flows) v.reports d.wants kept.wanted in
+    let assembled = assembled-of t v.tables v.reports d.wants (sym size) each in
+    let answers : AreAnswers t d.wants = record { lans = rules.lans; flows = rules.flows } in
+    let told = tables_told v.topology.routers stand.of_routers v.tables stand.of_lans stand.tables in
+    let is = domain-of t v.tables d.wants rules.topology (sym count ∙ rules.routers) told answers in
     record {
       whole = whole;
       means = record {
         input = v;
         stands = stands;
-        assembled = subst (λ u. IsAssembled u v.tables v.reports whole) (sym same) assembled;
+        assembled = subst (λ u. IsAssembled u v.tables v.reports whole) (sym kept.topology) assembled;
         rules = is;
       };
-      same = listed-same t tables v.tables wants listed;
+      same = listed-same t d.tables v.tables d.wants kept.listed;
     }
 
 pub read_means : (certified : Bool) (s : PartsState) (text : List ℕ) (d : DomainValue)
@@ -129,8 +127,8 @@ pub read_means : (certified : Bool) (s : PartsState) (text : List ℕ) (d : Doma
 read_means certified s text d certificate start rules read =
     let stands = told_stands certified text read.0 certificate
     (sym (at_start certified s text start) ∙ read.2) in
-    kept_means text certificate read.0 d.topology d.tables d.wants stands read.1.topology
-    read.1.listed rules read.1.wanted
+    kept_means (λ t input. InputStands t input certificate) text stands.parts certificate read.0 d
+    stands stands.stand read.1 rules
 
 -- ---- and why it is refused
 
@@ -142,8 +140,8 @@ read_refused certified s text own start told refused loud =
     ap (refused_as Input) (told_refused certified text found.0
     (sym (at_start certified s text start) ∙ found.1)) ∙ ap Err (sym found.2)
 
--- a fault that isn't silent is of a bundle that means nothing
-silent_of : (own : SourceFault) (P : Type 0) → (¬ IsSilent own → P) → (P → ⊥) → IsSilent own
+-- a fault that isn't silent is of what means nothing
+pub silent_of : (own : SourceFault) (P : Type 0) → (¬ IsSilent own → P) → (P → ⊥) → IsSilent own
 silent_of Read P loud none = inl refl
 silent_of (Input input.Memory) P loud none = inr refl
 silent_of (Input fault) P loud none =

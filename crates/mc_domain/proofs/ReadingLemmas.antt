@@ -1,7 +1,7 @@
 -- What is read of parts one after the other, whatever gives them.
 use Rattle.std.specs.Prelude.{◌≡◌, ℕ, zero, suc, ◌+◌, ◌≤◌, List, [], ◌∷◌, ◌++◌, length, drop}
 use Rattle.std.specs.Prelude.{slice_get, option_map, Some, Result, Ok, Err, refl}
-use Rattle.std.proofs.Common.{ap, ◌∙◌, sym, add-one, append_assoc, append-nil}
+use Rattle.std.proofs.Common.{ap, arith, ◌∙◌, sym, add-one, append_assoc, append-nil}
 use Rattle.std.proofs.lemmas.List.{drop_all}
 use Rattle.std.specs.FinMap.{FinMap}
 use Rattle.std.specs.Ordering.{nat_cmp}
@@ -108,6 +108,18 @@ module _ {F : Type 0} (as_ours : InputFault → F) (source : ℕ → Slot → Re
       sym left ∙ rw (drop_all i rs past) (ap Ok (append-nil front))
 
   -- ---- the LANs' reports
+
+  -- no LAN's reports were read yet
+  front-none : {A : Type 0} (rest : Result (List A) F) → with_front [] rest ≡ rest
+  front-none (Ok ys) = refl
+  front-none (Err fault) = refl
+
+  pub reports_start : (k : ℕ) (lans : List (List ℕ))
+      → with_front [] (all_reports as_ours source (k + 0) (drop 0 lans))
+      ≡ all_reports as_ours source k lans
+  reports_start k lans =
+      let same : k + 0 ≡ k = omega arith in
+      rw (same) (front-none (all_reports as_ours source k lans))
 
   -- the reports of the next LAN are refused
   pub reports_refused : (front : List (List Record)) (k : ℕ) (lans : List (List ℕ)) (i : ℕ)

@@ -4,15 +4,11 @@ use Rattle.std.specs.declared.alloc.Global.{Global}
 use Rattle.mc_igmp.specs.declared.record.Record.{Record}
 use Rattle.mc_topology.specs.Topology.{TopologyValue}
 use Rattle.mc_forward.specs.Domains.{TablesValue}
-use Rattle.mc_domain.specs.declared.contents.Contents.{Contents}
 use Rattle.mc_domain.specs.Input.{InputValue}
 
 -- the input of a topology, of its routers' tables and of its LANs' reports
 abbrev pub input_with : TopologyValue → List TablesValue → List (List Record) → InputValue
 input_with t tables reports = record { topology = t; tables = tables; reports = reports }
-
-abbrev pub input_value : Contents → InputValue
-input_value c = input_with c.topology c.tables.items c.reports.items
 
 -- the text of the certificate
 abbrev pub text_seen : Option (Vec ℕ Global) → Option (List ℕ)

@@ -1,6 +1,7 @@
 pub mod Input
 pub mod InputReading
 pub mod InputView
+pub mod Kept
 pub mod PartsInTurn
 pub mod PartsReading
 pub mod SourceFault

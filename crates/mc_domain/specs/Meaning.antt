@@ -24,16 +24,24 @@ MeansDomain text certificate d = Means (λ t input. InputStands t input certific
 abbrev pub MeansUncertified : List ℕ → DomainValue → Type 0
 MeansUncertified text d = MeansDomain text None d
 
--- It means a domain that says of each flow what this one says.
-pub record MeansListed (text : List ℕ) (certificate : Option (List ℕ)) (d : DomainValue) : Type 0
-  where
-    pub whole : DomainValue
-    pub means : MeansDomain text certificate whole
-    pub same : SaysTheSame whole d
-
 -- the files tell the domain
 abbrev pub MeansFiles : List FileText → DomainValue → Type 0
 MeansFiles = Means FilesStand
+
+-- It means a domain that says of each flow what this one says.
+pub record MeansSame {X : Type 0} (Means : X → DomainValue → Type 0) (x : X) (d : DomainValue)
+    : Type 0 where
+  pub whole : DomainValue
+  pub means : Means x whole
+  pub same : SaysTheSame whole d
+
+-- the same of a bundle,
+abbrev pub MeansListed : List ℕ → (certificate : Option (List ℕ)) → DomainValue → Type 0
+MeansListed text certificate d = MeansSame (λ t e. MeansDomain t certificate e) text d
+
+-- and of files
+abbrev pub FilesMeanListed : List FileText → DomainValue → Type 0
+FilesMeanListed = MeansSame MeansFiles
 
 -- It means a domain, of which this holds.
 pub record OfDomain {X D : Type 0} (Means : X → D → Type 0) (Holds : D → Type 0) (x : X) : Type 0

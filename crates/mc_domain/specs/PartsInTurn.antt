@@ -12,12 +12,12 @@ use Rattle.mc_igmp.specs.declared.record.Record.{Record}
 use Rattle.mc_topology.specs.Rows.{RouterRow}
 use Rattle.mc_topology.specs.Topology.{TopologyValue}
 use Rattle.mc_layout.specs.Layout.{Slot, part_name, slots, topology_slot}
-use Rattle.mc_forward.specs.Assembling.{AreWanted}
 use Rattle.mc_forward.specs.Domains.{DomainValue, TablesValue}
-use Rattle.mc_forward.specs.ListedTables.{AreListed, AreListedTables, Pairwise}
+use Rattle.mc_forward.specs.ListedTables.{AreListed, AreListedTables}
 use Rattle.mc_domain.specs.Input.{InputValue}
 use Rattle.mc_domain.specs.InputReading.{named, part_at}
 use Rattle.mc_domain.specs.InputView.{input_with}
+use Rattle.mc_domain.specs.Kept.{AreWantedBy, IsDomainOf}
 use Rattle.mc_domain.specs.PartsReading.{topology_of, vifs_of, cache_of, reports_of, lans_number}
 use Rattle.mc_domain.specs.SourceFault.{IsSilent}
 use Rattle.mc_domain.specs.declared.fault.InputFault.{InputFault}
@@ -182,10 +182,6 @@ TakesAllTables old text new certified t tables =
 abbrev pub last_number : TopologyValue → ℕ
 last_number t = lans_number t + length t.lans
 
--- these LANs' reports want these flows
-abbrev pub AreWantedBy : TopologyValue → List (List Record) → List (List Bool) → Type 0
-AreWantedBy t reports wants = Pairwise (AreWanted t.flows) reports wants
-
 -- The parts of all LANs' reports were passed, after these tables.
 abbrev pub TakesReports : PartsState → List ℕ → PartsState → (certified : Bool) → TopologyValue
     → List TablesValue → List (List Bool) → Type 0
@@ -197,17 +193,10 @@ TakesReports old text new certified t tables wants =
     ≡ coming new later (once_named certified t (last_number t)
     (last_then certified (input_with t tables reports))))
 
--- This is kept of an input: of its tables what they say of the flows, and which LAN wants which.
-pub record IsListedOf (input : InputValue) (t : TopologyValue) (tables : List TablesValue)
-    (wants : List (List Bool)) : Type 0 where
-  pub topology : input.topology ≡ t
-  pub listed : AreListed t.flows tables input.tables
-  pub wanted : AreWantedBy t input.reports wants
-
 -- What the parts tell was read: a domain that says of each flow of the input what the tables say,
 -- and the text of the certificate.
 abbrev pub IsReadOf : PartsState → List ℕ → (certified : Bool) → DomainValue → Option (List ℕ)
     → Type 0
 IsReadOf state text certified d certificate =
-    (input : InputValue) × IsListedOf input d.topology d.tables d.wants
+    (input : InputValue) × IsDomainOf d input
     × (coming state text (told_in certified) ≡ Ok (input, certificate))

@@ -25,7 +25,7 @@ use crate::fault::InputFault;
 use crate::slot_part::{open_named, open_slot, read_on, read_to_end};
 use crate::source_fault::SourceFault;
 use crate::table_part::feed_part;
-use crate::told::{cache_told, topology_of, vifs_told, wanted_of};
+use crate::told::{cache_told, reader_of_flows, topology_of, vifs_told, wanted_of};
 use mc_forward::{FlowGroups, Items};
 use mc_layout::Slot;
 use mc_tables::{CacheReader, CacheTable, VifReader, VifTable};
@@ -143,26 +143,6 @@ fn read_cache<R: Input>(
     let mut reader = reader;
     feed_part(parts, buffer, &mut reader)?;
     Ok(cache_told(parts.name(), reader.finish()))
-}
-
-/// A reader of a router's cache that keeps what it says of the flows.
-fn reader_of_flows(
-    alloc: Global,
-    topology: &Topology,
-    order: Order,
-) -> Result<CacheReader, InputFault>
-    ensures start { IfOk result (λ reader.
-        reader ≡ no_cache order (Some (flow_pairs topology.now.flows))) }
-    ensures reads { IfOk result (λ reader. (text : List ℕ) → length text ≤ max_text →
-        cache_if reader text ≡ listed_in order (Some (flow_pairs topology.now.flows)) text) }
-    ensures memory { IfErr result (λ fault. fault ≡ InputFault.Memory) }
-{
-    let mut listed = Vec::with_capacity(alloc, topology.flows() as usize)?;
-    for flow in 0..topology.flows() {
-        let flow = topology.flow(flow);
-        listed.push((flow.source, flow.group))?;
-    }
-    Ok(CacheReader::new(alloc, order, listed))
 }
 
 /// The forwarding cache of a router of this byte order, in the part of the slot with a number, of

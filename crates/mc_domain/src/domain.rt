@@ -7,25 +7,25 @@ ghost use Rattle.mc_text.specs.Device.{counted};
 ghost use Rattle.mc_text.specs.PartsToCome.{GoesOn};
 ghost use Rattle.mc_text.specs.ReadFault.{ConsumesUpTo};
 ghost use Rattle.mc_text.specs.Steps.{refused_as};
-ghost use Rattle.mc_forward.specs.Assembling.{AreCounted, IsAssembled};
 ghost use Rattle.mc_forward.specs.Domains.{DomainValue, IsDomain};
 ghost use Rattle.mc_forward.specs.ListedTables.{SaysTheSame};
+ghost use Rattle.mc_layout.specs.Files.{FileText};
 ghost use Rattle.mc_domain.specs.FilesReading.{files_of};
 ghost use Rattle.mc_domain.specs.InputReading.{input_of};
 ghost use Rattle.mc_domain.specs.InputView.{text_seen};
-ghost use Rattle.mc_domain.specs.Meaning.{MeansDomain, MeansFiles, MeansListed};
+ghost use Rattle.mc_domain.specs.Kept.{IsDomainOf, GivesKeptOf};
+ghost use Rattle.mc_domain.specs.Meaning.{FilesMeanListed, MeansDomain, MeansFiles, MeansListed};
 ghost use Rattle.mc_domain.specs.PartsInTurn.{IsReadOf, Refuses, told_in};
 ghost use Rattle.mc_domain.specs.SourceFault.{IsSilent, is_read};
 ghost use Rattle.mc_domain.specs.declared.source_fault.SourceFault.TheVariants.{Input as refused};
 
 use crate::bundle::contents_in;
 use crate::bundle_part::topology_in;
-use crate::contents::Contents;
-use crate::fault::InputFault;
-use crate::files::read_files;
+use crate::file_part::topology_in as topology_of_files;
+use crate::files::contents_in as contents_of_files;
 use crate::source_fault::SourceFault;
-use mc_forward::{Domain, DomainFault};
-use mc_layout::FileSource;
+use mc_forward::Domain;
+use mc_layout::PieceSource;
 use mc_text::{Input, Parts};
 use std::alloc::Global;
 
@@ -141,48 +141,53 @@ pub fn domain_in<R: Input>(
     read_through(alloc, input, &mut buffer, certified)
 }
 
-/// The domain of what files tell.
-fn assembled(alloc: Global, contents: Contents) -> Result<Domain, InputFault>
-    requires counted { AreCounted contents.topology contents.tables.items contents.reports.items }
-    ensures assembled { IfOk result (IsAssembled contents.topology contents.tables.items
-        contents.reports.items) }
+/// The domain that files tell, whose tables are read in pieces through the buffer.
+fn files_through<F: PieceSource>(
+    alloc: Global,
+    files: &mut F,
+    buffer: &mut [u8],
+) -> Result<Domain, SourceFault>
+    requires room { 0 < length buffer.old }
+    requires reads { F.failed files.old < u64.MAX }
+    ensures same { F.names files.new ≡ F.names files.old }
+    ensures kept { F.told files.new ≡ F.told files.old }
+    ensures domain { GivesKeptOf (F.told files.old) IsDomainOf result files_of }
     ensures rules { IfOk result IsDomain }
-    ensures memory { IfErr result (λ fault. fault ≡ InputFault.Memory) }
+    ensures failures { F.failed files.new ≡ counted is_read result (F.failed files.old) }
 {
-    let Contents {
-        topology,
-        tables,
-        reports,
-    } = contents;
-    match Domain::assemble(alloc, topology, tables, reports) {
-        Ok(domain) => Ok(domain),
-        Err(refused) => {
-            // Since their numbers fit, memory alone can be wanting.
-            prove!(matches!(refused.fault, DomainFault::Memory));
-            Err(InputFault::Memory)
-        }
-    }
+    let topology = topology_of_files(alloc, files)?;
+    let listed = contents_of_files(alloc, files, buffer, &topology)?;
+    Ok(Domain::of_wants(alloc, topology, listed.0, listed.1)?)
 }
 
-/// Reads the domain that a folder's files mean. The count of the source's failures has to be below
-/// `u64::MAX`.
+/// Reads the domain that a folder's files mean: `topology`, `vif-<router>` and `cache-<router>` for
+/// each router, and `igmp-<lan>` for each LAN, each in the order of the topology. Each file may have
+/// 16,777,216 bytes, and is judged before the next one is asked for. Tables are read as they come,
+/// and of a cache the rows of listed flows are kept. The count of the source's failures has to be
+/// below `u64::MAX`.
 ///
 /// # Errors
 ///
-/// The files' first fault, in the order of `read_files`.
-pub fn domain_of<F: FileSource>(alloc: Global, files: &mut F) -> Result<Domain, SourceFault>
+/// The first fault in this order: `Read` where a file isn't there or can't be read, `Input` with
+/// `TooLarge` where it has too many bytes, and `Input` with what is wrong in it. Or `Input` with
+/// `Memory` where memory ran out.
+pub fn domain_of<F: PieceSource>(alloc: Global, files: &mut F) -> Result<Domain, SourceFault>
     requires { F.failed files.old < u64.MAX }
     ensures same { F.names files.new ≡ F.names files.old }
     ensures kept { F.told files.new ≡ F.told files.old }
-    // The files mean the domain.
+    // The files mean a domain, and what was read says the same of each flow.
     ensures means { IfOk result (λ domain.
-        IfSome (F.told files.old) (λ told. MeansFiles told domain)) }
+        IfSome (F.told files.old) (λ told. FilesMeanListed told domain)) }
     ensures rules { IfOk result IsDomain }
+    // Files that mean a domain are read, and as that, unless the source fails or memory runs out.
+    ensures only { (told : List FileText) (domain : DomainValue) → F.told files.old ≡ Some told →
+        MeansFiles told domain → MatchResult result (SaysTheSame domain) IsSilent }
     // Which fault it is, unless the source fails or memory runs out.
     ensures fault { IfErr result (λ fault. IfSome (F.told files.old) (λ told.
         ¬ IsSilent fault → files_of told ≡ Err fault)) }
     // A file is unread only where the source's failures rose in the call.
     ensures failures { F.failed files.new ≡ counted is_read result (F.failed files.old) }
 {
-    Ok(assembled(alloc, read_files(alloc, files)?)?)
+    let mut buffer = Vec::from_elem(alloc, 0u8, PIECE)?;
+    files_through(alloc, files, &mut buffer)
 }

@@ -1,20 +1,25 @@
-//! What one file of a folder tells, as the part that it makes.
+//! What is kept of what one file of a folder tells, as the part that it makes.
 
-ghost use Rattle.std.specs.Prelude.{◌≡◌, ◌<◌, ℕ, IsTrue};
+ghost use Rattle.std.specs.Prelude.{◌≡◌, ◌<◌, ℕ, IfOk, IsTrue, Some, length};
 ghost use Rattle.mc_text.specs.Device.{counted};
+ghost use Rattle.mc_tables.specs.ListedRows.{IsListedPart};
 ghost use Rattle.mc_topology.specs.Names.{is_name};
+ghost use Rattle.mc_forward.specs.Assembling.{AreGroupsOf, AreWanted};
+ghost use Rattle.mc_forward.specs.ListedTables.{flow_pairs};
 ghost use Rattle.mc_layout.specs.Layout.{cache_slot, reports_slot, topology_slot, vif_slot};
 ghost use Rattle.mc_domain.specs.SourceFault.{GivesOf, is_read};
 ghost use Rattle.mc_domain.specs.FilesReading.{part_filed};
+ghost use Rattle.mc_domain.specs.Kept.{GivesKeptOf};
 ghost use Rattle.mc_domain.specs.PartsReading.{cache_of as told_cache, reports_of as told_reports, told_by};
 ghost use Rattle.mc_domain.specs.PartsReading.{topology_of as told_topology, vifs_of as told_vifs};
 ghost use Rattle.mc_domain.specs.declared.source_fault.SourceFault.TheVariants.{Input};
 
 use crate::source_fault::SourceFault;
-use crate::told::{cache_of, reports_of, topology_of, vifs_of};
-use mc_igmp::ReportList;
-use mc_layout::{FileSource, Slot, part_of_file};
-use mc_tables::{CacheTable, VifTable};
+use crate::table_file::feed_slot;
+use crate::told::{cache_told, reader_of_flows, topology_of, vifs_told, wanted_of};
+use mc_forward::{FlowGroups, Items};
+use mc_layout::{FileSource, PieceSource, Slot, part_of_file};
+use mc_tables::{CacheTable, VifReader, VifTable};
 use mc_text::Order;
 use mc_topology::Topology;
 use std::alloc::Global;
@@ -36,56 +41,70 @@ pub(crate) fn topology_in<F: FileSource>(
 }
 
 /// The vifs of a router, in the file `vif-<router>`.
-pub(crate) fn vifs_in<F: FileSource>(
+pub(crate) fn vifs_in<F: PieceSource>(
     alloc: Global,
     files: &mut F,
+    buffer: &mut [u8],
     router: &str,
 ) -> Result<VifTable, SourceFault>
     requires name { IsTrue (is_name router.now) }
+    requires room { 0 < length buffer.old }
     requires reads { F.failed files.old < u64.MAX }
     ensures same { F.names files.new ≡ F.names files.old }
     ensures kept { F.told files.new ≡ F.told files.old }
-    ensures vifs { (n : ℕ) → GivesOf (F.told files.old) (λ vifs. vifs) result
+    ensures vifs { (n : ℕ) → GivesKeptOf (F.told files.old) (λ kept vifs. kept ≡ vifs) result
         (λ told. told_by Input (part_filed told n (vif_slot router.now)) told_vifs) }
     ensures failures { F.failed files.new ≡ counted is_read result (F.failed files.old) }
 {
-    let part = part_of_file(alloc, files, &Slot::vifs(router))?;
-    Ok(vifs_of(alloc, &part.as_part())?)
+    let mut reader = VifReader::new(alloc);
+    let name = feed_slot(alloc, files, &Slot::vifs(router), buffer, &mut reader)?;
+    Ok(vifs_told(name, reader.finish())?)
 }
 
-/// The forwarding cache of a router, in the file `cache-<router>`.
-pub(crate) fn cache_in<F: FileSource>(
+/// The forwarding cache of a router, in the file `cache-<router>`, of which the rows of listed flows
+/// are kept.
+pub(crate) fn cache_in<F: PieceSource>(
     alloc: Global,
     files: &mut F,
+    buffer: &mut [u8],
+    topology: &Topology,
     router: &str,
     order: Order,
 ) -> Result<CacheTable, SourceFault>
     requires name { IsTrue (is_name router.now) }
+    requires room { 0 < length buffer.old }
     requires reads { F.failed files.old < u64.MAX }
     ensures same { F.names files.new ≡ F.names files.old }
     ensures kept { F.told files.new ≡ F.told files.old }
-    ensures cache { (n : ℕ) → GivesOf (F.told files.old) (λ cache. cache) result
+    ensures cache { (n : ℕ) → GivesKeptOf (F.told files.old)
+        (IsListedPart (Some (flow_pairs topology.now.flows))) result
         (λ told. told_by Input (part_filed told n (cache_slot router.now)) (told_cache order)) }
     ensures failures { F.failed files.new ≡ counted is_read result (F.failed files.old) }
 {
-    let part = part_of_file(alloc, files, &Slot::cache(router))?;
-    Ok(cache_of(alloc, &part.as_part(), order)?)
+    let mut reader = reader_of_flows(alloc, topology, order)?;
+    let name = feed_slot(alloc, files, &Slot::cache(router), buffer, &mut reader)?;
+    Ok(cache_told(name, reader.finish())?)
 }
 
-/// The report list of a LAN, in the file `igmp-<lan>`.
-pub(crate) fn reports_in<F: FileSource>(
+/// Which flows a LAN wants, by its reports in the file `igmp-<lan>`.
+pub(crate) fn wanted_in<F: FileSource>(
     alloc: Global,
     files: &mut F,
+    topology: &Topology,
+    groups: &FlowGroups,
     lan: &str,
-) -> Result<ReportList, SourceFault>
+) -> Result<Items<bool>, SourceFault>
     requires name { IsTrue (is_name lan.now) }
+    requires groups { AreGroupsOf topology.now.flows groups.now }
     requires reads { F.failed files.old < u64.MAX }
     ensures same { F.names files.new ≡ F.names files.old }
     ensures kept { F.told files.new ≡ F.told files.old }
-    ensures reports { (n : ℕ) → GivesOf (F.told files.old) (λ reports. reports) result
+    ensures wanted { (n : ℕ) → GivesKeptOf (F.told files.old)
+        (λ wanted records. AreWanted topology.now.flows records wanted) result
         (λ told. told_by Input (part_filed told n (reports_slot lan.now)) told_reports) }
+    ensures count { IfOk result (λ wanted. length wanted ≡ length topology.now.flows) }
     ensures failures { F.failed files.new ≡ counted is_read result (F.failed files.old) }
 {
     let part = part_of_file(alloc, files, &Slot::reports(lan))?;
-    Ok(reports_of(alloc, &part.as_part())?)
+    Ok(wanted_of(alloc, topology, groups, &part.as_part())?)
 }

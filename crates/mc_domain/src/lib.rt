@@ -4,7 +4,6 @@
 
 mod bundle;
 mod bundle_part;
-mod contents;
 mod domain;
 mod fault;
 mod file_part;
@@ -12,13 +11,12 @@ mod files;
 mod laws;
 mod slot_part;
 mod source_fault;
+mod table_file;
 mod table_part;
 mod told;
 
-pub use contents::Contents;
 pub use domain::{DomainRead, domain_in, domain_of};
 pub use fault::InputFault;
-pub use files::read_files;
 pub use laws::{
     files_stand_for_one_input, packed_files_stand_for_their_input, texts_stand_for_one_input,
 };

@@ -2,7 +2,11 @@
 
 ghost use Rattle.std.specs.FinMap.{FinMap};
 ghost use Rattle.std.specs.Ordering.{nat_cmp};
-ghost use Rattle.std.specs.Prelude.{◌≡◌, ◌≢◌, Err, IfOk, Result, length};
+ghost use Rattle.std.specs.Prelude.{◌≡◌, ◌≢◌, ◌≤◌, ℕ, List, Err, IfErr, IfOk, Result, Some, length};
+ghost use Rattle.mc_text.specs.Lines.{max_text};
+ghost use Rattle.mc_tables.specs.ListedRows.{listed_in};
+ghost use Rattle.mc_tables.specs.RowsSoFar.{cache_if, no_cache};
+ghost use Rattle.mc_forward.specs.ListedTables.{flow_pairs};
 ghost use Rattle.mc_text.specs.BundleView.{part_text};
 ghost use Rattle.mc_text.specs.Steps.{refused_as};
 ghost use Rattle.mc_tables.specs.CacheTable.{CacheText};
@@ -14,12 +18,12 @@ ghost use Rattle.mc_domain.specs.PartsInTurn.{IsToldOf};
 ghost use Rattle.mc_domain.specs.declared.fault.InputFault.TheVariants.{Cache as RefusedCache};
 ghost use Rattle.mc_domain.specs.declared.fault.InputFault.TheVariants.{Vif as RefusedVif};
 ghost use Rattle.mc_domain.specs.InputReading.{Gives};
-ghost use Rattle.mc_domain.specs.PartsReading.{cache_of, reports_of, topology_of, vifs_of};
+ghost use Rattle.mc_domain.specs.PartsReading.{reports_of, topology_of};
 
 use crate::fault::InputFault;
 use mc_forward::{FlowGroups, Items};
 use mc_igmp::{ListFault, ListFaultKind, ReportList};
-use mc_tables::{CacheTable, TableFault, TableFaultKind, VifTable};
+use mc_tables::{CacheReader, CacheTable, TableFault, TableFaultKind, VifTable};
 use mc_text::{Order, Part, PartName};
 use mc_topology::{Topology, TopologyFault, TopologyFaultKind};
 use std::alloc::Global;
@@ -37,42 +41,6 @@ pub(crate) fn topology_of(alloc: Global, part: &Part<'_>) -> Result<Topology, In
             },
         ) => Err(InputFault::Memory),
         Err(fault) => Err(InputFault::Topology(fault)),
-    }
-}
-
-/// The vifs of a router.
-pub(crate) fn vifs_of(alloc: Global, part: &Part<'_>) -> Result<VifTable, InputFault>
-    ensures { Gives (λ vifs. vifs) result (vifs_of (part_text part.now)) }
-{
-    match VifTable::read(alloc, part.bytes) {
-        Ok(vifs) => Ok(vifs),
-        Err(
-            TableFault {
-                kind: TableFaultKind::Memory,
-                ..
-            },
-        ) => Err(InputFault::Memory),
-        Err(fault) => Err(InputFault::Vif(part.name, fault)),
-    }
-}
-
-/// The forwarding cache of a router.
-pub(crate) fn cache_of(
-    alloc: Global,
-    part: &Part<'_>,
-    order: Order,
-) -> Result<CacheTable, InputFault>
-    ensures { Gives (λ cache. cache) result (cache_of order (part_text part.now)) }
-{
-    match CacheTable::read(alloc, part.bytes, order) {
-        Ok(cache) => Ok(cache),
-        Err(
-            TableFault {
-                kind: TableFaultKind::Memory,
-                ..
-            },
-        ) => Err(InputFault::Memory),
-        Err(fault) => Err(InputFault::Cache(part.name, fault)),
     }
 }
 
@@ -111,6 +79,26 @@ pub(crate) fn vifs_told(
         ) => Err(InputFault::Memory),
         Err(fault) => Err(InputFault::Vif(name, fault)),
     }
+}
+
+/// A reader of a router's cache that keeps what it says of the flows.
+pub(crate) fn reader_of_flows(
+    alloc: Global,
+    topology: &Topology,
+    order: Order,
+) -> Result<CacheReader, InputFault>
+    ensures start { IfOk result (λ reader.
+        reader ≡ no_cache order (Some (flow_pairs topology.now.flows))) }
+    ensures reads { IfOk result (λ reader. (text : List ℕ) → length text ≤ max_text →
+        cache_if reader text ≡ listed_in order (Some (flow_pairs topology.now.flows)) text) }
+    ensures memory { IfErr result (λ fault. fault ≡ InputFault.Memory) }
+{
+    let mut listed = Vec::with_capacity(alloc, topology.flows() as usize)?;
+    for flow in 0..topology.flows() {
+        let flow = topology.flow(flow);
+        listed.push((flow.source, flow.group))?;
+    }
+    Ok(CacheReader::new(alloc, order, listed))
 }
 
 /// The forwarding cache of a router, as the reader of the part with this name found it.

@@ -21,7 +21,7 @@ use Rattle.mc_forward.specs.ListedTables.{SaysTheSame}
 use Rattle.mc_text.specs.Steps.{refused_as}
 use Rattle.mc_domain.specs.Input.{InputValue}
 use Rattle.mc_domain.specs.InputView.{text_seen}
-use Rattle.mc_domain.specs.Meaning.{MeansListed, MeansUncertified, OfDomain}
+use Rattle.mc_domain.specs.Meaning.{MeansListed, MeansSame, OfDomain}
 use Rattle.mc_domain.specs.SourceFault.{IsSilent}
 use Rattle.mc_domain.specs.declared.source_fault.SourceFault.{SourceFault}
 use Rattle.mc_domain.specs.declared.source_fault.SourceFault.TheVariants as source
@@ -86,25 +86,26 @@ listed_alone (Some text) None d none means = means
 listed_alone (Some text) (Some bytes) d none means = absurd cc
 
 -- what holds of a domain holds of what is meant, where that says the same of each flow
-pub of_listed : (Holds : DomainValue → Type 0) (told : Option (List ℕ)) (d : DomainValue)
+pub of_same : {X : Type 0} (Means : X → DomainValue → Type 0) (Holds : DomainValue → Type 0)
+    (told : Option X) (d : DomainValue)
     → ((whole : DomainValue) → SaysTheSame whole d → Holds d → Holds whole)
-    → IfSome told (λ text. MeansListed text None d) → Holds d
-    → IfSome told (OfDomain MeansUncertified Holds)
-of_listed Holds None d moves means holds = tt
-of_listed Holds (Some text) d moves means holds = record {
+    → IfSome told (λ x. MeansSame Means x d) → Holds d → IfSome told (OfDomain Means Holds)
+of_same Means Holds None d moves means holds = tt
+of_same Means Holds (Some x) d moves means holds = record {
   domain = means.whole;
   means = means.means;
   holds = moves means.whole means.same holds;
 }
 
 -- the same of what a call answers
-pub ok_listed : {A F : Type 0} (Holds : A → DomainValue → Type 0) (told : Option (List ℕ))
-    (d : DomainValue) (r : Result A F)
+pub ok_same : {X A F : Type 0} (Means : X → DomainValue → Type 0) (Holds : A → DomainValue → Type 0)
+    (told : Option X) (d : DomainValue) (r : Result A F)
     → ((a : A) (whole : DomainValue) → SaysTheSame whole d → Holds a d → Holds a whole)
-    → IfSome told (λ text. MeansListed text None d)
-    → IfOk r (λ a. Holds a d) → IfOk r (λ a. IfSome told (OfDomain MeansUncertified (Holds a)))
-ok_listed Holds told d (Ok a) moves means holds = of_listed (Holds a) told d (moves a) means holds
-ok_listed Holds told d (Err f) moves means holds = tt
+    → IfSome told (λ x. MeansSame Means x d)
+    → IfOk r (λ a. Holds a d) → IfOk r (λ a. IfSome told (OfDomain Means (Holds a)))
+ok_same Means Holds told d (Ok a) moves means holds =
+    of_same Means (Holds a) told d (moves a) means holds
+ok_same Means Holds told d (Err f) moves means holds = tt
 
 -- the same with the lists of a certificate
 pub of_listed_with : (Holds : DomainValue → List Tree → Type 0) (told : Option (List ℕ))

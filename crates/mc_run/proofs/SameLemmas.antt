@@ -18,6 +18,7 @@ use Rattle.mc_maker.specs.Examined.{FindsFault, FindsNothing, IfCertified, IfFou
 use Rattle.mc_maker.specs.Examined.{IsTtlOfFault, first_choices, is_certified}
 use Rattle.mc_maker.specs.declared.examination.Examined.{Examined}
 use Rattle.mc_maker.specs.declared.examination.Examined.TheVariants.{Certified, Found}
+use Rattle.mc_run.specs.AuditRun.{AreChecked, IsAudited, IsChecked, audit_text}
 use Rattle.mc_run.specs.CheckRun.{IsTextOfVerdicts, KeepsHeadline}
 use Rattle.mc_run.specs.MakeRun.{AreExamined, IsExamined, IsTextOfMade}
 use Rattle.mc_run.specs.MakeRun.{made_text}
@@ -157,4 +158,32 @@ same_made_text same certified written is = record {
   are_examined = same_are_examined same is.examined is.are_examined;
   answer = is.answer;
   spelled = over (λ t n. written ≡ made_text certified t is.examined) same is.spelled;
+}
+
+-- ---- audit
+
+-- the headline holds of a certified flow,
+pub same_checked : {whole d : DomainValue} → SaysTheSame whole d → (flow : ℕ) (x : Examined)
+    → IsChecked d flow x → IsChecked whole flow x
+same_checked same flow x is = record {
+  examined = same_examined same flow x is.examined;
+  headline = over (λ t n. IfCertified (λ es. HeadlineHolds (n flow) (length es)) x) same is.headline;
+}
+
+-- so it is of each flow,
+pub same_are_checked : {whole d : DomainValue} → SaysTheSame whole d → (xs : List Examined)
+    → AreChecked d xs → AreChecked whole xs
+same_are_checked same xs are = record {
+  count = over (λ t n. length xs ≡ length t.flows) same are.count;
+  each = λ flow x at. same_checked same flow x (are.each flow x at);
+}
+
+-- and what is written of all is the same
+pub same_audited : {whole d : DomainValue} → SaysTheSame whole d → (travels all : Bool)
+    (written : List ℕ) → IsAudited d travels all written → IsAudited whole travels all written
+same_audited same travels all written is = record {
+  examined = is.examined;
+  are_checked = same_are_checked same is.examined is.are_checked;
+  answer = is.answer;
+  spelled = over (λ t n. written ≡ audit_text travels t is.examined) same is.spelled;
 }

@@ -30,7 +30,7 @@ use mc_cert::Reached;
 use mc_check::{Verdict, check_flow};
 use mc_domain::domain_of;
 use mc_forward::Domain;
-use mc_layout::FileSource;
+use mc_layout::PieceSource;
 use mc_maker::{Examined, examine};
 use mc_replay::Travel;
 use mc_text::{Memory as NoMemory, Output};
@@ -136,7 +136,7 @@ fn audit_all(alloc: Global, domain: &Domain, travels: bool) -> Result<Said, NoMe
 }
 
 /// What is written of the domain that a folder's files tell.
-fn audit_of<F: FileSource>(alloc: Global, files: &mut F, travels: bool) -> Result<Said, RunFault>
+fn audit_of<F: PieceSource>(alloc: Global, files: &mut F, travels: bool) -> Result<Said, RunFault>
     requires { F.failed files.old < u64.MAX }
     ensures same { F.names files.new ≡ F.names files.old }
     ensures text { IfOk result (λ said. IfSome (F.told files.old) (λ files.
@@ -156,12 +156,13 @@ fn audit_of<F: FileSource>(alloc: Global, files: &mut F, travels: bool) -> Resul
 }
 
 /// Reads the files of a domain, each at most 16,777,216 bytes, and judges each before it asks for
-/// the next one. Then it examines each flow of the topology, and checks each list that is made. It
-/// writes for each flow, in order, the checker's yes with the number of copies, or that it has no
-/// certificate and what a packet of it meets, with the events of that packet's travel where
-/// `travels` says that they are to be shown; and last `verdict yes` or `verdict no`. It answers
-/// whether all flows are certified. Files that are refused write nothing.
-pub fn run_audit<F: FileSource, W: Output>(
+/// the next one. Tables are read as they come, and of a cache the rows of listed flows are kept.
+/// Then it examines each flow of the topology, and checks each list that is made. It writes for each
+/// flow, in order, the checker's yes with the number of copies, or that it has no certificate and
+/// what a packet of it meets, with the events of that packet's travel where `travels` says that they
+/// are to be shown; and last `verdict yes` or `verdict no`. It answers whether all flows are
+/// certified. Files that are refused write nothing.
+pub fn run_audit<F: PieceSource, W: Output>(
     alloc: Global,
     files: &mut F,
     travels: bool,

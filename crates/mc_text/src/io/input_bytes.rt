@@ -27,8 +27,8 @@ pub enum ReadFault {
 ///
 /// # Errors
 ///
-/// `Read` at the first error of the input, and `Memory` where what was read finds no room. The
-/// bytes that were read are lost then.
+/// `Read` at the first error of the input, and `Memory` where what was read, or the 65,536 bytes that
+/// it is read through, finds no room. The bytes that were read are lost then.
 pub fn read_to_limit<R: Input>(
     alloc: Global,
     input: &mut R,
@@ -48,7 +48,10 @@ pub fn read_to_limit<R: Input>(
     ensures end { IfOk result (λ bytes. vec_len bytes < limit → IsAtEnd (R.told input.new)) }
     ensures failures { R.failed input.new ≡ counted is_read result (R.failed input.old) }
 {
-    let mut buffer = [0u8; PIECE];
+    // On the heap: a caller into which this is compiled would keep it on its stack all along.
+    let Ok(mut buffer) = Vec::from_elem(alloc, 0u8, PIECE) else {
+        return Err(ReadFault::Memory);
+    };
     let mut bytes = Vec::new(alloc);
     fill_to_limit(input, &mut bytes, limit, &mut buffer)?;
     Ok(bytes)

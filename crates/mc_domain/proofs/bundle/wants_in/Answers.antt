@@ -6,7 +6,8 @@ use Rattle.mc_text.proofs.ToComeLemmas.{goes_both}
 use Rattle.mc_forward.specs.Assembling.{AreWanted}
 use Rattle.mc_forward.proofs.EachLemmas.{some-at}
 use Rattle.mc_forward.proofs.SameLemmas.{pairwise-more}
-use Rattle.mc_domain.specs.PartsInTurn.{AreWantedBy, coming, once_named, reports_then}
+use Rattle.mc_domain.specs.Kept.{AreWantedBy}
+use Rattle.mc_domain.specs.PartsInTurn.{coming, once_named, reports_then}
 use Rattle.mc_domain.specs.PartsReading.{lans_number}
 use Rattle.mc_domain.specs.declared.source_fault.SourceFault.TheVariants.{Input as refused}
 use Rattle.mc_domain.proofs.TurnLemmas.{answers_more, lan_within, reports_on, reports_refused, reports_taken}

@@ -2,7 +2,8 @@ use Rattle.std.proofs.Common.{◌≡◌, ◌<◌, ℕ, ◌+◌, Bool, List, [], 
 use Rattle.mc_text.specs.PartsToCome.{GoesOn}
 use Rattle.mc_igmp.specs.declared.record.Record.{Record}
 use Rattle.mc_forward.specs.Domains.{TablesValue}
-use Rattle.mc_domain.specs.PartsInTurn.{AreWantedBy, coming, once_named, reports_then}
+use Rattle.mc_domain.specs.Kept.{AreWantedBy}
+use Rattle.mc_domain.specs.PartsInTurn.{coming, once_named, reports_then}
 use Rattle.mc_domain.specs.PartsReading.{lans_number}
 use Rattle.mc_domain.proofs.bundle.wants_in.Given as goal
 

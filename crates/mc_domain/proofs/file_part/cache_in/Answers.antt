@@ -1,29 +1,56 @@
-use Rattle.std.proofs.Common.{◌∙◌, ap, Err}
+use Rattle.std.proofs.Common.{◌∙◌, ap, Err, Ok, Some, subst, sym}
 use Rattle.std.proofs.lemmas.Result.{err_from_is_err_and}
-use Rattle.mc_text.specs.BundleView.{part_text}
+use Rattle.mc_text.specs.Steps.{refused_as}
+use Rattle.mc_tables.specs.CacheReading.{cache_in}
+use Rattle.mc_tables.specs.ListedRows.{IsListedPart}
+use Rattle.mc_tables.specs.RowsSoFar.{cache_if}
+use Rattle.mc_forward.specs.ListedTables.{flow_pairs}
 use Rattle.mc_layout.specs.Layout.{cache_slot}
+use Rattle.mc_domain.specs.PartsInTurn.{IsToldOf}
 use Rattle.mc_domain.specs.PartsReading.{cache_of}
-use Rattle.mc_domain.proofs.FilesLemmas.{part_refused, told_refused, told_read}
+use Rattle.mc_domain.specs.declared.fault.InputFault.TheVariants.{Cache as RefusedCache}
+use Rattle.mc_domain.proofs.FilesLemmas.{kept_read, kept_refused, part_refused}
+use Rattle.mc_domain.proofs.KeptLemmas.{listed_is}
 use Rattle.mc_domain.proofs.file_part.cache_in.Goals as goal
 
-pub returns-in_err-part-clause-cache : goal.returns-in_err-part-clause-cache
-returns-in_err-part-clause-cache g c =
-    let p = err_from_is_err_and c.from_residual.result c.from_residual.ensures.1 in
+pub returns-in_err-name-clause-cache : goal.returns-in_err-name-clause-cache
+returns-in_err-name-clause-cache g c =
+    let p = err_from_is_err_and c.from_residual-in_err-name.result
+    c.from_residual-in_err-name.ensures.1 in
     λ n told is. rw (p.1 ∙ ap (λ f. Err f) p.2) (part_refused told n (cache_slot c.args.router.now)
-    c.cache.result (cache_of c.args.order) c.in_err-part.field-0.0 c.cache.ensures
-    (c.in_err-part.ensures.part told is))
+    c.cache.result (cache_of c.args.order) c.in_err-name.field-0.0 c.cache.ensures
+    (c.in_err-name.ensures.fault told is))
 
-pub returns-in_err-cache_of-clause-cache : goal.returns-in_err-cache_of-clause-cache
-returns-in_err-cache_of-clause-cache g c =
-    let p = err_from_is_err_and c.from_residual-in_err-cache_of.result
-    c.from_residual-in_err-cache_of.ensures.1 in
-    λ n told is. rw (p.1 ∙ ap (λ f. Err f) p.2) (told_refused told n (cache_slot c.args.router.now)
-    c.cache.result (cache_of c.args.order) c.in_ok-part.part (part_text c.as_part.result)
-    c.in_err-cache_of.field-0.0 c.cache.ensures (c.in_ok-part.ensures.part told is)
-    c.as_part.ensures c.in_err-cache_of.ensures)
+pub returns-in_err-cache_told-clause-cache : goal.returns-in_err-cache_told-clause-cache
+returns-in_err-cache_told-clause-cache g c =
+    let p = err_from_is_err_and c.from_residual-in_err-cache_told.result
+    c.from_residual-in_err-cache_told.ensures.1 in
+    let pairs = flow_pairs c.args.topology.now.flows in
+    λ n told is. rw (p.1 ∙ ap (λ f. Err f) p.2) (
+    let part = c.in_ok-name.ensures.part told is in
+    let fault = c.in_err-cache_told.field-0.0 in
+    let name = c.in_ok-name.name in
+    let found = cache_if c.in_ok-reader.reader part.0.bytes in
+    let own = c.in_err-cache_told.ensures found (λ loud.
+    part.4 (λ e. loud (c.finish.ensures ∙ e)) ∙ sym c.finish.ensures) in
+    let listed = listed_is c.args.order pairs name part.0.bytes (Err fault) found
+    (sym (c.in_ok-reader.ensures.reads part.0.bytes part.3)) own in
+    kept_refused (IsListedPart (Some pairs)) told n (cache_slot c.args.router.now) c.cache.result
+    (cache_of c.args.order) part.0 c.cache.ensures part.1 fault
+    (subst (λ m. IsToldOf (IsListedPart (Some pairs)) (Err fault)
+    (refused_as (RefusedCache m) (cache_in c.args.order part.0.bytes))) (sym part.2) listed))
 
 pub returns-clause-cache : goal.returns-clause-cache
-returns-clause-cache g c =
-    λ n told is. told_read told n (cache_slot c.args.router.now) c.cache.result (cache_of c.args.order)
-    c.in_ok-part.part (part_text c.as_part.result) c.in_ok-cache_of.field-0 c.cache.ensures
-    (c.in_ok-part.ensures.part told is) c.as_part.ensures c.in_ok-cache_of.ensures
+returns-clause-cache g c = λ n told is.
+    let pairs = flow_pairs c.args.topology.now.flows in
+    let part = c.in_ok-name.ensures.part told is in
+    let name = c.in_ok-name.name in
+    let found = cache_if c.in_ok-reader.reader part.0.bytes in
+    let own = c.in_ok-cache_told.ensures found (λ loud.
+    part.4 (λ e. loud (c.finish.ensures ∙ e)) ∙ sym c.finish.ensures) in
+    let listed = listed_is c.args.order pairs name part.0.bytes (Ok c.in_ok-cache_told.field-0) found
+    (sym (c.in_ok-reader.ensures.reads part.0.bytes part.3)) own in
+    kept_read (IsListedPart (Some pairs)) told n (cache_slot c.args.router.now) c.cache.result
+    (cache_of c.args.order) part.0 c.cache.ensures part.1 c.in_ok-cache_told.field-0
+    (subst (λ m. IsToldOf (IsListedPart (Some pairs)) (Ok c.in_ok-cache_told.field-0)
+    (refused_as (RefusedCache m) (cache_in c.args.order part.0.bytes))) (sym part.2) listed)

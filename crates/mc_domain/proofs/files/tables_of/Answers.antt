@@ -16,13 +16,18 @@ pub returns-in_err-cache-clause-tables : goal.returns-in_err-cache-clause-tables
 returns-in_err-cache-clause-tables g c =
     let p = err_from_is_err_and c.from_residual-in_err-cache.result
     c.from_residual-in_err-cache.ensures.1 in
-    λ n told is. rw (p.1 ∙ ap (λ f. Err f) p.2) (λ says. cache_refused Input (part_filed told) n
-    c.args.router.now c.args.order c.in_ok-vifs.vifs c.in_err-cache.field-0.0
-    (c.in_ok-vifs.ensures.vifs n told is)
+    λ n told is. rw (p.1 ∙ ap (λ f. Err f) p.2) (λ says.
+    let vifs = c.in_ok-vifs.ensures.vifs n told is in
+    cache_refused Input (part_filed told) n c.args.router.now c.args.order vifs.0
+    c.in_err-cache.field-0.0 vifs.1
     (c.in_err-cache.ensures.cache (n + 1) told (c.in_ok-vifs.ensures.kept ∙ is) says))
 
 pub returns-clause-tables : goal.returns-clause-tables
-returns-clause-tables g c =
-    λ n told is. tables_read Input (part_filed told) n c.args.router.now c.args.order
-    c.in_ok-vifs.vifs c.in_ok-cache.cache (c.in_ok-vifs.ensures.vifs n told is)
-    (c.in_ok-cache.ensures.cache (n + 1) told (c.in_ok-vifs.ensures.kept ∙ is))
+returns-clause-tables g c = λ n told is.
+    let vifs = c.in_ok-vifs.ensures.vifs n told is in
+    let cache = c.in_ok-cache.ensures.cache (n + 1) told (c.in_ok-vifs.ensures.kept ∙ is) in (
+      record { vifs = vifs.0; cache = cache.0 },
+      tables_read Input (part_filed told) n c.args.router.now c.args.order vifs.0 cache.0 vifs.1
+          cache.1,
+      record { vifs = vifs.2; cache = cache.2 },
+    )

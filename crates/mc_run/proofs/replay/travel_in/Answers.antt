@@ -1,14 +1,15 @@
 use Rattle.mc_run.specs.ReplayRun.{IsTextOfTravel}
 use Rattle.std.specs.String.{string_bytes}
 use Rattle.mc_run.proofs.ReplayLemmas.{travel_no_device, travel_refused}
-use Rattle.mc_run.proofs.RunLemmas.{no_write, ok_listed, reads_same}
+use Rattle.mc_domain.specs.Meaning.{MeansUncertified}
+use Rattle.mc_run.proofs.RunLemmas.{no_write, ok_same, reads_same}
 use Rattle.mc_run.proofs.SameLemmas.{same_travel_text}
 use Rattle.std.proofs.Common.{◌∙◌}
 use Rattle.mc_run.proofs.replay.travel_in.Goals as goal
 
 pub returns-clause-text : goal.returns-clause-text
 returns-clause-text g c =
-    ok_listed (λ said d. IsTextOfTravel d c.args.flow c.args.ttl _ said.yes
+    ok_same MeansUncertified (λ said d. IsTextOfTravel d c.args.flow c.args.ttl _ said.yes
     (string_bytes said.text)) (g.R.Input.told c.args.input.now) c.in_ok-domain.domain
     c.travel_of.result (λ said whole same holds. same_travel_text same c.args.flow c.args.ttl _ said.yes
     (string_bytes said.text) holds) c.in_ok-domain.ensures.means c.travel_of.ensures.text

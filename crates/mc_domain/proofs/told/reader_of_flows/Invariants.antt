@@ -1,6 +1,6 @@
 use Rattle.std.proofs.Common.{◌≡◌, length, map, take}
 use Rattle.mc_topology.specs.declared.flow.Flow.{Flow}
-use Rattle.mc_domain.proofs.bundle_part.reader_of_flows.Given as goal
+use Rattle.mc_domain.proofs.told.reader_of_flows.Given as goal
 
 abbrev pub invariant-loop-flow : goal.invariant-loop-flow
 invariant-loop-flow l = record {

@@ -1,20 +1,25 @@
-use Rattle.std.proofs.Common.{◌≡◌, ◌+◌, List, length, drop, Some}
+use Rattle.std.proofs.Common.{◌≡◌, ◌+◌, ℕ, Bool, List, length, drop, Some, slice_get}
+use Rattle.mc_igmp.specs.declared.record.Record.{Record}
 use Rattle.mc_layout.specs.Files.{FileText}
 use Rattle.mc_text.proofs.StepLemmas.{with_front}
 use Rattle.mc_domain.specs.FilesReading.{part_filed}
+use Rattle.mc_domain.specs.Kept.{AreWantedBy}
 use Rattle.mc_domain.specs.PartsReading.{all_reports, lans_number}
 use Rattle.mc_domain.specs.declared.source_fault.SourceFault.TheVariants.{Input}
-use Rattle.mc_domain.proofs.files.reports_of_lans.Given as goal
+use Rattle.mc_domain.proofs.files.wants_in.Given as goal
 
 abbrev pub invariant-loop-lan : goal.invariant-loop-lan
 invariant-loop-lan g l = record {
   count : l.lan-end ≡ length l.fn.topology.lans;
-  so_far : length l.reports.items ≡ l.lan;
+  so_far : length l.wants.items ≡ l.lan;
+  flows : (lan : ℕ) (wanted : List Bool) → slice_get l.wants.items lan ≡ Some wanted
+      → length wanted ≡ length l.fn.topology.flows;
   same : g.F.FileSource.names l.files ≡ g.F.FileSource.names l.fn.files;
   kept : g.F.FileSource.told l.files ≡ g.F.FileSource.told l.fn.files;
   failures : g.F.FileSource.failed l.files ≡ g.F.FileSource.failed l.fn.files;
   left : (told : List FileText) → g.F.FileSource.told l.fn.files ≡ Some told
-      → with_front l.reports.items (all_reports Input (part_filed told)
+      → (reports : List (List Record)) × AreWantedBy l.fn.topology reports l.wants.items
+      × (with_front reports (all_reports Input (part_filed told)
       (lans_number l.fn.topology + l.lan) (drop l.lan l.fn.topology.lans))
-      ≡ all_reports Input (part_filed told) (lans_number l.fn.topology) l.fn.topology.lans;
+      ≡ all_reports Input (part_filed told) (lans_number l.fn.topology) l.fn.topology.lans);
 }

@@ -2,7 +2,7 @@ use Rattle.std.proofs.Common.{ℕ, List, [], ◌∷◌, ◌++◌, map, take, ap,
 use Rattle.mc_topology.specs.declared.flow.Flow.{Flow}
 use Rattle.mc_forward.proofs.BelowLemmas.{map-push}
 use Rattle.mc_forward.proofs.EachLemmas.{take-found}
-use Rattle.mc_domain.proofs.bundle_part.reader_of_flows.Goals as goal
+use Rattle.mc_domain.proofs.told.reader_of_flows.Goals as goal
 
 pub loop-flow-preserved : goal.loop-flow-preserved
 loop-flow-preserved c =

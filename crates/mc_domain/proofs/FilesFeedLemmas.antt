@@ -1,0 +1,77 @@
+-- What a reader of a table ends with whose file comes in pieces.
+use Rattle.std.specs.Prelude.{◌≡◌, ◌≢◌, ℕ, ◌≤◌, ◌<◌, List, [], ◌++◌, length, Option, Some, None}
+use Rattle.std.specs.Prelude.{Result, Ok, Err, OnOk, IfErr, refl}
+use Rattle.std.specs.Io.KnownBytes.{Consumes, IsAtEnd}
+use Rattle.std.specs.Prelude.{IfSome}
+use Rattle.std.proofs.Common.{◌∙◌, sym, subst}
+use Rattle.std.proofs.lemmas.Bool.{le-leb, lt-leb}
+use Rattle.mc_text.specs.Bundle.{max_part}
+use Rattle.mc_text.specs.Lines.{max_text}
+use Rattle.mc_tables.specs.Steps.{out_of_memory}
+use Rattle.mc_tables.specs.declared.fault.TableFault.{TableFault}
+use Rattle.mc_layout.specs.FilePart.{IsOfSource, part_bytes}
+use Rattle.mc_layout.specs.Files.{FileText, file_named}
+use Rattle.mc_layout.specs.declared.fault.FileFault.{FileFault}
+use Rattle.mc_layout.specs.declared.fault.FileFault.TheVariants.{Failed, Memory, TooLarge}
+
+-- what is known of a file is known after a piece of it
+pub consumed : (old new : Option (List ℕ)) (piece bytes : List ℕ) → Consumes old new piece
+    → old ≡ Some bytes → (rest : List ℕ) × (new ≡ Some rest) × (bytes ≡ piece ++ rest)
+consumed None new piece bytes is e = absurd cc
+consumed (Some xs) None piece bytes is e = absurd is
+consumed (Some xs) (Some ys) piece bytes is e =
+    let same : xs ≡ bytes = cc in (ys, refl, sym same ∙ is)
+
+-- and at the end nothing is left
+pub nothing_left : (new : Option (List ℕ)) (rest : List ℕ) → IsAtEnd new → new ≡ Some rest
+    → rest ≡ []
+nothing_left None rest is e = absurd cc
+nothing_left (Some ys) rest is e = let same : ys ≡ rest = cc in sym same ∙ is
+
+-- what follows of a success
+pub on_ok : {E P Q : Type 0} (r : Result (Unit {0}) E) → OnOk r P → (P → Q) → OnOk r Q
+on_ok (Ok u) holds follows = follows holds
+on_ok (Err fault) holds follows = tt
+
+-- and of a fault
+pub if_err : {E : Type 0} {P Q : E → Type 0} (r : Result (Unit {0}) E) → IfErr r P
+    → ((fault : E) → P fault → Q fault) → IfErr r Q
+if_err (Ok u) holds follows = tt
+if_err (Err fault) holds follows = follows fault holds
+
+-- ---- a file that was fed
+
+-- a file that was opened is there, and all of its bytes are to come
+pub found_there : (name : List ℕ) (told : List FileText) (left : Option (List ℕ))
+    (known : Option (List FileText)) → known ≡ Some told
+    → IfSome known (λ files. (bytes : List ℕ) × (file_named files name ≡ Some bytes)
+    × (left ≡ Some bytes))
+    → (bytes : List ℕ) × (file_named told name ≡ Some bytes) × (left ≡ Some bytes)
+found_there name told left None is found = absurd cc
+found_there name told left (Some files) is found =
+    let same : files ≡ told = cc in
+    subst (λ fs. (bytes : List ℕ) × (file_named fs name ≡ Some bytes) × (left ≡ Some bytes)) same found
+
+-- what a reader ends with that was fed bytes
+abbrev pub Ends : Type 0 → Type 0
+Ends T = List ℕ → Result T TableFault
+
+-- the bytes of the file that was found, where they fit a part,
+pub fed_bytes : {T : Type 0} (found : Option (List ℕ)) (bytes : List ℕ) (r : Result (Unit {0}) FileFault)
+    (old : Ends T) (new : Result T TableFault) → found ≡ Some bytes
+    → OnOk r ((length bytes ≤ max_part) × (new ≢ Err out_of_memory → old bytes ≡ new))
+    → OnOk r ((whole : List ℕ) × (part_bytes found ≡ Ok whole) × (length whole ≤ max_text)
+    × (new ≢ Err out_of_memory → old whole ≡ new))
+fed_bytes found bytes r old new is fed =
+    on_ok r fed (λ few.
+    (bytes, rw (is, le-leb (length bytes) max_part few.0) refl, few.0, few.1))
+
+-- or they are too many
+pub fed_fault : (found : Option (List ℕ)) (bytes : List ℕ) (r : Result (Unit {0}) FileFault)
+    → found ≡ Some bytes → IfErr r (λ fault. fault ≡ TooLarge → max_part < length bytes)
+    → IfErr r (λ fault. (¬ IsOfSource fault) → part_bytes found ≡ Err fault)
+fed_fault found bytes (Ok u) is fed = tt
+fed_fault found bytes (Err TooLarge) is fed = λ loud.
+    rw (is, lt-leb (length bytes) max_part (fed refl)) refl
+fed_fault found bytes (Err Failed) is fed = λ loud. absurd (loud tt)
+fed_fault found bytes (Err Memory) is fed = λ loud. absurd (loud tt)

@@ -1,0 +1,20 @@
+use Rattle.std.proofs.Common.{◌≡◌, ◌+◌, ◌<◌, ◌≤◌, ◌++◌, ℕ, List, Some, length}
+use Rattle.mc_text.specs.Bundle.{max_part}
+use Rattle.mc_domain.proofs.table_file.feed_open.Given as goal
+
+abbrev pub invariant-pieces : goal.invariant-pieces
+invariant-pieces g l = record {
+  room : 0 < length l.buffer;
+  same : g.F.FileSource.names l.files ≡ g.F.FileSource.names l.fn.files;
+  kept : g.F.FileSource.told l.files ≡ g.F.FileSource.told l.fn.files;
+  failures : g.F.FileSource.failed l.files ≡ g.F.FileSource.failed l.fn.files;
+  size : g.T.TableReader.size l.reader + l.left ≡ max_part;
+  part : (bytes : List ℕ) → g.F.PieceSource.left l.fn.files ≡ Some bytes →
+      (done : List ℕ) × (rest : List ℕ) × (g.F.PieceSource.left l.files ≡ Some rest) × (bytes ≡ done ++ rest)
+      × (length done ≡ g.T.TableReader.size l.reader)
+      × ((more : List ℕ) → g.T.TableReader.size l.reader + length more ≤ max_part →
+      g.T.TableReader.ends l.fn.reader (done ++ more) ≡ g.T.TableReader.ends l.reader more);
+}
+
+abbrev pub decreases-pieces : goal.decreases-pieces
+decreases-pieces g l = l.left

@@ -1,6 +1,6 @@
 -- What one file of a folder tells, and what is kept of it.
 use Rattle.std.specs.Prelude.{◌≡◌, ℕ, List, Result, Ok, Err, refl}
-use Rattle.std.proofs.Common.{ap, ◌∙◌, inl, inr, subst}
+use Rattle.std.proofs.Common.{ap, inl, inr, subst}
 use Rattle.mc_text.specs.Bundle.{PartText}
 use Rattle.mc_layout.specs.FilePart.{IsOfSource, file_part}
 use Rattle.mc_layout.specs.Files.{FileText}

@@ -15,7 +15,7 @@ ghost use Rattle.mc_domain.specs.PartsInTurn.{tables_then};
 ghost use Rattle.mc_domain.specs.PartsReading.{lans_number};
 ghost use Rattle.mc_domain.specs.SourceFault.{is_read};
 
-use crate::bundle_part::{cache_in, certificate_in, topology_in, vifs_in, wanted_in};
+use crate::bundle_part::{cache_in, certificate_in, vifs_in, wanted_in};
 use crate::slot_part::read_on;
 use crate::source_fault::SourceFault;
 use mc_forward::{FlowGroups, Items, Tables};

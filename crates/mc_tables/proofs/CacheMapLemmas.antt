@@ -17,7 +17,7 @@ use Rattle.std.specs.BTreeMap.{is_at}
 use Rattle.std.specs.Map.{lookup}
 use Rattle.mc_tables.specs.declared.entry.Entry.{Entry}
 use Rattle.mc_tables.specs.CacheTable.{CacheText, key_cmp}
-use Rattle.mc_tables.specs.CacheNumbers.{entries_by, number_in, AreNumbers}
+use Rattle.mc_tables.specs.CacheNumbers.{entries_by, number_in, AreNumbers, MoreNumbers}
 use Rattle.mc_tables.proofs.CacheLemmas.{key_total, key_laws}
 
 -- the table that numbers, entries and groups make
@@ -127,11 +127,6 @@ last_found : (es : List Entry) (entry : Entry)
     → slice_get (es ++ entry ∷ []) (length es) ≡ Some entry
 last_found [] entry = refl
 last_found (e ∷ es) entry = last_found es entry
-
--- numbers with one more
-abbrev pub MoreNumbers : (key : ℕ × ℕ) (number : ℕ) (numbers more : List ((ℕ × ℕ) × ℕ)) → Type 0
-MoreNumbers key number numbers more =
-    (q : ℕ × ℕ) → number_in more q ≡ cond (is_at (key_cmp key) q) (Some number) (number_in numbers q)
 
 -- a number below one is below the next
 below_more : (n : ℕ) (o : Option ℕ) → IfSome o (λ m. m < n) → IfSome o (λ m. m < n + 1)

@@ -19,6 +19,7 @@ pub mod CacheStepLemmas
 pub mod OtherRowLemmas
 pub mod SortedRowLemmas
 pub mod ListedLemmas
+pub mod NumberLemmas
 pub mod KeptRowLemmas
 pub mod RowsSoFarLemmas
 pub mod RowRuleLemmas

@@ -11,7 +11,7 @@ ghost use Rattle.mc_tables.specs.RowsSoFar.{nothing_so_far, no_cache, rows_end, 
 
 use crate::cache_table::CacheTable;
 use crate::fault::TableFault;
-use crate::listed::Listed;
+use crate::key_numbers::KeyNumbers;
 use crate::listed_rows::ListedRows;
 use crate::piece_lines::PieceLines;
 use crate::rows::read_piece;
@@ -58,7 +58,7 @@ impl CacheReader {
         ensures reads { (text : List ℕ) → length text ≤ max_text →
             cache_if result text ≡ listed_in order (Some listed.items) text }
     {
-        CacheReader::of_listed(alloc, order, Listed::of(listed))
+        CacheReader::of_numbers(alloc, order, KeyNumbers::of_listed(alloc, listed))
     }
 
     /// A reader that keeps all rows.
@@ -67,15 +67,16 @@ impl CacheReader {
         ensures reads { (text : List ℕ) → length text ≤ max_text →
             cache_if result text ≡ listed_in order None text }
     {
-        CacheReader::of_listed(alloc, order, Listed::all())
+        CacheReader::of_numbers(alloc, order, KeyNumbers::of_all(alloc))
     }
 
-    fn of_listed(alloc: Global, order: Order, listed: Listed) -> CacheReader
-        ensures { result ≡ nothing_so_far order listed }
+    fn of_numbers(alloc: Global, order: Order, numbers: KeyNumbers) -> CacheReader
+        requires { numbers.numbers ≡ [] }
+        ensures { result ≡ nothing_so_far order numbers.listed }
     {
         CacheReader {
             lines: PieceLines::new(alloc),
-            rows: ListedRows::new(alloc, order, listed),
+            rows: ListedRows::new(alloc, order, numbers),
             fault: None,
         }
     }

@@ -38,9 +38,9 @@ impl Model for CacheTable {
 
     ghost coded = { cache_code };
 
-    ghost view = { λ table. table.rows };
+    ghost view = { λ table. table.rows.table };
 
-    ghost invariant = { λ table. IsCache table.rows };
+    ghost invariant = { λ table. IsCache table.rows.table };
 }
 
 impl CacheTable {
@@ -75,8 +75,8 @@ impl CacheTable {
 
     /// The table of rows that were read.
     pub(crate) fn from_rows(rows: CacheRows) -> CacheTable
-        requires { IsCache rows }
-        ensures { result ≡ rows }
+        requires { IsCache rows.table }
+        ensures { result ≡ rows.table }
     {
         CacheTable { rows }
     }

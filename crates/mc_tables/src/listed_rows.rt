@@ -1,10 +1,9 @@
 //! The rows of a cache, of which those of listed sources and groups are kept.
 
-ghost use Rattle.std.specs.Prelude.{◌≡◌, ◌≢◌, ◌<◌, OnOk, OnErr, IfErr, Ok, Err};
+ghost use Rattle.std.specs.Prelude.{◌≡◌, ◌≢◌, [], ◌<◌, OnOk, OnErr, IfErr, Ok, Err};
 ghost use Rattle.mc_text.specs.LineView.{line_text};
 ghost use Rattle.mc_tables.specs.declared.fault.TableFaultKind.TheVariants.{Memory};
 ghost use Rattle.mc_tables.specs.CacheTable.{IsCache};
-ghost use Rattle.mc_tables.specs.ListedRows.{is_kept_by};
 ghost use Rattle.mc_tables.specs.OtherRows.{without_repeat};
 ghost use Rattle.mc_tables.specs.RowsSoFar.{no_rows, listed_added, line_added};
 
@@ -13,7 +12,7 @@ use crate::cache_rows::CacheRows;
 use crate::cache_table::row_with_room;
 use crate::fault::{TableFault, TableFaultKind};
 use crate::header::check_header;
-use crate::listed::Listed;
+use crate::key_numbers::KeyNumbers;
 use crate::other_rows::OtherRows;
 use crate::rows::Rows;
 use mc_text::{Line, Order};
@@ -26,7 +25,6 @@ use std::marker::Model;
 pub struct ListedRows {
     alloc: Global,
     order: Order,
-    listed: Listed,
     kept: CacheRows,
     others: OtherRows,
     count: usize,
@@ -45,23 +43,23 @@ impl Model for ListedRows {
 
     ghost view = { λ s. record {
       order = s.order;
-      listed = s.listed;
-      rows = record { table = s.kept; others = s.others; count = s.count };
+      listed = s.kept.listed;
+      rows = record { table = s.kept.table; others = s.others; count = s.count };
     } };
 
-    ghost invariant = { λ s. (length s.kept.numbered ≤ s.count) × (s.count ≤ 65536) };
+    ghost invariant = { λ s. (length s.kept.table.numbered ≤ s.count) × (s.count ≤ 65536) };
 }
 
 impl ListedRows {
     /// No rows.
-    pub fn new(alloc: Global, order: Order, listed: Listed) -> ListedRows
-        ensures { result ≡ no_rows order listed }
+    pub fn new(alloc: Global, order: Order, numbers: KeyNumbers) -> ListedRows
+        requires { numbers.numbers ≡ [] }
+        ensures { result ≡ no_rows order numbers.listed }
     {
         ListedRows {
             alloc,
             order,
-            listed,
-            kept: CacheRows::new(alloc),
+            kept: CacheRows::new(alloc, numbers),
             others: OtherRows::new(alloc),
             count: 0,
         }
@@ -69,7 +67,7 @@ impl ListedRows {
 
     /// The rows that are kept.
     pub fn into_kept(self) -> CacheRows
-        ensures { result ≡ self.rows.table }
+        ensures { result.table ≡ self.rows.table }
     {
         let ListedRows { kept, .. } = self;
         kept
@@ -83,10 +81,9 @@ impl ListedRows {
             listed_added self.old row line ≡ Err fault) }
         ensures others { OnErr result (self.new.rows.others ≡ self.old.rows.others) }
     {
-        if is_kept(&self.listed, &row) {
-            self.kept.add(row)?;
-        } else {
-            self.others.add(row.origin, row.group, line)?;
+        let (origin, group) = (row.origin, row.group);
+        if !self.kept.add(row)? {
+            self.others.add(origin, group, line)?;
         }
         self.count += 1;
         Ok(())
@@ -141,11 +138,4 @@ impl Rows for ListedRows {
             }
         }
     }
-}
-
-/// Whether a row is kept whole.
-fn is_kept(listed: &Listed, row: &CacheRow) -> bool
-    ensures { result ≡ is_kept_by listed.now row.now }
-{
-    row.origin.is_unspecified() || row.entry.is_none() || listed.has(row.origin, row.group)
 }

@@ -11,7 +11,7 @@ ghost use Rattle.mc_tables.specs.OutgoingSteps.{threshold_in, oif_in_turn, has_v
 use crate::entry::{Oif, Oifs};
 use crate::fault::TableFaultKind;
 use crate::table_words::{MAX_VIF, number};
-use mc_text::{Words, first_place_of};
+use mc_text::Words;
 use std::alloc::Global;
 
 /// The greatest threshold that the kernel shows. It keeps 255 for "not forwarded there".
@@ -71,8 +71,15 @@ fn parts_of(word: &[u8]) -> Option<(&[u8], &[u8])>
         ≡ parts.0.now ∷ slice_split (λ b. b == 58) parts.1.now) }
     ensures only { IfNone result (slice_split (λ b. b == 58) word.now ≡ word.now ∷ []) }
 {
-    let colon = first_place_of(b':', word)?;
+    let colon = colon_in(word)?;
     Some((&word[..colon], &word[colon + 1..]))
+}
+
+/// The place of the first colon.
+fn colon_in(word: &[u8]) -> Option<usize>
+    ensures { result ≡ position (λ b. b == 58) word.now }
+{
+    word.iter().position(|byte| *byte == b':')
 }
 
 /// Reads a threshold.
@@ -92,7 +99,7 @@ fn fault_of_threshold(word: &[u8]) -> TableFaultKind
     requires { number_in 1 254 word.now ≡ None }
     ensures { threshold_in (slice_split (λ b. b == 58) word.now) ≡ Err result }
 {
-    if first_place_of(b':', word).is_some() {
+    if colon_in(word).is_some() {
         TableFaultKind::BadOif
     } else {
         TableFaultKind::BadThreshold

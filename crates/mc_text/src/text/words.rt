@@ -2,7 +2,6 @@
 
 ghost use Rattle.std.specs.Prelude.{◌≡◌, ◌==◌, not, position};
 
-use crate::text::first_place::first_place_of;
 use std::marker::Model;
 
 /// The words of a line, from the front: the longest stretches without a space.
@@ -27,6 +26,14 @@ fn word_start(line: &[u8]) -> Option<usize>
     line.iter().position(|byte| *byte != b' ')
 }
 
+/// The index of the first space. Words are short, so that looking at one byte after the other is
+/// fastest.
+fn word_end(from_word: &[u8]) -> Option<usize>
+    ensures { result ≡ position (λ b. b == 32) from_word.now }
+{
+    from_word.iter().position(|byte| *byte == b' ')
+}
+
 impl<'a> Words<'a> {
     ghost use Rattle.mc_text.specs.Lines.{words_of};
 
@@ -49,7 +56,7 @@ impl<'a> Iterator for Words<'a> {
 
     fn next(&mut self) -> Option<&'a [u8]> {
         let from_word = &self.rest[word_start(self.rest)?..];
-        let end = first_place_of(b' ', from_word).unwrap_or(from_word.len());
+        let end = word_end(from_word).unwrap_or(from_word.len());
         let (word, rest) = from_word.split_at(end);
         self.rest = rest;
         Some(word)

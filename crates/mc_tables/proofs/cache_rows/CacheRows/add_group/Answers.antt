@@ -4,17 +4,17 @@ use Rattle.std.specs.FinMap as map
 use Rattle.std.specs.FinSet as set
 use Rattle.mc_tables.specs.CacheTable.{CacheText}
 use Rattle.mc_tables.specs.CacheSteps.{group_added}
-use Rattle.mc_tables.specs.CacheNumbers.{entries_by}
+use Rattle.mc_tables.specs.CacheNumbers.{KeptText, entries_by}
 use Rattle.mc_tables.proofs.CacheMapLemmas.{added}
 use Rattle.mc_tables.proofs.cache_rows.CacheRows.add_group.Goals as goal
 
 pub returns-clause-added : goal.returns-clause-added
 returns-clause-added c =
-    ap (λ (groups : set.FinSet nat_cmp). record {
+    ap (λ (groups : set.FinSet nat_cmp). let table : CacheText = record {
       entries = map.from_entries
-          (entries_by c.self.inside.numbers.entries c.self.inside.entries.items);
+          (entries_by c.self.inside.numbers.numbers c.self.inside.entries.items);
       numbered = c.self.inside.entries.items;
       wildcards = groups;
-    }) (added c.args.group c.self.inside.wildcards.keys c.insert.new.self.keys
+    } in table) (added c.args.group c.self.inside.wildcards.keys c.insert.new.self.keys
     c.in_ok-insert.ensures.updates.0)
-    ∙ ap (λ (table : CacheText). group_added table c.args.group) c.self.view_is
+    ∙ ap (λ (kept : KeptText). group_added kept.table c.args.group) c.self.view_is

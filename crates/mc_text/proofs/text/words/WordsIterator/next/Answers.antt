@@ -17,7 +17,7 @@ returns-clause-steps c =
     (sym c.self.view_is
     ∙ words_of-word line _ c.in_ok-from_word.field-0 c.unwrap_or-end.result
     (sym (c.in_ok-from_word.ensures)) from
-    (rw (← c.first_place_of.ensures) c.unwrap_or-end.ensures))
+    (rw (← c.word_end.ensures) c.unwrap_or-end.ensures))
 
 pub returns-clause-goes : goal.returns-clause-goes
 returns-clause-goes c =

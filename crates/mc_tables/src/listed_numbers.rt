@@ -1,0 +1,118 @@
+//! The numbers of the sources and groups that are listed.
+
+ghost use Rattle.std.specs.Prelude.{◌≡◌, ℕ, [], ◌<◌, ◌≤◌, ◌++◌, IfNone, IfOk, IfSome, OnErr, OnOk, Some, false};
+ghost use Rattle.std.specs.Prelude.{length, replicate};
+ghost use Rattle.std.specs.FinSet as set;
+ghost use Rattle.std.specs.List.{list_any};
+ghost use Rattle.std.specs.List.Sorted.{IsStrictlySortedBy};
+ghost use Rattle.mc_tables.specs.CacheNumbers.{IsNumbered, IsPlaceOf, number_in};
+ghost use Rattle.mc_tables.specs.CacheTable.{key_cmp, same_key};
+
+use mc_text::Addr;
+use std::alloc::{AllocError, Global};
+use std::marker::Model;
+
+/// What became of a source and a group that were to get a number.
+#[derive(Clone, Copy, Debug, PartialEq, Eq)]
+pub enum Numbered {
+    /// They have it.
+    New,
+    /// They had one already.
+    Repeated,
+    /// They aren't listed, and get none.
+    Unlisted,
+}
+
+/// The sources and groups that are listed, by source and then by group, and the number of each that
+/// has one.
+#[derive(Debug, Drop)]
+pub struct ListedNumbers {
+    pairs: Vec<(Addr, Addr)>,
+    // at the place of a pair one more than its number, or 0; a pair past the end has none
+    numbers: Vec<u32>,
+}
+
+impl Model for ListedNumbers {
+    ghost use Rattle.std.specs.Prelude.{Some};
+    ghost use Rattle.std.specs.Coded.{codes};
+    ghost use Rattle.std.specs.FinSet as set;
+    ghost use Rattle.std.specs.List.Sorted.{IsStrictlySortedBy};
+    ghost use Rattle.mc_tables.specs.CacheNumbers.{KeysText, filled};
+    ghost use Rattle.mc_tables.specs.CacheTable.{key_cmp};
+    ghost use Rattle.mc_tables.specs.ListedRows.{pairs_code};
+
+    ghost Value = { KeysText };
+
+    ghost coded = { Prim.hlevel (codes, pairs_code) };
+
+    ghost view = { λ s. record {
+      listed = Some (set.from_list s.pairs.items);
+      numbers = filled s.pairs.items s.numbers.items;
+    } };
+
+    ghost invariant = { λ s. IsStrictlySortedBy key_cmp s.pairs.items };
+}
+
+impl ListedNumbers {
+    /// These are listed, and none has a number.
+    pub fn of(alloc: Global, mut pairs: Vec<(Addr, Addr)>) -> ListedNumbers
+        ensures listed { result.listed ≡ Some (set.from_list pairs.items) }
+        ensures numbers { result.numbers ≡ [] }
+    {
+        pairs.sort_unstable();
+        pairs.dedup();
+        ListedNumbers {
+            pairs,
+            numbers: Vec::new(alloc),
+        }
+    }
+
+    /// The number of a source and a group.
+    pub fn number_of(&self, key: &(Addr, Addr)) -> Option<u32>
+        ensures { result ≡ number_in self.now.numbers key.now }
+    {
+        let place = place_in(&self.pairs, key)?;
+        let next = *self.numbers.get(place)?;
+        if next == 0 {
+            return None;
+        }
+        Some(next - 1)
+    }
+
+    /// Gives a source and a group this number, if they are listed and have none.
+    pub fn add(&mut self, key: &(Addr, Addr), number: u32) -> Result<Numbered, AllocError>
+        requires { number < 65536 }
+        ensures numbered { IfOk result (IsNumbered key.now number self.old self.new) }
+        ensures refused { OnErr result (self.new ≡ self.old) }
+    {
+        let Some(place) = place_in(&self.pairs, key) else {
+            return Ok(Numbered::Unlisted);
+        };
+        add_places(&mut self.numbers, self.pairs.len())?;
+        if self.numbers[place] != 0 {
+            return Ok(Numbered::Repeated);
+        }
+        self.numbers[place] = number + 1;
+        Ok(Numbered::New)
+    }
+}
+
+/// Gives each of so many pairs a place, at which there is no number.
+fn add_places(numbers: &mut Vec<u32>, count: usize) -> Result<(), AllocError>
+    ensures more { (zeros : ℕ) × (numbers.new.items ≡ numbers.old.items ++ replicate zeros 0) }
+    ensures room { OnOk result (count ≤ length numbers.new.items) }
+{
+    if numbers.len() < count {
+        numbers.resize(count, 0)?;
+    }
+    Ok(())
+}
+
+/// The place of a source and a group.
+fn place_in(pairs: &[(Addr, Addr)], key: &(Addr, Addr)) -> Option<usize>
+    requires { IsStrictlySortedBy key_cmp pairs.now }
+    ensures found { IfSome result (IsPlaceOf pairs.now key.now) }
+    ensures none { IfNone result (list_any (same_key key.now) pairs.now ≡ false) }
+{
+    pairs.binary_search(key).ok()
+}

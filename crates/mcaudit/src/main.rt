@@ -1,7 +1,7 @@
 //! mcaudit: an auditor of the multicast forwarding state of a domain of Linux routers.
 #![tactic(auto)]
 
-ghost use Rattle.std.specs.Prelude.{◌<◌};
+ghost use Rattle.std.specs.Prelude.{◌≡◌, ◌<◌, IfErr, IfOk};
 ghost use Rattle.mc_words.specs.Task.{IsAllowed};
 
 mod failure;
@@ -13,9 +13,25 @@ use mc_run::{RunFault, run_audit, run_check, run_make, run_pack, run_replay, run
 use mc_text::{Addr, FromReader, ToWriter};
 use mc_words::{Task, borrowed, command_of, words_of};
 use std::env::Env;
-use std::io::{self, Input};
+use std::io::{self, BufReader, Input, Read};
 use std::process::ExitCode;
 use std::rt::Files;
+
+/// An input over a reader that is read 8,192 bytes ahead: the lines of a bundle's parts are asked for
+/// byte by byte.
+fn read_ahead<R: Read + Drop>(
+    rt: &impl AllocGlobal,
+    reader: R,
+) -> Result<FromReader<BufReader<R>>, RunFault>
+    ensures told { IfOk result (λ input. input.told ≡ R.remaining reader) }
+    ensures failures { IfOk result (λ input. input.failed ≡ 0) }
+    ensures memory { IfErr result (λ fault. fault ≡ RunFault.Memory) }
+{
+    match BufReader::new(rt.alloc(), reader) {
+        Ok(reader) => Ok(FromReader::new(reader)),
+        Err(_) => Err(RunFault::Memory),
+    }
+}
 
 /// `mcaudit wants`, over the standard streams.
 fn wants(
@@ -30,14 +46,14 @@ fn wants(
 
 /// `mcaudit check`, over the standard streams.
 fn check(rt: &(impl AllocGlobal + Input + Print)) -> Result<bool, RunFault> {
-    let mut input = FromReader::new(rt.reader());
+    let mut input = read_ahead(rt, rt.reader())?;
     let mut output = ToWriter::new(io::writer(rt));
     run_check(rt.alloc(), &mut input, &mut output)
 }
 
 /// `mcaudit make`, over the standard streams.
 fn make(rt: &(impl AllocGlobal + Input + Print)) -> Result<bool, RunFault> {
-    let mut input = FromReader::new(rt.reader());
+    let mut input = read_ahead(rt, rt.reader())?;
     let mut output = ToWriter::new(io::writer(rt));
     run_make(rt.alloc(), &mut input, &mut output)
 }
@@ -51,7 +67,7 @@ fn replay(
 ) -> Result<bool, RunFault>
     requires { 0 < ttl }
 {
-    let mut input = FromReader::new(rt.reader());
+    let mut input = read_ahead(rt, rt.reader())?;
     let mut output = ToWriter::new(io::writer(rt));
     run_replay(rt.alloc(), flow, ttl, picker, &mut input, &mut output)
 }

@@ -4,12 +4,14 @@
 //   REFUSE_FROM=n      the n-th and all later ones are
 //   INPUT_ENDS=n       standard input gives n bytes, and then fails
 //   INPUT_PIECE=n      it gives at most n bytes at a time
+//   INPUT_CUT=n        it gives n bytes first, and then the rest
 //   OUTPUT_ENDS=n      standard output takes n bytes, and then fails
 //   OUTPUT_STOPS=n     standard output takes n bytes, and then none, without failing
 //   OUTPUT_PIECE=n     it takes at most n bytes at a time
 //   OPEN_FAILS=n       the n-th file that is opened can't be
 //   READ_FAILS=n       the n-th read of another file than standard input fails
 //   FILE_PIECE=n       such a read gives at most n bytes
+//   FILE_CUT=n         each other file gives n bytes first, and then the rest
 //   COUNT=FILE         how many requests for memory, opened files and reads of them came is written there at the end
 #define _GNU_SOURCE
 #include <dlfcn.h>
@@ -25,8 +27,8 @@ static void *(*real_malloc)(size_t);
 static void *(*real_realloc)(void *, size_t);
 static void *(*real_calloc)(size_t, size_t);
 static int (*real_memalign)(void **, size_t, size_t);
-static long refused, refused_from, input_ends, input_piece, output_ends, output_stops, output_piece;
-static long open_fails, read_fails, file_piece;
+static long refused, refused_from, input_ends, input_piece, input_cut, output_ends, output_stops, output_piece;
+static long open_fails, read_fails, file_piece, file_cut;
 static long growths, opened, reads, given, taken;
 static int is_ready, is_starting;
 
@@ -50,12 +52,14 @@ static void start(void) {
     refused_from = number_of("REFUSE_FROM");
     input_ends = number_of("INPUT_ENDS");
     input_piece = number_of("INPUT_PIECE");
+    input_cut = number_of("INPUT_CUT");
     output_ends = number_of("OUTPUT_ENDS");
     output_stops = number_of("OUTPUT_STOPS");
     output_piece = number_of("OUTPUT_PIECE");
     open_fails = number_of("OPEN_FAILS");
     read_fails = number_of("READ_FAILS");
     file_piece = number_of("FILE_PIECE");
+    file_cut = number_of("FILE_CUT");
     is_ready = 1;
 }
 
@@ -124,6 +128,11 @@ static ssize_t allowed(size_t length, long moved, long ends, long piece) {
     return length;
 }
 
+// How many of so many bytes a device gives at once that gave some before and is cut at a place.
+static size_t up_to_cut(size_t length, long moved, long cut) {
+    return moved < cut && length > (size_t)(cut - moved) ? (size_t)(cut - moved) : length;
+}
+
 static int open_at(int folder, const char *path, int flags, mode_t mode) {
     if (++opened == open_fails) {
         errno = EACCES;
@@ -161,12 +170,13 @@ static ssize_t read_of_file(int file, void *buffer, size_t length) {
         errno = EIO;
         return -1;
     }
-    return syscall(SYS_read, file, buffer, allowed(length, 0, -1, file_piece));
+    long moved = file_cut > 0 ? syscall(SYS_lseek, file, 0, SEEK_CUR) : 0;
+    return syscall(SYS_read, file, buffer, up_to_cut(allowed(length, 0, -1, file_piece), moved, file_cut));
 }
 
 ssize_t read(int file, void *buffer, size_t length) {
     if (file != STDIN_FILENO) return read_of_file(file, buffer, length);
-    ssize_t most = allowed(length, given, input_ends, input_piece);
+    ssize_t most = allowed(up_to_cut(length, given, input_cut), given, input_ends, input_piece);
     if (most < 0) {
         errno = EIO;
         return -1;

@@ -13,7 +13,7 @@ program has one refusal, on the examples and on a few cases, and what may come o
             where that is met were read, that it is so
   a write   status 3, `failed: write`, and exactly what the output had taken
 
-Devices that give or take a few bytes at a time change nothing.
+Devices that give or take a few bytes at a time change nothing, and so doesn't a cut at any place of what they give.
 
 TESTS are programs that `rt ci` built of tests. Each of their tests that is about memory, as its module's name or its own
 says, is run with each request for memory refused in turn: it makes the refused call again and passes, or gives up with
@@ -33,6 +33,7 @@ TOP = os.path.dirname(os.path.dirname(os.path.dirname(os.path.abspath(__file__))
 PIECES = (1, 2, 3, 7, 64, 4096)
 MOST_STOPS = 400  # of a long text not every place is tried, but so many, evenly
 ALL_STOPS = 2000  # of the input of the first run every place is
+FILE_CUTS = 500  # no file of the folders that are tried has so many bytes
 NO_MEMORY = (4, b"", b"no memory\n")
 READ_FAILED = (3, b"", b"failed: read\n")
 GAVE_UP = re.compile(rb"error: .*(Memory|AllocError|AllocFailed).*\nthe test failed: its result gives status 1\n\Z")
@@ -77,6 +78,10 @@ class Tried:
             yield "INPUT_PIECE", piece, (self.answer,)
             yield "FILE_PIECE", piece, (self.answer,)
             yield "OUTPUT_PIECE", piece, (self.answer,)
+        for cut in places(len(self.given or b""), self.stops):
+            yield "INPUT_CUT", cut, (self.answer,)
+        for cut in range(1, FILE_CUTS if self.files else 0):
+            yield "FILE_CUT", cut, (self.answer,)
 
     def ends(self):
         """Returns the places of the input, and its end, where it fails."""

@@ -1,12 +1,12 @@
 -- What a reader of a table ends with whose file comes in pieces.
-use Rattle.std.specs.Prelude.{◌≡◌, ◌≢◌, ℕ, ◌≤◌, ◌<◌, List, [], ◌++◌, length, Option, Some, None}
-use Rattle.std.specs.Prelude.{Result, Ok, Err, OnOk, IfErr, refl}
-use Rattle.std.specs.Io.KnownBytes.{Consumes, IsAtEnd}
-use Rattle.std.specs.Prelude.{IfSome}
+use Rattle.std.specs.Prelude.{◌≡◌, ◌≢◌, ℕ, ◌≤◌, ◌<◌, List, [], length, Option, Some, None}
+use Rattle.std.specs.Prelude.{Result, Ok, Err, OnOk, IfErr, IfSome, refl}
+use Rattle.std.specs.Io.KnownBytes.{IsAtEnd}
 use Rattle.std.proofs.Common.{◌∙◌, sym, subst}
 use Rattle.std.proofs.lemmas.Bool.{le-leb, lt-leb}
 use Rattle.mc_text.specs.Bundle.{max_part}
 use Rattle.mc_text.specs.Lines.{max_text}
+use Rattle.mc_text.proofs.StepLemmas.{on_ok}
 use Rattle.mc_tables.specs.Steps.{out_of_memory}
 use Rattle.mc_tables.specs.declared.fault.TableFault.{TableFault}
 use Rattle.mc_layout.specs.FilePart.{IsOfSource, part_bytes}
@@ -14,26 +14,13 @@ use Rattle.mc_layout.specs.Files.{FileText, file_named}
 use Rattle.mc_layout.specs.declared.fault.FileFault.{FileFault}
 use Rattle.mc_layout.specs.declared.fault.FileFault.TheVariants.{Failed, Memory, TooLarge}
 
--- what is known of a file is known after a piece of it
-pub consumed : (old new : Option (List ℕ)) (piece bytes : List ℕ) → Consumes old new piece
-    → old ≡ Some bytes → (rest : List ℕ) × (new ≡ Some rest) × (bytes ≡ piece ++ rest)
-consumed None new piece bytes is e = absurd cc
-consumed (Some xs) None piece bytes is e = absurd is
-consumed (Some xs) (Some ys) piece bytes is e =
-    let same : xs ≡ bytes = cc in (ys, refl, sym same ∙ is)
-
--- and at the end nothing is left
+-- at the end nothing is left
 pub nothing_left : (new : Option (List ℕ)) (rest : List ℕ) → IsAtEnd new → new ≡ Some rest
     → rest ≡ []
 nothing_left None rest is e = absurd cc
 nothing_left (Some ys) rest is e = let same : ys ≡ rest = cc in sym same ∙ is
 
--- what follows of a success
-pub on_ok : {E P Q : Type 0} (r : Result (Unit {0}) E) → OnOk r P → (P → Q) → OnOk r Q
-on_ok (Ok u) holds follows = follows holds
-on_ok (Err fault) holds follows = tt
-
--- and of a fault
+-- what follows of a fault
 pub if_err : {E : Type 0} {P Q : E → Type 0} (r : Result (Unit {0}) E) → IfErr r P
     → ((fault : E) → P fault → Q fault) → IfErr r Q
 if_err (Ok u) holds follows = tt

@@ -8,7 +8,7 @@ use Rattle.std.specs.Ordering.{nat_cmp}
 use Rattle.mc_tables.specs.CacheTable.{CacheText}
 use Rattle.mc_tables.specs.VifTable.{VifText}
 use Rattle.mc_text.specs.Steps.{◌>>=◌}
-use Rattle.mc_text.proofs.StepLemmas.{with_front}
+use Rattle.mc_text.proofs.StepLemmas.{with_front, with_front-none}
 use Rattle.mc_text.specs.Bundle.{PartText}
 use Rattle.mc_text.specs.declared.text.addr.Order.{Order}
 use Rattle.mc_igmp.specs.declared.record.Record.{Record}
@@ -110,16 +110,12 @@ module _ {F : Type 0} (as_ours : InputFault → F) (source : ℕ → Slot → Re
   -- ---- the LANs' reports
 
   -- no LAN's reports were read yet
-  front-none : {A : Type 0} (rest : Result (List A) F) → with_front [] rest ≡ rest
-  front-none (Ok ys) = refl
-  front-none (Err fault) = refl
-
   pub reports_start : (k : ℕ) (lans : List (List ℕ))
       → with_front [] (all_reports as_ours source (k + 0) (drop 0 lans))
       ≡ all_reports as_ours source k lans
   reports_start k lans =
       let same : k + 0 ≡ k = omega arith in
-      rw (same) (front-none (all_reports as_ours source k lans))
+      rw (same) (with_front-none (all_reports as_ours source k lans))
 
   -- the reports of the next LAN are refused
   pub reports_refused : (front : List (List Record)) (k : ℕ) (lans : List (List ℕ)) (i : ℕ)

@@ -1,5 +1,5 @@
 -- The numbers of sources and groups that are listed.
-use Rattle.std.proofs.Common.{◌≡◌, ℕ, zero, suc, ◌+◌, ◌<◌, ◌≤◌, Bool, true, false, cond, List, [], ◌∷◌}
+use Rattle.std.proofs.Common.{◌≡◌, ℕ, zero, suc, ◌+◌, ◌<◌, Bool, true, false, cond, List, [], ◌∷◌}
 use Rattle.std.proofs.Common.{◌++◌, length, get_or, Option, Some, None, Result, Ok, Err, refl, sym}
 use Rattle.std.proofs.Common.{add-one, ap, subst, ◌∙◌, inl, inr, arith}
 use Rattle.std.specs.Prelude.{◌≢◌, ◌-◌, ◌==◌, ◌&&◌, ◌||◌, IfErr, IfNone, OnErr, is_some, nat_lt, replicate, slice_set}
@@ -12,7 +12,7 @@ use Rattle.std.specs.Ordering.{is_lt, ordering_reverse}
 use Rattle.std.specs.declared.cmp.Ordering.TheVariants.{Less}
 use Rattle.std.proofs.lemmas.Bool.{cases_Bool, ltb-true}
 use Rattle.std.proofs.lemmas.Bool.Decides.{nat_tests}
-use Rattle.std.proofs.lemmas.List.{get_or-set_same}
+use Rattle.std.proofs.lemmas.List.{get_or-set_same, get_or_default}
 use Rattle.std.proofs.lemmas.List.Folds.{list_any_at}
 use Rattle.std.proofs.lemmas.List.Kept.{IsStrictlySortedBy-dedup}
 use Rattle.std.proofs.lemmas.Map.Keys.{IsDistinct-from_sorted, IsDistinct-head, IsDistinct-tail}
@@ -175,13 +175,7 @@ if_none P (Err i) o is none = rw is none
 
 -- ---- what is kept of a pair
 
--- a place past the end says that there is no number
-pub past_end : (ns : List ℕ) (i : ℕ) → length ns ≤ i → get_or ns i 0 ≡ 0
-past_end [] i past = refl
-past_end (n ∷ ns) zero past = absurd (omega (arith, past))
-past_end (n ∷ ns) (suc i) past = past_end ns i (omega (arith, past))
-
--- and else it says the number
+-- what a place says is one more than the number
 pub one_less : (n : ℕ) → n ≢ 0 → Some (n - 1) ≡ number_of_next n
 one_less zero some = absurd (some refl)
 one_less (suc n) some = ap (λ m. Some m) (omega arith)
@@ -234,19 +228,13 @@ grown keys ns more zeros s is kept =
     } in t) (ap (filled keys) is ∙ zeros_more keys ns zeros)
     ∙ kept
 
--- what stands within the list does so whatever stands past its end
-pub within_list : (ns : List ℕ) (i d e : ℕ) → i < length ns → get_or ns i d ≡ get_or ns i e
-within_list [] i d e lt = absurd (omega (arith, lt))
-within_list (n ∷ ns) zero d e lt = refl
-within_list (n ∷ ns) (suc i) d e lt = within_list ns i d e (omega (arith, lt))
-
 -- what a list says that is lent
 pub said_at : (ns lent : List ℕ) (i n : ℕ) → lent ≡ ns → true ≡ nat_lt i (length lent)
     → n ≡ get_or lent i n → get_or ns i 0 ≡ n
 said_at ns lent i n is within said =
     let lt : i < length ns =
     omega (arith, ltb-true i (length lent) (sym within), ap length is) in
-    within_list ns i 0 n lt ∙ ap (λ l. get_or l i n) (sym is) ∙ sym said
+    get_or_default ns i 0 n lt ∙ ap (λ l. get_or l i n) (sym is) ∙ sym said
 
 -- a refusal leaves what holds
 pub if_refused : {A E : Type 0} (P : Type 0) (r : Result A E) → P → OnErr r P

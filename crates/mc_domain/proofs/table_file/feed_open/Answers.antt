@@ -2,8 +2,10 @@ use Rattle.std.proofs.Common.{◌≡◌, ◌+◌, ◌≤◌, ◌++◌, false, tr
 use Rattle.std.specs.Prelude.{is_ok}
 use Rattle.std.proofs.lemmas.List.{length-append}
 use Rattle.mc_text.specs.Bundle.{max_part}
+use Rattle.mc_text.proofs.StepLemmas.{on_ok}
 use Rattle.mc_domain.proofs.FeedLemmas.{fed_on, fed_to_fault, not_refused, taken_with}
-use Rattle.mc_domain.proofs.FilesFeedLemmas.{consumed, if_err, on_ok}
+use Rattle.mc_text.proofs.PartsMeaning.{consumed}
+use Rattle.mc_domain.proofs.FilesFeedLemmas.{if_err}
 use Rattle.mc_domain.proofs.table_file.feed_open.Goals as goal
 
 pub returns-in-Err-clause-within : goal.returns-in-Err-clause-within

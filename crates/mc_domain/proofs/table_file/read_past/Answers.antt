@@ -1,6 +1,7 @@
 use Rattle.std.proofs.Common.{◌≡◌, length, take, ap, ◌∙◌, arith, rules, length-take}
 use Rattle.std.proofs.lemmas.List.{length-append}
-use Rattle.mc_domain.proofs.FilesFeedLemmas.{consumed, nothing_left}
+use Rattle.mc_text.proofs.PartsMeaning.{consumed}
+use Rattle.mc_domain.proofs.FilesFeedLemmas.{nothing_left}
 use Rattle.mc_domain.proofs.table_file.read_past.Goals as goal
 
 pub returns-then-count-eq0-clause-within : goal.returns-then-count-eq0-clause-within

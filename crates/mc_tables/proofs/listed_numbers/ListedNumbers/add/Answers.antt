@@ -2,12 +2,13 @@ use Rattle.std.proofs.Common.{◌≡◌, ◌<◌, ℕ, List, Some, cond, false, 
 use Rattle.std.specs.List.{list_any}
 use Rattle.std.specs.Prelude.{is_some}
 use Rattle.std.specs.BTreeMap.{is_at}
+use Rattle.std.proofs.lemmas.List.{get_or_default}
 use Rattle.std.proofs.lemmas.Map.Keys.{IsDistinct-from_sorted}
 use Rattle.mc_tables.specs.CacheNumbers.{KeysText, IsPlaceOf, number_in}
 use Rattle.mc_tables.specs.CacheTable.{key_cmp, same_key}
 use Rattle.mc_tables.specs.ListedRows.{is_in}
 use Rattle.mc_tables.proofs.NumberLemmas.{grown, if_refused, is_there, kept_as, listed_here, number_here}
-use Rattle.mc_tables.proofs.NumberLemmas.{number_of_next, one_more, unlisted, within_list}
+use Rattle.mc_tables.proofs.NumberLemmas.{number_of_next, one_more, unlisted}
 use Rattle.mc_tables.proofs.listed_numbers.ListedNumbers.add.Goals as goal
 
 pub returns-in_default-clause-numbered : goal.returns-in_default-clause-numbered
@@ -49,7 +50,7 @@ returns-then-index-ne0-clause-numbered c =
       listed_here keys ns key i c.args.self.now kept place,
       ap is_some (number_here keys ns key i c.args.self.now kept c.self.invariant place)
           ∙ is_there (get_or ns i 0) (λ e. c.if-index-ne0.true
-          (c.index.ensures ∙ within_list ns i c.index.result.now 0 within ∙ e)),
+          (c.index.ensures ∙ get_or_default ns i c.index.result.now 0 within ∙ e)),
       kept,
     )
 
@@ -72,7 +73,7 @@ returns-clause-numbered c =
       ap length c.deref.ensures.value,
     ) in
     let empty : get_or ns i 0 ≡ 0 =
-    within_list ns i 0 c.index.result.now within ∙ sym c.index.ensures ∙ c.if-index-ne0.false in (
+    get_or_default ns i 0 c.index.result.now within ∙ sym c.index.ensures ∙ c.if-index-ne0.false in (
       listed_here keys ns key i c.args.self.now kept place,
       number_here keys ns key i c.args.self.now kept c.self.invariant place ∙ ap number_of_next empty,
       ap (λ (s : KeysText). s.listed) c.self.view_is,

@@ -1,9 +1,10 @@
 use Rattle.std.proofs.Common.{◌≡◌, ◌≤◌, ℕ, List, length, ◌∙◌, sym, ap, subst, false, arith}
 use Rattle.std.specs.List.{list_any}
+use Rattle.std.proofs.Math.ListN.{get_or-eq_default}
 use Rattle.std.proofs.lemmas.Bool.{ltb-false}
 use Rattle.mc_tables.specs.CacheNumbers.{IsPlaceOf, KeysText, number_in}
 use Rattle.mc_tables.specs.CacheTable.{same_key}
-use Rattle.mc_tables.proofs.NumberLemmas.{none_filled, number_here, number_of_next, one_less, past_end}
+use Rattle.mc_tables.proofs.NumberLemmas.{none_filled, number_here, number_of_next, one_less}
 use Rattle.mc_tables.proofs.NumberLemmas.{said_at}
 use Rattle.mc_tables.proofs.listed_numbers.ListedNumbers.number_of.Goals as goal
 
@@ -30,7 +31,7 @@ returns-in_err-next c =
       ap length c.deref-2.ensures.value,
     ) in
     c.from_residual-in_err-next.ensures
-    ∙ ap number_of_next (sym (past_end ns i past))
+    ∙ ap number_of_next (sym (get_or-eq_default ns 0 past))
     ∙ sym (number_here c.self.inside.pairs.items ns key i c.args.self.now c.self.view_is
     c.self.invariant place)
 

@@ -1,5 +1,6 @@
 pub mod AddressLemmas
 pub mod RecordsLemmas
 pub mod ChecksumLemmas
+pub mod DigitLemmas
 pub mod MessageLemmas
 pub mod ListLemmas

@@ -3,6 +3,7 @@
 #![tactic(auto)]
 
 mod checksum;
+mod digits;
 mod fault;
 mod group_records;
 mod laws;

@@ -25,5 +25,5 @@ pub use laws::{
 };
 pub use memory::Memory;
 pub use text::{
-    Addr, Line, Lines, MAX_TEXT, Order, Words, decimal, first_place_of, is_device_name,
+    Addr, Line, Lines, MAX_TEXT, Order, Words, decimal, first_place_of, hex_digit, is_device_name,
 };

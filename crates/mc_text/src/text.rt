@@ -10,6 +10,7 @@ mod number;
 mod words;
 
 pub use addr::{Addr, Order};
+pub use address_digits::hex_digit;
 pub use device_name::is_device_name;
 pub use first_place::first_place_of;
 pub use lines::{Line, Lines, MAX_TEXT};

@@ -1,4 +1,4 @@
-//! The hexadecimal digits of an address word.
+//! Hexadecimal digits, and those of an address word.
 
 ghost use Rattle.std.specs.Prelude.{◌≡◌, ◌&&◌, ℕ, List, length, slice_index, false};
 ghost use Rattle.std.specs.Prelude.{IfSome, IfNone, Some, Ok};
@@ -27,9 +27,9 @@ fn value_of(byte: u8, values: &[u8; 256]) -> u8
     values[byte as usize]
 }
 
-/// The value of a hexadecimal digit, or 16.
+/// The value of a hexadecimal digit of either case, or 16.
 #[tactic(auto, using(crate::proofs::AddressDigitLemmas::listed))]
-fn digit(byte: u8) -> u8
+pub fn hex_digit(byte: u8) -> u8
     ensures { result ≡ value_or_16 byte }
 {
     value_of(byte, VALUES)
@@ -40,8 +40,8 @@ fn octet(high: u8, low: u8) -> Option<u8>
     ensures found { IfSome result (λ octet. (i : ℕ) → pair_value high low i ≡ Ok octet) }
     ensures only { IfNone result ((is_hex_digit high && is_hex_digit low) ≡ false) }
 {
-    let high = digit(high);
-    let low = digit(low);
+    let high = hex_digit(high);
+    let low = hex_digit(low);
     if high < 16 && low < 16 {
         Some(high * 16 + low)
     } else {

@@ -1,0 +1,79 @@
+-- Bytes from pairs of hexadecimal digits, a pair at a time.
+use Rattle.std.proofs.Common.{◌≡◌, ◌≢◌, ℕ, ◌+◌, ◌*◌, ◌<◌, ◌≤◌, true, false, List, length, get_or}
+use Rattle.std.proofs.Common.{take, drop, Option, Some, None, Result, Ok, Err, unwrap_or, is_some}
+use Rattle.std.proofs.Common.{inl, inr, refl, sym, ap, ◌∙◌, arith, slice_set, bit_or}
+use Rattle.std.proofs.lemmas.Bool.{cases_lt}
+use Rattle.std.proofs.lemmas.List.Elements.{All-get_or}
+use Rattle.std.proofs.lemmas.Nat.{or_lt, le_or_l, le_or_r}
+use Rattle.hex.specs.Hex.{hex_digit_value, is_hex_digit, digit_or_error, value_at, pair_value}
+use Rattle.hex.specs.Hex.{decode_pairs}
+use Rattle.hex.proofs.HexLemmas.{decode_pairs-ok}
+use Rattle.hex.proofs.Pairs.{prepend, decode_step}
+use Rattle.mc_text.specs.AddressWord.{value_or_16}
+
+-- ---- one pair
+
+-- a digit with a value below 16 reads as that
+value_read : (c i : ℕ) (o : Option ℕ) → unwrap_or o 16 < 16
+    → digit_or_error c i o ≡ Ok (unwrap_or o 16)
+value_read c i (Some v) h = refl
+value_read c i None h = absurd (omega arith)
+
+pair_read : (a b i byte : ℕ) → value_or_16 a < 16 → value_or_16 b < 16
+    → byte ≡ value_or_16 a * 16 + value_or_16 b → pair_value a b i ≡ Ok byte
+pair_read a b i byte high low is =
+    rw (value_read a i (hex_digit_value a) high, value_read b (i + 1) (hex_digit_value b) low, is)
+    refl
+
+-- a byte with the value 16 is no digit
+no_digit : (c : ℕ) → 16 ≤ value_or_16 c → is_hex_digit c ≡ false
+no_digit c h = grind arith
+
+-- what has a byte that is no digit doesn't decode
+not_decoded : (s : List ℕ) (k : ℕ) → k < length s → 16 ≤ value_or_16 (get_or s k 0)
+    → (out : List ℕ) → decode_pairs 0 s ≢ Ok out
+not_decoded s k within h out e =
+    let digit = All-get_or (λ (c : ℕ). is_hex_digit c ≡ true) s k 0 within
+    (decode_pairs-ok 0 s out e).0 in
+    cc (no_digit (get_or s k 0) h, digit)
+
+-- ---- the loop over the pairs
+
+-- one pair more, where all values so far are below 16
+pub pair_decoded : (s out : List ℕ) (i values high low byte : ℕ) → 2 * i + 1 < length s
+    → i < length out → high ≡ value_or_16 (get_or s (2 * i) 0)
+    → low ≡ value_or_16 (get_or s (2 * i + 1) 0)
+    → (high < 16 → low < 16 → byte ≡ high * 16 + low)
+    → (values < 16
+    → decode_pairs 0 s ≡ prepend (take i out) (decode_pairs (2 * i) (drop (2 * i) s)))
+    → bit_or values (bit_or high low) < 16
+    → decode_pairs 0 s ≡ prepend (take (i + 1) (slice_set out i byte))
+    (decode_pairs (2 * (i + 1)) (drop (2 * (i + 1)) s))
+pair_decoded s out i values high low byte fits room high_is low_is byte_is so_far below =
+    let both = le_or_r values (bit_or high low) in
+    let a : high < 16 = omega (arith, both, le_or_l high low) in
+    let b : low < 16 = omega (arith, both, le_or_r high low) in
+    let v : values < 16 = omega (arith, le_or_l values (bit_or high low)) in
+    let pair = pair_read (get_or s (2 * i) 0) (get_or s (2 * i + 1) 0) (2 * i) byte
+    (omega arith) (omega arith) (omega (arith, byte_is a b)) in
+    decode_step s out i byte fits room pair (so_far v)
+
+-- one pair more, where some value is 16
+pub pair_refused : (s : List ℕ) (i values high low : ℕ) → 2 * i + 1 < length s
+    → high ≡ value_or_16 (get_or s (2 * i) 0) → low ≡ value_or_16 (get_or s (2 * i + 1) 0)
+    → (16 ≤ values → (out : List ℕ) → decode_pairs 0 s ≢ Ok out)
+    → 16 ≤ bit_or values (bit_or high low) → (out : List ℕ) → decode_pairs 0 s ≢ Ok out
+pair_refused s i values high low fits high_is low_is so_far large =
+    elim (cases_lt values 16) [
+      | inr before ↦ so_far before
+      | inl v ↦
+          elim (cases_lt high 16) [
+            | inr h ↦ not_decoded s (2 * i) (omega arith) (omega arith)
+            | inl a ↦
+                elim (cases_lt low 16) [
+                  | inr h ↦ not_decoded s (2 * i + 1) fits (omega arith)
+                  | inl b ↦
+                      absurd (omega (arith, or_lt 4 values (bit_or high low) v (or_lt 4 high low a b)))
+                ]
+          ]
+    ]

@@ -1,16 +1,15 @@
--- The sum of a message's words, a word at a time.
-use Rattle.std.proofs.Common.{◌≡◌, ℕ, ◌+◌, ◌*◌, ◌<◌, ◌≤◌, List, [], ◌∷◌, length, get_or, take, drop}
-use Rattle.std.proofs.Common.{refl, ap, ◌∙◌, arith}
-use Rattle.byteorder.specs.Endian.{big_number}
+-- The sum of a message's words, a word or a piece at a time.
+use Rattle.std.proofs.Common.{◌≡◌, ℕ, zero, suc, ◌+◌, ◌*◌, ◌%◌, ◌<◌, ◌≤◌, List, [], ◌∷◌, length}
+use Rattle.std.proofs.Common.{get_or, take, drop, refl, arith}
 use Rattle.mc_igmp.specs.Checksum.{word_sum}
+use Rattle.mc_igmp.proofs.AddressLemmas.{IsBytes, IsBytes-drop}
 
--- the first word, as the code takes it, and the others
-pub word_sum-first : (rest front back : List ℕ) (word : ℕ) → 2 ≤ length rest → front ≡ take 2 rest
-    → back ≡ drop 2 rest → word ≡ big_number 2 front → word_sum rest ≡ word + word_sum back
+-- the first word and the others
+pub word_sum-first : (s : List ℕ) → 2 ≤ length s
+    → word_sum s ≡ 256 * get_or s 0 0 + get_or s 1 0 + word_sum (drop 2 s)
 unfolding word_sum
-word_sum-first (a ∷ b ∷ rest) front back word h front_is back_is word_is =
-    let e = word_is ∙ ap (big_number 2) front_is in omega (arith, e, ap word_sum back_is)
-word_sum-first _ front back word h front_is back_is word_is = absurd (omega arith)
+word_sum-first (a ∷ b ∷ rest) h = refl
+word_sum-first _ h = absurd (omega arith)
 
 -- an odd last byte, or none
 pub word_sum-last : (s : List ℕ) → length s < 2 → word_sum s ≡ 256 * get_or s 0 0
@@ -18,3 +17,30 @@ unfolding word_sum
 word_sum-last [] h = refl
 word_sum-last (a ∷ []) h = refl
 word_sum-last _ h = absurd (omega arith)
+
+-- no bytes are left
+pub word_sum-none : (s : List ℕ) → length s ≡ 0 → word_sum s ≡ 0
+unfolding word_sum
+word_sum-none [] h = refl
+word_sum-none (a ∷ rest) h = absurd (omega arith)
+
+-- the words of the first n bytes and of the others, where no word is cut
+pub word_sum-parts : (n : ℕ) (s : List ℕ) → (n < length s → n % 2 ≡ 0)
+    → word_sum s ≡ word_sum (take n s) + word_sum (drop n s)
+unfolding word_sum
+word_sum-parts zero s even = omega arith
+word_sum-parts (suc n) [] even = refl
+word_sum-parts (suc zero) (a ∷ []) even = omega arith
+word_sum-parts (suc zero) (a ∷ b ∷ rest) even = absurd (omega (arith, even (omega arith)))
+word_sum-parts (suc (suc n)) (a ∷ []) even = omega arith
+word_sum-parts (suc (suc n)) (a ∷ b ∷ rest) even =
+    omega (arith, word_sum-parts n rest (λ more. omega (arith, even (omega arith))))
+
+-- a word is at most 65,535
+pub word_sum-bound : (s : List ℕ) → IsBytes s → 2 * word_sum s ≤ 65535 * (length s + 1)
+unfolding word_sum
+word_sum-bound [] fits = omega arith
+word_sum-bound (a ∷ []) fits = omega (arith, fits 0)
+word_sum-bound (a ∷ b ∷ rest) fits =
+    let others = word_sum-bound rest (IsBytes-drop 2 (a ∷ b ∷ rest) fits) in
+    omega (arith, fits 0, fits 1, others)

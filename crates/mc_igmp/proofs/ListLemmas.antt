@@ -6,7 +6,6 @@ use Rattle.std.specs.List.{flat_map}
 use Rattle.std.proofs.lemmas.Bool.{le-ltb}
 use Rattle.std.proofs.lemmas.Bool.Decides.{nat_tests}
 use Rattle.hex.specs.declared.error.FromHexError.{FromHexError}
-use Rattle.hex.specs.declared.error.FromHexError.TheVariants.{OutOfMemory}
 use Rattle.hex.specs.Hex.{decode_of}
 use Rattle.hex.proofs.HexLemmas.{decode_of-ok}
 use Rattle.mc_text.specs.Lines.{LineText, lines_of}
@@ -53,12 +52,12 @@ pub bytes_of_line-digits : (line : LineText) → line.ended ≡ true → line.nu
 unfolding bytes_of_line
 bytes_of_line-digits line e h g = rw (e, le-ltb _ _ h, le-ltb _ _ g) refl
 
--- why digits are refused: for want of memory, or as they are no hexadecimal
-pub digits_refused : (number : ℕ) (decoded : Result (List ℕ) FromHexError) (e : FromHexError)
-    (fault : ListFault) → (e ≡ OutOfMemory → IsMemory fault)
-    → (e ≢ OutOfMemory → fault ≡ fault_at number 0 BadHex) → (e ≡ OutOfMemory) ⊎ (decoded ≡ Err e)
-    → IsMemory fault ⊎ (digits_read number decoded ≡ Err fault)
-digits_refused number decoded e fault memory digits why = grind arith
+-- what doesn't decode is refused, whatever the reason
+pub digits_refused : (number : ℕ) (decoded : Result (List ℕ) FromHexError)
+    → ((out : List ℕ) → decoded ≢ Ok out)
+    → digits_read number decoded ≡ Err (fault_at number 0 BadHex)
+digits_refused number (Ok bytes) none = absurd (none bytes refl)
+digits_refused number (Err e) none = refl
 
 -- ---- the records of a line
 

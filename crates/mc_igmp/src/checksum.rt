@@ -1,47 +1,64 @@
 //! The checksum of an IGMP message (RFC 1071).
 
-ghost use Rattle.std.specs.Prelude.{◌≡◌, ◌≤◌, ◌+◌, ◌%◌, ◌&&◌, ◌==◌, ◌↔◌, nat_lt};
+ghost use Rattle.std.specs.Prelude.{◌≡◌, ◌≤◌, ◌+◌, ◌%◌, ◌&&◌, ◌==◌, ◌↔◌, nat_lt, length};
 ghost use Rattle.mc_igmp.specs.Checksum.{word_sum};
 
-use byteorder::{BigEndian, ByteOrder};
-
 /// Ones in all sixteen bits.
-const ALL_ONES: u32 = 0xffff;
+const ALL_ONES: u64 = 0xffff;
 
-/// The one's complement sum of a sum and a word: a carry out of the sixteen bits is added at their
-/// end.
-fn add_with_carry(sum: u32, word: u16) -> u32
+/// The bytes whose words are added up at a time, a whole number of words. Thirty-two bits hold the
+/// sum of so many.
+const PIECE_LEN: usize = 65_536;
+
+/// The one's complement sum of a sum and a number: the carries out of the sixteen bits are added at
+/// their end.
+fn add_with_carries(sum: u64, number: u32) -> u64
     requires { sum ≤ ALL_ONES }
     ensures bound { result ≤ ALL_ONES }
-    ensures congruent { result % 65535 ≡ (sum + word) % 65535 }
-    ensures zero { (result ≡ 0) ↔ (sum + word ≡ 0) }
+    ensures congruent { result % 65535 ≡ (sum + number) % 65535 }
+    ensures zero { (result ≡ 0) ↔ (sum + number ≡ 0) }
 {
-    let total = sum + u32::from(word);
-    if total > ALL_ONES {
-        total - ALL_ONES
+    let total = sum + u64::from(number);
+    if total == 0 {
+        0
     } else {
-        total
+        (total - 1) % ALL_ONES + 1
     }
 }
 
-/// The one's complement sum of the big-endian words of a message, an odd last byte being taken with
-/// a zero byte after it.
-fn ones_complement_sum(message: &[u8]) -> u32
+/// The sum of the big-endian words of a piece, an odd last byte being taken with a zero byte after
+/// it.
+fn sum_of_words(piece: &[u8]) -> u32
+    requires { length piece.now ≤ PIECE_LEN }
+    ensures { result ≡ word_sum piece.now }
+{
+    let mut sum = 0u32;
+    let mut rest = piece;
+    while let [high, low, others @ ..] = rest {
+        sum += u32::from(*high) * 256 + u32::from(*low);
+        rest = others;
+    }
+    match rest {
+        [last] => sum + u32::from(*last) * 256,
+        _ => sum,
+    }
+}
+
+/// The one's complement sum of the words of a message. One of at most `PIECE_LEN` bytes, as each
+/// that an IP packet holds, is summed at once and its carries added at the end.
+fn ones_complement_sum(message: &[u8]) -> u64
     ensures bound { result ≤ ALL_ONES }
     ensures congruent { result % 65535 ≡ word_sum message.now % 65535 }
     ensures zero { (result ≡ 0) ↔ (word_sum message.now ≡ 0) }
 {
-    let mut sum = 0u32;
+    let mut sum = 0u64;
     let mut rest = message;
-    while rest.len() >= 2 {
-        let (word, others) = rest.split_at(2);
-        sum = add_with_carry(sum, BigEndian::read_u16(word));
+    while !rest.is_empty() {
+        let (piece, others) = rest.split_at(rest.len().min(PIECE_LEN));
+        sum = add_with_carries(sum, sum_of_words(piece));
         rest = others;
     }
-    match rest {
-        [last] => add_with_carry(sum, u16::from(*last) << 8),
-        _ => sum,
-    }
+    sum
 }
 
 /// Whether the words of a message, the checksum among them, add up to ones alone.

@@ -5,22 +5,20 @@ ghost use Rattle.std.specs.Prelude.{unwrap_or};
 ghost use Rattle.std.specs.Prelude.{IfOk, IfErr, OnOk, OnErr, MatchResult};
 ghost use Rattle.mc_text.specs.LineView.{line_text};
 ghost use Rattle.mc_igmp.specs.declared.record.Record.{Record};
-ghost use Rattle.mc_igmp.specs.declared.fault.ListFaultKind.TheVariants.{BadHex};
-ghost use Rattle.hex.specs.declared.error.FromHexError.TheVariants as FromHexError;
 ghost use Rattle.mc_igmp.specs.ReadingList.{IsMemory, no_memory};
 ghost use Rattle.mc_igmp.specs.OlderReport.{older_record};
 ghost use Rattle.mc_igmp.specs.Records.{records_in, IsWhole};
 ghost use Rattle.mc_igmp.specs.ReadingMessage.{read_message};
 ghost use Rattle.mc_igmp.specs.ReportList.{IsReportList};
 ghost use Rattle.mc_igmp.specs.ReadingList.{bytes_of_line, first_change, taken_records, read_line};
-ghost use Rattle.mc_igmp.specs.ReadingList.{read_list, fault_at};
+ghost use Rattle.mc_igmp.specs.ReadingList.{read_list};
 
+use crate::digits::write_bytes;
 use crate::fault::{ListFault, ListFaultKind};
 use crate::group_records::GroupRecords;
 use crate::message::{Message, MessageFault};
 use crate::record::{Kind, Record};
 use crate::records::Records;
-use hex::FromHexError;
 use mc_text::{Addr, Line, Lines, MAX_TEXT};
 use std::alloc::{AllocError, Global};
 use std::marker::Model;
@@ -41,22 +39,11 @@ fn bytes_of_older_record(group: Addr) -> [u8; 8]
     [2, 0, 0, 0, a, b, c, d]
 }
 
-/// Why the digits of a line could not be decoded.
-fn fault_of_digits(line_number: u32, error: FromHexError) -> ListFault
-    ensures memory { error ≡ FromHexError.OutOfMemory → IsMemory result }
-    ensures digits { error ≢ FromHexError.OutOfMemory → result ≡ fault_at line_number 0 BadHex }
-{
-    match error {
-        FromHexError::OutOfMemory => ListFaultKind::Memory.at(0, 0),
-        _ => ListFaultKind::BadHex.at(line_number, 0),
-    }
-}
-
-/// The bytes that a line's hexadecimal digits write.
-fn bytes_of_digits(alloc: Global, line: &Line<'_>) -> Result<Vec<u8>, ListFault>
-    ensures { MatchResult result
-        (λ bytes. bytes_of_line (line_text line.now) ≡ Ok bytes.items)
-        (λ fault. IsMemory fault ⊎ (bytes_of_line (line_text line.now) ≡ Err fault)) }
+/// Reads the bytes that a line's hexadecimal digits write.
+fn read_digits(line: &Line<'_>, bytes: &mut Vec<u8>) -> Result<(), ListFault>
+    ensures ok { OnOk result (bytes_of_line (line_text line.now) ≡ Ok bytes.new.items) }
+    ensures err { IfErr result (λ fault.
+        IsMemory fault ⊎ (bytes_of_line (line_text line.now) ≡ Err fault)) }
 {
     if !line.ended {
         return Err(ListFaultKind::Unended.at(line.number, 0));
@@ -64,9 +51,14 @@ fn bytes_of_digits(alloc: Global, line: &Line<'_>) -> Result<Vec<u8>, ListFault>
     if line.number > MAX_LINES || line.bytes.len() > MAX_LINE_LEN {
         return Err(ListFaultKind::TooLarge.at(line.number, 0));
     }
-    match hex::decode(alloc, line.bytes) {
-        Ok(bytes) => Ok(bytes),
-        Err(error) => Err(fault_of_digits(line.number, error)),
+    if line.bytes.len() % 2 != 0 {
+        return Err(ListFaultKind::BadHex.at(line.number, 0));
+    }
+    bytes.resize(line.bytes.len() / 2, 0)?;
+    if write_bytes(line.bytes, bytes) {
+        Ok(())
+    } else {
+        Err(ListFaultKind::BadHex.at(line.number, 0))
     }
 }
 
@@ -157,21 +149,22 @@ impl ReportList {
             count: 0,
             bytes: Vec::new(alloc),
         };
+        let mut message = Vec::new(alloc);
         for line in Lines::new(text) {
-            list.push_line(alloc, &line)?;
+            list.push_line(&line, &mut message)?;
         }
         Ok(list)
     }
 
-    // Appends the records of the message on a line.
-    fn push_line(&mut self, alloc: Global, line: &Line<'_>) -> Result<(), ListFault>
+    // Appends the records of the message on a line, whose bytes are kept in `message` meanwhile.
+    fn push_line(&mut self, line: &Line<'_>, message: &mut Vec<u8>) -> Result<(), ListFault>
         ensures ok { OnOk result ((records : List Record) ×
             (read_line (line_text line.now) ≡ Ok records) × (self.new ≡ self.old ++ records)) }
         ensures err { IfErr result (λ fault.
             IsMemory fault ⊎ (read_line (line_text line.now) ≡ Err fault)) }
     {
-        let bytes = bytes_of_digits(alloc, line)?;
-        if let Some(records) = records_taken(line.number, &bytes)? {
+        read_digits(line, message)?;
+        if let Some(records) = records_taken(line.number, message)? {
             self.append(&records)?;
         }
         Ok(())

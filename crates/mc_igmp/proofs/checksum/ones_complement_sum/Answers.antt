@@ -1,24 +1,21 @@
-use Rattle.std.proofs.Common.{arith}
-use Rattle.std.proofs.lemmas.List.{get_or_past}
-use Rattle.mc_igmp.proofs.ChecksumLemmas.{word_sum-first, word_sum-last}
+use Rattle.std.proofs.Common.{length, arith, ◌<◌, ◌≡◌, ◌%◌}
+use Rattle.std.proofs.lemmas.Bool.Decides.{nat_tests}
+use Rattle.mc_igmp.proofs.ChecksumLemmas.{word_sum-parts, word_sum-none}
 use Rattle.mc_igmp.proofs.checksum.ones_complement_sum.Goals as goal
 
 pub loop-rest-preserved : goal.loop-rest-preserved
 loop-rest-preserved c =
-    let first = word_sum-first c.loop-rest.rest.now _ _ _ c.loop-rest-test.true
-    c.split_at.ensures.front c.split_at.ensures.back c.read_u16.ensures in
-    omega (arith, first)
+    let rest = c.loop-rest.rest.now in
+    let even : c.min.result < length rest → c.min.result % 2 ≡ 0 = λ more. omega arith in
+    let parts = word_sum-parts c.min.result rest even in
+    let front = c.split_at.ensures.front in
+    let back = c.split_at.ensures.back in
+    rw back (omega (arith, rw (← front) at parts))
 
-pub returns-in-len1 : goal.returns-in-len1
-returns-in-len1 c =
-    omega (
-      arith,
-      word_sum-last c.loop-rest.rest.now (omega arith),
-      c.from.ensures,
-      c.type_inv.message 0,
-    )
+pub returns-clause-congruent : goal.returns-clause-congruent
+returns-clause-congruent c =
+    grind (arith, nat_tests, word_sum-none c.loop-rest.rest.now)
 
-pub returns-in_default : goal.returns-in_default
-returns-in_default c =
-    let none = get_or_past c.loop-rest.rest.now 0 0 (omega arith) in
-    omega (arith, word_sum-last c.loop-rest.rest.now (omega arith), none)
+pub returns-clause-zero : goal.returns-clause-zero
+returns-clause-zero c =
+    grind (arith, nat_tests, word_sum-none c.loop-rest.rest.now)

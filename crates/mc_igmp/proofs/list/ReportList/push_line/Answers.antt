@@ -6,34 +6,33 @@ use Rattle.mc_text.specs.LineView.{line_text}
 use Rattle.mc_igmp.specs.declared.record.Record.{Record}
 use Rattle.mc_igmp.proofs.ListLemmas.{read_line-refused, read_line-is}
 use Rattle.mc_igmp.proofs.list.ReportList.push_line.Goals as goal
-use Rattle.mc_igmp.proofs.list.ReportList.push_line.Goals.{in-Some+in_ok-append, in_default}
 
-pub returns-in_err-bytes-clause-err : goal.returns-in_err-bytes-clause-err
-returns-in_err-bytes-clause-err c =
+pub returns-in_err-read_digits-clause-err : goal.returns-in_err-read_digits-clause-err
+returns-in_err-read_digits-clause-err c =
     let p = err_from_is_err_and c.from_residual.result c.from_residual.ensures.1 in
-    rw (p.1, p.2) (read_line-refused (line_text c.args.line.now) _ c.in_err-bytes.ensures)
+    rw (p.1, p.2) (read_line-refused (line_text c.args.line.now) _ c.in_err-read_digits.ensures.err)
 
 pub returns-in_err-records-clause-err : goal.returns-in_err-records-clause-err
 returns-in_err-records-clause-err c =
     let p = err_from_is_err_and c.from_residual-in_err-records.result
     c.from_residual-in_err-records.ensures.1 in
     let read = read_line-is (line_text c.args.line.now) c.deref.result.now
-    (c.in_ok-bytes.ensures ∙ ap (λ (bytes : List ℕ). Ok bytes) (sym c.deref.ensures.value)) in
+    (c.in_ok-read_digits.ensures.ok
+    ∙ ap (λ (bytes : List ℕ). Ok bytes) (sym c.deref.ensures.value)) in
     rw (p.1, p.2) (inr (read ∙ c.in_err-records.ensures))
 
-pub returns-clause-ok : goal.returns-clause-ok
-returns-clause-ok c =
-    let bytes = c.in_ok-bytes.ensures
-    ∙ ap (λ (bytes : List ℕ). Ok bytes) (sym c.deref.ensures.value) in
-    let read = read_line-is (line_text c.args.line.now) c.deref.result.now bytes
-    ∙ c.in_ok-records.ensures in
+pub returns-in_ok-append-clause-ok : goal.returns-in_ok-append-clause-ok
+returns-in_ok-append-clause-ok c =
+    let read = read_line-is (line_text c.args.line.now) c.deref.result.now
+    (c.in_ok-read_digits.ensures.ok
+    ∙ ap (λ (bytes : List ℕ). Ok bytes) (sym c.deref.ensures.value)) in
     let given = λ (o : Option (List Record)). Ok (unwrap_or o []) in
-    elim c.match-branch-3.branch [
-      | in-Some+in_ok-append w ↦ (
-        w.in-Some.records,
-        read ∙ ap given w.in-Some.is,
-        w.self-is ∙ w.in_ok-append.ensures,
-      )
-      | in_default w ↦
-          ([], read ∙ ap given w.in_default.is, w.self-is ∙ sym (append-nil c.args.self.now))
-    ]
+    (c.in-Some.records, read ∙ c.in_ok-records.ensures ∙ ap given c.in-Some.is, c.in_ok-append.ensures)
+
+pub returns-in_default-clause-ok : goal.returns-in_default-clause-ok
+returns-in_default-clause-ok c =
+    let read = read_line-is (line_text c.args.line.now) c.deref.result.now
+    (c.in_ok-read_digits.ensures.ok
+    ∙ ap (λ (bytes : List ℕ). Ok bytes) (sym c.deref.ensures.value)) in
+    let given = λ (o : Option (List Record)). Ok (unwrap_or o []) in
+    ([], read ∙ c.in_ok-records.ensures ∙ ap given c.in_default.is, sym (append-nil c.args.self.now))

@@ -1,0 +1,45 @@
+use Rattle.std.proofs.Common.{◌≡◌, true, ltb, length, inr, ap, ◌∙◌, refl, arith, drop}
+use Rattle.std.specs.Prelude.{◌||◌}
+use Rattle.std.proofs.lemmas.Bool.Decides.{nat_tests}
+use Rattle.std.proofs.lemmas.List.{take_at}
+use Rattle.hex.specs.Hex.{decode_of}
+use Rattle.hex.proofs.HexLemmas.{decode_of-odd}
+use Rattle.mc_text.specs.LineView.{line_text}
+use Rattle.mc_igmp.specs.ReadingList.{bytes_of_line, digits_read}
+use Rattle.mc_igmp.proofs.ListLemmas.{bytes_of_line-digits, digits_refused}
+use Rattle.mc_igmp.proofs.list.read_digits.Goals as goal
+
+pub returns-then-not-line-clause-err : goal.returns-then-not-line-clause-err
+unfolding bytes_of_line
+returns-then-not-line-clause-err c = rw (c.at.ensures, c.if-not-line.true) (inr refl)
+
+pub returns-then-line-gt-MAX_LINES-clause-err : goal.returns-then-line-gt-MAX_LINES-clause-err
+unfolding bytes_of_line
+returns-then-line-gt-MAX_LINES-clause-err c =
+    let large : (ltb 65536 c.args.line.now.number || ltb 131030 (length c.args.line.now.bytes.now))
+    ≡ true = grind (arith, nat_tests) in
+    rw (c.at-then-line-gt-MAX_LINES.ensures, c.if-not-line.false, large) (inr refl)
+
+pub returns-then-line-ne0-clause-err : goal.returns-then-line-ne0-clause-err
+returns-then-line-ne0-clause-err c =
+    let read = bytes_of_line-digits (line_text c.args.line.now) c.if-not-line.false
+    c.if-line-gt-MAX_LINES.false c.if-line-gt-MAX_LINE_LEN.false in
+    let odd = decode_of-odd c.args.line.now.bytes.now (omega arith) in
+    rw c.at-then-line-ne0.ensures (inr (read ∙ ap (digits_read c.args.line.now.number) odd))
+
+pub returns-then-write_bytes-clause-ok : goal.returns-then-write_bytes-clause-ok
+returns-then-write_bytes-clause-ok c =
+    let read = bytes_of_line-digits (line_text c.args.line.now) c.if-not-line.false
+    c.if-line-gt-MAX_LINES.false c.if-line-gt-MAX_LINE_LEN.false in
+    let whole = take_at c.write_bytes.new.bytes
+    (drop (length c.write_bytes.new.bytes) c.resize.new.self.items) c.resize.new.self.len
+    (omega arith) in
+    rw whole (read ∙ ap (digits_read c.args.line.now.number) (c.if-write_bytes.ensures.found refl))
+
+pub returns-else-write_bytes-clause-err : goal.returns-else-write_bytes-clause-err
+returns-else-write_bytes-clause-err c =
+    let read = bytes_of_line-digits (line_text c.args.line.now) c.if-not-line.false
+    c.if-line-gt-MAX_LINES.false c.if-line-gt-MAX_LINE_LEN.false in
+    let refused = digits_refused c.args.line.now.number (decode_of c.args.line.now.bytes.now)
+    (c.if-write_bytes.ensures.only refl) in
+    rw c.at-else-write_bytes.ensures (inr (read ∙ refused))

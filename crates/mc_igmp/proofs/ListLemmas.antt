@@ -39,7 +39,7 @@ unfolding first_change
 lasting_from number [] f = tt
 lasting_from number (r ∷ rs) f = (grind arith, lasting_from (number + 1) rs (grind arith))
 
-none_from : (number : ℕ) (rs : List Record) → IsTaken (Report rs) → first_change number rs ≡ None
+pub none_from : (number : ℕ) (rs : List Record) → IsTaken (Report rs) → first_change number rs ≡ None
 unfolding first_change
 none_from number [] h = refl
 none_from number (r ∷ rs) h = rw h.0 (none_from (number + 1) rs h.1)

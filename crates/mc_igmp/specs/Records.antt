@@ -1,7 +1,9 @@
 -- Group records one after another, as a report has them (RFC 3376, sections 4.2.3 and 4.2.4).
 use Rattle.std.specs.Prelude.{◌≡◌, ℕ, zero, suc, ◌+◌, List, [], ◌∷◌, ◌++◌, Option, Some, None}
-use Rattle.std.specs.Prelude.{Result, Ok, Err}
+use Rattle.std.specs.Prelude.{Result, Ok, Err, false}
+use Rattle.std.specs.List.{AllByRecursion}
 use Rattle.mc_igmp.specs.declared.record.Record.{Record}
+use Rattle.mc_igmp.specs.Kind.{is_change}
 use Rattle.mc_igmp.specs.Record.{IsRecord, read_record}
 
 -- the bytes are these records, whole, and nothing else
@@ -36,3 +38,7 @@ after_records number (suc count) bytes =
 -- the bytes are `count` records, and nothing else
 abbrev pub IsWhole : ℕ → List ℕ → Type 0
 IsWhole count bytes = after_records 1 count bytes ≡ Ok []
+
+-- no record tells of a change
+abbrev pub AreLasting : List Record → Type 0
+AreLasting records = AllByRecursion (λ r. is_change r.kind ≡ false) records

@@ -1,18 +1,18 @@
 -- What a report list stands for: the records of its messages, in order.
-use Rattle.std.specs.Prelude.{◌≡◌, ℕ, ◌≤◌, true, false, List, [], ◌∷◌, length, Ok}
-use Rattle.std.specs.List.{flat_map, AllByRecursion}
+use Rattle.std.specs.Prelude.{◌≡◌, ℕ, ◌≤◌, true, List, [], ◌∷◌, length, Ok}
+use Rattle.std.specs.List.{flat_map}
 use Rattle.hex.specs.Hex.{decode_of}
 use Rattle.mc_text.specs.Lines.{LineText, lines_of}
 use Rattle.mc_igmp.specs.declared.record.Record.{Record}
 use Rattle.mc_igmp.specs.declared.message.Message.{Message}
 use Rattle.mc_igmp.specs.declared.message.Message.TheVariants.{Report, Other}
-use Rattle.mc_igmp.specs.Kind.{is_change}
 use Rattle.mc_igmp.specs.Message.{IsMessage, records_of}
+use Rattle.mc_igmp.specs.Records.{AreLasting}
 
 -- The messages that a list takes. No record tells of a change (types 3 to 6, RFC 3376, section
 -- 4.2.12), since its meaning hangs on what was reported before.
 abbrev pub IsTaken : Message → Type 0
-IsTaken (Report records) = AllByRecursion (λ r. is_change r.kind ≡ false) records
+IsTaken (Report records) = AreLasting records
 IsTaken (Other type) = Unit {0}
 
 -- The line is the hexadecimal of this message, and nothing else. A message is the payload of one IP

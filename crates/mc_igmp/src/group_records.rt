@@ -1,9 +1,9 @@
 //! Group records one after another, as a Version 3 report and a list keep them.
 
-ghost use Rattle.std.specs.Prelude.{◌≡◌, ℕ, List, MatchResult};
-ghost use Rattle.mc_igmp.specs.Records.{records_in, after_records, IsWhole};
+ghost use Rattle.std.specs.Prelude.{◌≡◌, ℕ, List, MatchResult, true};
+ghost use Rattle.mc_igmp.specs.Records.{records_in, after_records, IsWhole, AreLasting};
 
-use crate::record::{Record, split_record};
+use crate::record::{Kind, Record, split_record};
 use std::marker::Model;
 
 /// Group records, from the first. Its value in contracts is the list of those that are left.
@@ -11,35 +11,41 @@ use std::marker::Model;
 pub struct GroupRecords<'a> {
     left: usize,
     bytes: &'a [u8],
+    /// Whether it is known that no record that is left tells of a change.
+    known_lasting: bool,
 }
 
 impl<'a> Model for GroupRecords<'a> {
-    ghost use Rattle.std.specs.Prelude.{List};
+    ghost use Rattle.std.specs.Prelude.{◌≡◌, true, List};
     ghost use Rattle.mc_igmp.specs.declared.record.Record.{Record};
-    ghost use Rattle.mc_igmp.specs.Records.{records_in, IsWhole};
+    ghost use Rattle.mc_igmp.specs.Records.{records_in, IsWhole, AreLasting};
 
     ghost Value = { List Record };
 
     ghost view = { λ s. records_in s.left s.bytes.now };
 
-    ghost invariant = { λ s. IsWhole s.left s.bytes.now };
+    ghost invariant = { λ s. IsWhole s.left s.bytes.now
+        × (s.known_lasting ≡ true → AreLasting (records_in s.left s.bytes.now)) };
 }
 
-/// The bytes after so many records, or the number of the first, counted from 1, that doesn't end
-/// within the bytes.
-fn after_records_of(count: u16, bytes: &[u8]) -> Result<&[u8], u32>
+/// The bytes after so many records and whether none of these tells of a change, or the number of
+/// the first, counted from 1, that doesn't end within the bytes.
+fn after_records_of(count: u16, bytes: &[u8]) -> Result<(&[u8], bool), u32>
     ensures { MatchResult result
-        (λ rest. after_records 1 count bytes.now ≡ Ok rest.now)
+        (λ x. (after_records 1 count bytes.now ≡ Ok x.0.now)
+        × (x.1 ≡ true → AreLasting (records_in count bytes.now)))
         (λ number. after_records 1 count bytes.now ≡ Err number) }
 {
     let mut rest = bytes;
+    let mut are_lasting = true;
     for index in 0..count {
-        match split_record(rest) {
-            Some((_, after)) => rest = after,
-            None => return Err(u32::from(index) + 1),
-        }
+        let Some((record, after)) = split_record(rest) else {
+            return Err(u32::from(index) + 1);
+        };
+        are_lasting &= !record.kind.is_change();
+        rest = after;
     }
-    Ok(rest)
+    Ok((rest, are_lasting))
 }
 
 impl<'a> GroupRecords<'a> {
@@ -51,11 +57,12 @@ impl<'a> GroupRecords<'a> {
             (after_records 1 count bytes.now ≡ Ok ignored) × (records ≡ records_in count bytes.now))
             (λ number. after_records 1 count bytes.now ≡ Err number) }
     {
-        let ignored = after_records_of(count, bytes)?;
+        let (ignored, known_lasting) = after_records_of(count, bytes)?;
         let own = &bytes[..bytes.len() - ignored.len()];
         Ok(GroupRecords {
             left: usize::from(count),
             bytes: own,
+            known_lasting,
         })
     }
 
@@ -64,14 +71,29 @@ impl<'a> GroupRecords<'a> {
         requires { IsWhole count bytes.now }
         ensures { result ≡ records_in count bytes.now }
     {
-        GroupRecords { left: count, bytes }
+        GroupRecords {
+            left: count,
+            bytes,
+            known_lasting: false,
+        }
     }
 
     /// The same records, to be walked apart from these.
     pub(crate) fn iter(&self) -> GroupRecords<'a>
         ensures { result ≡ self.now }
     {
-        GroupRecords::new(self.left, self.bytes)
+        GroupRecords {
+            left: self.left,
+            bytes: self.bytes,
+            known_lasting: self.known_lasting,
+        }
+    }
+
+    /// Whether it is known, from when they were read, that none tells of a change.
+    pub(crate) fn are_known_lasting(&self) -> bool
+        ensures { result ≡ true → AreLasting self.now }
+    {
+        self.known_lasting
     }
 
     /// The number of records that are left and their bytes.

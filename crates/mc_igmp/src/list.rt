@@ -67,6 +67,9 @@ fn first_change_of(records: &Records<'_>) -> Option<u32>
     requires { length records.now < 2 ^ 16 }
     ensures { result ≡ first_change 1 records.now }
 {
+    if records.are_known_lasting() {
+        return None;
+    }
     let mut number = 0u32;
     for record in records.iter() {
         number += 1;

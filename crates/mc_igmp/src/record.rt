@@ -2,7 +2,7 @@
 
 ghost use Rattle.std.specs.Prelude.{◌≡◌, ◌≤◌, length};
 ghost use Rattle.std.specs.Option.{option_map};
-ghost use Rattle.mc_igmp.specs.Kind.{kind_of};
+ghost use Rattle.mc_igmp.specs.Kind.{kind_of, is_change};
 ghost use Rattle.mc_igmp.specs.OlderReport.{older_record};
 ghost use Rattle.mc_igmp.specs.Record.{group_at, read_record};
 
@@ -40,6 +40,12 @@ impl Kind {
             3..=6 => Kind::Change(record_type),
             _ => Kind::Unknown(record_type),
         }
+    }
+
+    pub(crate) fn is_change(self) -> bool
+        ensures { result ≡ is_change self }
+    {
+        matches!(self, Kind::Change(_))
     }
 }
 

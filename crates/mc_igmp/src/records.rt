@@ -1,8 +1,8 @@
 //! The records of one report.
 
-ghost use Rattle.std.specs.Prelude.{◌≡◌, ◌++◌, ◌∷◌, ℕ, List, [], MatchResult};
+ghost use Rattle.std.specs.Prelude.{◌≡◌, ◌++◌, ◌∷◌, ℕ, List, [], MatchResult, true};
 ghost use Rattle.mc_igmp.specs.OlderReport.{older_record, older_records};
-ghost use Rattle.mc_igmp.specs.Records.{records_in, after_records};
+ghost use Rattle.mc_igmp.specs.Records.{records_in, after_records, AreLasting};
 
 use crate::group_records::GroupRecords;
 use crate::record::Record;
@@ -64,6 +64,13 @@ impl<'a> Records<'a> {
             older_group: self.older_group,
             group_records: self.group_records.iter(),
         }
+    }
+
+    /// Whether it is known, from when they were read, that none tells of a change.
+    pub(crate) fn are_known_lasting(&self) -> bool
+        ensures { result ≡ true → AreLasting self.now }
+    {
+        self.group_records.are_known_lasting()
     }
 
     /// The group of a report of version 1 or 2, if its record is left, and the group records that

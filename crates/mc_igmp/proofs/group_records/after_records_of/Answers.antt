@@ -1,23 +1,38 @@
-use Rattle.std.proofs.Common.{◌+◌, ◌-◌, sym, ◌∙◌, arith}
-use Rattle.mc_igmp.proofs.RecordsLemmas.{after_records-first, after_records-none}
+use Rattle.std.proofs.Common.{◌≡◌, ◌+◌, ◌-◌, sym, subst, ◌∙◌, arith, not, false}
+use Rattle.std.proofs.lemmas.Bool.{and_parts}
+use Rattle.mc_igmp.specs.Kind.{is_change}
+use Rattle.mc_igmp.specs.Records.{records_in, AreLasting}
+use Rattle.mc_igmp.proofs.RecordsLemmas.{after_records-first, after_records-none, records_in-first}
 use Rattle.mc_igmp.proofs.group_records.after_records_of.Goals as goal
 
-pub returns-in-None : goal.returns-in-None
-returns-in-None c =
+pub returns-in_default : goal.returns-in_default
+returns-in_default c =
     let i = c.loop-index.index in
     let first = after_records-first (c.args.count - i) (c.args.count - (i + 1)) (i + 1)
     c.loop-index.rest.now (omega arith) in
-    rw c.from.ensures (sym c.loop-index.invariant ∙ (rw (← c.in-None.ensures) at first))
+    rw c.from.ensures (sym c.loop-index.invariant.after ∙ (rw (← c.in_default.ensures) at first))
 
 pub loop-index-preserved : goal.loop-index-preserved
 loop-index-preserved c =
     let i = c.loop-index.index in
     let first = after_records-first (c.args.count - i) (c.args.count - (i + 1)) (i + 1)
     c.loop-index.rest.now (omega arith) in
-    sym (rw (← c.in-Some.ensures) at first) ∙ c.loop-index.invariant
+    let records = records_in-first (c.args.count - i) (c.args.count - (i + 1)) c.loop-index.rest.now
+    (omega arith) in
+    let parts = rw (← c.in-Some.ensures) at records in
+    record {
+      after = sym (rw (← c.in-Some.ensures) at first) ∙ c.loop-index.invariant.after;
+      lasting = λ so_far others.
+          let both = and_parts c.loop-index.are_lasting (not c.is_change.result) so_far in
+          let lasts : is_change c.in-Some.record.kind ≡ false = grind (arith, both.1) in
+          c.loop-index.invariant.lasting both.0 (subst AreLasting (sym parts) (lasts, others));
+    }
 
 pub returns : goal.returns
+unfolding records_in
 returns c =
     let i = c.loop-index.index in
-    sym c.loop-index.invariant
-    ∙ after_records-none (c.args.count - i) (i + 1) c.loop-index.rest.now (omega arith)
+    let none : c.args.count - i ≡ 0 = omega arith in
+    let after = sym c.loop-index.invariant.after
+    ∙ after_records-none (c.args.count - i) (i + 1) c.loop-index.rest.now none in
+    (after, λ lasting. c.loop-index.invariant.lasting lasting (rw none tt))

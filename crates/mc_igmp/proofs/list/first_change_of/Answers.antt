@@ -1,8 +1,12 @@
-use Rattle.std.proofs.Common.{length, refl, ap, arith}
+use Rattle.std.proofs.Common.{length, refl, sym, ap, arith}
 use Rattle.mc_igmp.specs.Kind.{is_change}
 use Rattle.mc_igmp.specs.ReadingList.{first_change}
-use Rattle.mc_igmp.proofs.ListLemmas.{is_change-not}
+use Rattle.mc_igmp.proofs.ListLemmas.{is_change-not, none_from}
 use Rattle.mc_igmp.proofs.list.first_change_of.Goals as goal
+
+pub returns-then-are_known_lasting : goal.returns-then-are_known_lasting
+returns-then-are_known_lasting c =
+    sym (none_from 1 c.args.records.now (c.if-are_known_lasting.ensures refl))
 
 pub returns-in-Change : goal.returns-in-Change
 unfolding first_change

@@ -1,5 +1,5 @@
 -- A report list, line by line: what is read is what the text stands for, and the other way round.
-use Rattle.std.proofs.Common.{◌≡◌, ◌≢◌, ℕ, ◌+◌, ◌≤◌, true, false, List, [], ◌∷◌, length, None}
+use Rattle.std.proofs.Common.{◌≡◌, ◌≢◌, ℕ, ◌+◌, ◌≤◌, true, List, [], ◌∷◌, length, None}
 use Rattle.std.proofs.Common.{Result, Ok, Err, refl, arith, ◌<◌, ◌⊎◌, ◌++◌, append_assoc}
 use Rattle.std.specs.Prelude.{◌⊎◌, IfOk}
 use Rattle.std.specs.List.{flat_map}
@@ -10,15 +10,12 @@ use Rattle.hex.specs.Hex.{decode_of}
 use Rattle.hex.proofs.HexLemmas.{decode_of-ok}
 use Rattle.mc_text.specs.Lines.{LineText, lines_of}
 use Rattle.mc_text.proofs.StepLemmas.{bind_ok, with_front}
-use Rattle.mc_igmp.specs.declared.record.Kind.{Kind}
-use Rattle.mc_igmp.specs.declared.record.Kind.TheVariants.{Change}
 use Rattle.mc_igmp.specs.declared.record.Record.{Record}
 use Rattle.mc_igmp.specs.declared.message.Message.{Message}
 use Rattle.mc_igmp.specs.declared.message.Message.TheVariants.{Report}
 use Rattle.mc_igmp.specs.declared.message.MessageFault.{MessageFault}
 use Rattle.mc_igmp.specs.declared.fault.ListFault.{ListFault}
 use Rattle.mc_igmp.specs.declared.fault.ListFaultKind.TheVariants.{BadHex, TooLarge}
-use Rattle.mc_igmp.specs.Kind.{is_change}
 use Rattle.mc_igmp.specs.ReadingList.{IsMemory, no_memory}
 use Rattle.mc_igmp.specs.Message.{records_of}
 use Rattle.mc_igmp.specs.ReadingMessage.{read_message}
@@ -29,9 +26,6 @@ use Rattle.mc_igmp.proofs.MessageLemmas.{read_message-is, read_message-again}
 use Rattle.std.proofs.lemmas.List.{append-nil}
 
 -- ---- records that tell of a change
-
-pub is_change-not : (k : Kind) → ((type : ℕ) → k ≡ Change type → ⊥) → is_change k ≡ false
-is_change-not k h = grind arith
 
 lasting_from : (number : ℕ) (rs : List Record) → first_change number rs ≡ None
     → IsTaken (Report rs)

@@ -3,7 +3,7 @@
 ghost use Rattle.std.specs.Prelude.{◌≡◌, ℕ, List, MatchResult, true};
 ghost use Rattle.mc_igmp.specs.Records.{records_in, after_records, IsWhole, AreLasting};
 
-use crate::record::{Kind, Record, split_record};
+use crate::record::{Record, split_record};
 use std::marker::Model;
 
 /// Group records, from the first. Its value in contracts is the list of those that are left.

@@ -17,7 +17,7 @@ use crate::digits::write_bytes;
 use crate::fault::{ListFault, ListFaultKind};
 use crate::group_records::GroupRecords;
 use crate::message::{Message, MessageFault};
-use crate::record::{Kind, Record};
+use crate::record::Record;
 use crate::records::Records;
 use mc_text::{Addr, Line, Lines, MAX_TEXT};
 use std::alloc::{AllocError, Global};
@@ -73,7 +73,7 @@ fn first_change_of(records: &Records<'_>) -> Option<u32>
     let mut number = 0u32;
     for record in records.iter() {
         number += 1;
-        if let Kind::Change(_) = record.kind {
+        if record.kind.is_change() {
             return Some(number);
         }
     }

@@ -42,6 +42,7 @@ impl Kind {
         }
     }
 
+    /// Whether it tells of a change.
     pub(crate) fn is_change(self) -> bool
         ensures { result ≡ is_change self }
     {

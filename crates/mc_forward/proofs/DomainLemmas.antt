@@ -10,7 +10,7 @@ use Rattle.std.specs.FinSet as set
 use Rattle.std.specs.List.Sorted.{IsStrictlyIncreasing}
 use Rattle.std.proofs.lemmas.List.{length-map}
 use Rattle.std.proofs.lemmas.Option.{slice_get_within, slice_get_read, slice_get_past}
-use Rattle.mc_tables.specs.declared.entry.Entry.{Entry}
+use Rattle.mc_tables.specs.CacheTable.{EntryText}
 use Rattle.mc_tables.specs.declared.entry.Oif.{Oif}
 use Rattle.mc_tables.specs.CacheTable.{IsEntry}
 use Rattle.mc_tables.specs.VifTable.{VifText, no_device}
@@ -103,8 +103,8 @@ map-vifs [] = refl
 map-vifs (o ∷ oifs) = ap (λ (vs : List ℕ). o.vif ∷ vs) (map-vifs oifs)
 
 -- an exact row is that of an entry
-row-entry : (wild : Bool) (o : Option Entry) (v : ℕ) (pairs : List (ℕ × ℕ))
-    → row_by wild o ≡ Exact v pairs → (entry : Entry) × (o ≡ Some entry)
+row-entry : (wild : Bool) (o : Option EntryText) (v : ℕ) (pairs : List (ℕ × ℕ))
+    → row_by wild o ≡ Exact v pairs → (entry : EntryText) × (o ≡ Some entry)
     × (pairs_of entry.oifs ≡ pairs)
 row-entry wild (Some entry) v pairs e = (entry, refl, cc)
 row-entry true None v pairs e = absurd cc
@@ -124,7 +124,7 @@ row-ascends d flow router v pairs ok e = by d ok flow router v pairs (slice_get 
     by d ok flow router v pairs (Some own) (Some f) at e =
         let found = row-entry (set.contains own.cache.wildcards f.group || set.contains
         own.cache.wildcards 0) (finite.get own.cache.entries (f.source, f.group)) v pairs e in
-        let entry = subst (λ (o : Option Entry). IfSome o IsEntry) found.1
+        let entry = subst (λ (o : Option EntryText). IfSome o IsEntry) found.1
         ((ok.tables router own at).cache.entries (f.source, f.group)) in
         subst (λ (ps : List (ℕ × ℕ)). IsStrictlyIncreasing (map (λ (p : ℕ × ℕ). p.0) ps)) found.2
         (subst IsStrictlyIncreasing (sym (map-vifs found.0.oifs)) entry.ascending)

@@ -2,7 +2,7 @@
 use Rattle.std.proofs.Common.{◌+◌, ◌<◌, ◌≤◌, List, [], ◌∷◌, map, length, arith}
 use Rattle.std.specs.List.{AllByRecursion}
 use Rattle.std.specs.List.Sorted.{IsStrictlyIncreasing}
-use Rattle.mc_tables.specs.declared.entry.Entry.{Entry}
+use Rattle.mc_tables.specs.CacheTable.{EntryText}
 use Rattle.mc_tables.specs.declared.entry.Oif.{Oif}
 use Rattle.mc_tables.specs.CacheTable.{IsEntry}
 use Rattle.mc_forward.proofs.DomainLemmas.{tail-ascends}
@@ -28,5 +28,5 @@ few [] up within = omega arith
 few (oif ∷ oifs) up within = let h = room oif oifs up within in omega (arith, h)
 
 -- an entry has at most one outgoing vif for each of the numbers 0 to 31
-pub few-oifs : (entry : Entry) → IsEntry entry → length entry.oifs ≤ 32
+pub few-oifs : (entry : EntryText) → IsEntry entry → length entry.oifs ≤ 32
 few-oifs entry ok = few entry.oifs ok.ascending ok.ranges

@@ -5,7 +5,7 @@ use Rattle.std.specs.Prelude.{◌||◌, IfSome, slice_get}
 use Rattle.std.specs.FinMap as finite
 use Rattle.std.specs.FinSet as set
 use Rattle.std.proofs.lemmas.Option.{get_or_from_slice_get, slice_get_within}
-use Rattle.mc_tables.specs.declared.entry.Entry.{Entry}
+use Rattle.mc_tables.specs.CacheTable.{EntryText}
 use Rattle.mc_tables.specs.CacheTable.{CacheText, IsEntry}
 use Rattle.mc_topology.specs.declared.flow.Flow.{Flow}
 use Rattle.mc_theory.specs.Nets.{Interface, Row}
@@ -97,7 +97,7 @@ same-tables d flow router held t kept read =
     read ∙ get_or_from_slice_get d.tables router kept.tables t kept.at_tables
 
 -- what was read behind a reference to these tables
-pub read-behind : {b t : TablesValue} (number : ℕ) {entry : Entry} → b ≡ t
+pub read-behind : {b t : TablesValue} (number : ℕ) {entry : EntryText} → b ≡ t
     → slice_get b.cache.numbered number ≡ Some entry
     → slice_get t.cache.numbered number ≡ Some entry
 read-behind {b} {t} number {entry} same read =
@@ -115,7 +115,7 @@ number-within d flow router number held t kept is read =
 
 -- and the entry is that of the flow
 entry-found : (d : DomainValue) (flow router number : ℕ) (held : RowNo) (t : TablesValue)
-    (entry : Entry) (kept : IsKeptRow d flow router held) → held ≡ Exact number
+    (entry : EntryText) (kept : IsKeptRow d flow router held) → held ≡ Exact number
     → t ≡ get_or d.tables router t → slice_get t.cache.numbered number ≡ Some entry
     → finite.get kept.tables.cache.entries (kept.item.source, kept.item.group) ≡ Some entry
 entry-found d flow router number held t entry kept is read at =
@@ -127,7 +127,7 @@ entry-found d flow router number held t entry kept is read at =
 
 -- so it is the row
 pub entry-row : (d : DomainValue) (flow router number : ℕ) (held : RowNo) (t : TablesValue)
-    (entry : Entry) → IsKeptRow d flow router held → held ≡ Exact number
+    (entry : EntryText) → IsKeptRow d flow router held → held ≡ Exact number
     → t ≡ get_or d.tables router t → slice_get t.cache.numbered number ≡ Some entry
     → exact entry.iif (pairs_of entry.oifs) ≡ row_of d flow router
 entry-row d flow router number held t entry kept is read at =
@@ -137,10 +137,10 @@ entry-row d flow router number held t entry kept is read at =
 
 -- and stands as a kernel has it
 pub entry-stands : (d : DomainValue) (flow router number : ℕ) (held : RowNo) (t : TablesValue)
-    (entry : Entry) → IsDomain d → IsKeptRow d flow router held → held ≡ Exact number
+    (entry : EntryText) → IsDomain d → IsKeptRow d flow router held → held ≡ Exact number
     → t ≡ get_or d.tables router t → slice_get t.cache.numbered number ≡ Some entry → IsEntry entry
 entry-stands d flow router number held t entry ok kept is read at =
-    subst (λ (o : Option Entry). IfSome o IsEntry)
+    subst (λ (o : Option EntryText). IfSome o IsEntry)
     (entry-found d flow router number held t entry kept is read at)
     ((ok.tables router kept.tables kept.at_tables).cache.entries
     (kept.item.source, kept.item.group))

@@ -8,7 +8,7 @@ use Rattle.std.specs.Str.{bytes_eq}
 use Rattle.std.specs.FinMap as finite
 use Rattle.std.specs.FinSet as set
 use Rattle.mc_tables.specs.declared.entry.Oif.{Oif}
-use Rattle.mc_tables.specs.declared.entry.Entry.{Entry}
+use Rattle.mc_tables.specs.CacheTable.{EntryText}
 use Rattle.mc_tables.specs.VifTable.{VifText, no_device}
 use Rattle.mc_tables.specs.VifLookups.{IsVifTable}
 use Rattle.mc_tables.specs.CacheTable.{CacheText, IsCache}
@@ -58,7 +58,7 @@ pairs_of oifs = map (λ oif. (oif.vif, oif.threshold)) oifs
 
 -- The kernel looks for the row of the source and the group first. `wild` says whether there is a
 -- resolved row for every source of the group, or for every source and every group.
-abbrev pub row_by : (wild : Bool) → Option Entry → Row
+abbrev pub row_by : (wild : Bool) → Option EntryText → Row
 row_by wild (Some entry) = Exact entry.iif (pairs_of entry.oifs)
 row_by true None = Open
 row_by false None = NoRow

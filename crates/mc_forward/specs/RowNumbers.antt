@@ -1,7 +1,7 @@
 -- The rows of routers, as a domain keeps them: an entry by its number among those of its table.
 use Rattle.std.specs.Prelude.{◌≡◌, ℕ, List, length, Some, slice_get}
 use Rattle.std.specs.FinMap as finite
-use Rattle.mc_tables.specs.declared.entry.Entry.{Entry}
+use Rattle.mc_tables.specs.CacheTable.{EntryText}
 use Rattle.mc_tables.specs.CacheTable.{CacheText}
 use Rattle.mc_topology.specs.declared.flow.Flow.{Flow}
 use Rattle.mc_theory.specs.Nets.Row.{Open as open_row, NoRow as no_row}
@@ -12,7 +12,7 @@ use Rattle.mc_forward.specs.Assembling.{EachAt}
 
 -- the number is that of the flow's entry in the cache
 pub record IsNumberOf (cache : CacheText) (f : Flow) (number : ℕ) : Type 0 where
-  pub entry : Entry
+  pub entry : EntryText
   pub found : finite.get cache.entries (f.source, f.group) ≡ Some entry
   pub numbered : slice_get cache.numbered number ≡ Some entry
 

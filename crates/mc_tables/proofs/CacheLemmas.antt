@@ -16,7 +16,7 @@ use Rattle.std.proofs.lemmas.Slice.Eq.{bytes_eq-Decides}
 use Rattle.mc_text.specs.declared.text.addr.Order.{Order}
 use Rattle.mc_text.specs.Lines.{LineText}
 use Rattle.mc_text.specs.Lines.{words_of}
-use Rattle.mc_tables.specs.declared.entry.Entry.{Entry}
+use Rattle.mc_tables.specs.CacheTable.{EntryText}
 use Rattle.mc_tables.specs.declared.fault.TableFault.{TableFault}
 use Rattle.mc_tables.specs.declared.fault.TableFaultKind.TheVariants.{Unended, BadCounter}
 use Rattle.mc_tables.specs.declared.fault.TableFaultKind.TheVariants.{BadAddress, RepeatedEntry}
@@ -46,7 +46,7 @@ number_is None i e = absurd cc
 number_is (Some n) i e = (n, refl, cc)
 
 -- the entry that is read is what the words write
-entry_found : (iif : List ℕ) (outgoing : List (List ℕ)) (i : Option ℕ) (entry : Option Entry)
+entry_found : (iif : List ℕ) (outgoing : List (List ℕ)) (i : Option ℕ) (entry : Option EntryText)
     → incoming_in iif ≡ Ok i → entry_in i outgoing ≡ Ok entry → WriteEntry iif outgoing entry
 entry_found iif [] None entry incoming e =
     let none : None ≡ entry = ok_is None entry e in
@@ -59,7 +59,7 @@ entry_found iif (word ∷ words) None entry incoming e = absurd cc
 entry_found iif outgoing (Some number) entry incoming e =
     let b = bind_ok (oifs_in outgoing)
     (λ oifs. Ok (Some (record { iif = number; oifs = oifs }))) entry e in
-    let made : Entry = record { iif = number; oifs = b.0 } in
+    let made : EntryText = record { iif = number; oifs = b.0 } in
     let same : Some made ≡ entry = ok_is (Some made) entry b.2 in
     elim (cases_Bool (bytes_eq iif (codes "-1"))) [
       | inl is ↦ absurd (let wrong = rw is at incoming in cc)
@@ -80,7 +80,7 @@ other_word iif n h =
     absurd (omega (arith, digit)))
 
 -- the entry that the words write is read
-entry_only : (iif : List ℕ) (outgoing : List (List ℕ)) (entry : Option Entry)
+entry_only : (iif : List ℕ) (outgoing : List (List ℕ)) (entry : Option EntryText)
     → WriteEntry iif outgoing entry → (i : Option ℕ) × (incoming_in iif ≡ Ok i)
     × (entry_in i outgoing ≡ Ok entry)
 entry_only iif outgoing None h =

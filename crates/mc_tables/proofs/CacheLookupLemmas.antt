@@ -6,20 +6,20 @@ use Rattle.std.specs.Option.{option_map}
 use Rattle.std.specs.List.{filter_map, cons_option, list_any}
 use Rattle.std.specs.FinMap as map
 use Rattle.std.proofs.lemmas.Bool.{cases_Bool, lt-ltb, eqb-false}
-use Rattle.mc_tables.specs.declared.entry.Entry.{Entry}
+use Rattle.mc_tables.specs.CacheTable.{EntryText}
 use Rattle.mc_tables.specs.CacheTable.{RowText, key_cmp, same_key, exact_entry, key_of}
 
 -- the entry, if it is this key's
-abbrev entry_of_key : ℕ × ℕ → Option ((ℕ × ℕ) × Entry) → Option Entry
+abbrev entry_of_key : ℕ × ℕ → Option ((ℕ × ℕ) × EntryText) → Option EntryText
 entry_of_key key None = None
 entry_of_key key (Some exact) = if same_key key exact.0 then Some exact.1 else None
 
 -- the entry of a row, if it is of this key
-abbrev entry_at : ℕ × ℕ → RowText → Option Entry
+abbrev entry_at : ℕ × ℕ → RowText → Option EntryText
 entry_at key row = entry_of_key key (exact_entry row)
 
 -- a row that has no entry for the key is passed over
-skip_entry : (key : ℕ × ℕ) (o : Option ((ℕ × ℕ) × Entry)) (rest : List ((ℕ × ℕ) × Entry))
+skip_entry : (key : ℕ × ℕ) (o : Option ((ℕ × ℕ) × EntryText)) (rest : List ((ℕ × ℕ) × EntryText))
     → entry_of_key key o ≡ None
     → map.find key_cmp key (cons_option o rest) ≡ map.find key_cmp key rest
 skip_entry key None rest e = refl
@@ -36,7 +36,7 @@ skip_row : (key : ℕ × ℕ) (row : RowText) (rows : List RowText) → entry_at
 skip_row key row rows e = skip_entry key (exact_entry row) (filter_map exact_entry rows) e
 
 -- a row's key is among the keys where the rows have an entry for it
-key_of_entry : (key : ℕ × ℕ) (o : Option ((ℕ × ℕ) × Entry)) (entries : List ((ℕ × ℕ) × Entry))
+key_of_entry : (key : ℕ × ℕ) (o : Option ((ℕ × ℕ) × EntryText)) (entries : List ((ℕ × ℕ) × EntryText))
     (keys : List (ℕ × ℕ)) → is_some (map.find key_cmp key entries) ≡ list_any (same_key key) keys
     → is_some (map.find key_cmp key (cons_option o entries))
     ≡ list_any (same_key key) (cons_option (option_map (λ exact. exact.0) o) keys)
@@ -64,7 +64,7 @@ zero_apart group origin other apart =
     rw positive refl
 
 -- an entry whose origin isn't 0 is none of (0, group)
-apart_from_zero : (group : ℕ) (row : RowText) → nat_eq row.origin 0 ≡ false → (entry : Option Entry)
+apart_from_zero : (group : ℕ) (row : RowText) → nat_eq row.origin 0 ≡ false → (entry : Option EntryText)
     → entry_of_key (0, group) (option_map (λ e. ((row.origin, row.group), e)) entry) ≡ None
 apart_from_zero group row other None = refl
 apart_from_zero group row other (Some entry) =

@@ -15,13 +15,13 @@ use Rattle.std.proofs.lemmas.Cmp.{nat_cmp_total, eq_by_cmp_equiv}
 use Rattle.std.proofs.lemmas.List.{length_push}
 use Rattle.std.specs.BTreeMap.{is_at}
 use Rattle.std.specs.Map.{lookup}
-use Rattle.mc_tables.specs.declared.entry.Entry.{Entry}
+use Rattle.mc_tables.specs.CacheTable.{EntryText}
 use Rattle.mc_tables.specs.CacheTable.{CacheText, key_cmp}
 use Rattle.mc_tables.specs.CacheNumbers.{entries_by, number_in, AreNumbers, MoreNumbers}
 use Rattle.mc_tables.proofs.CacheLemmas.{key_total, key_laws}
 
 -- the table that numbers, entries and groups make
-abbrev pub table_kept : List ((ℕ × ℕ) × ℕ) → List Entry → List ℕ → CacheText
+abbrev pub table_kept : List ((ℕ × ℕ) × ℕ) → List EntryText → List ℕ → CacheText
 table_kept numbers es groups = record {
   entries = map.from_entries (entries_by numbers es);
   numbered = es;
@@ -42,19 +42,19 @@ key_antisymmetric x y is =
     ] refl is
 
 -- looking up a key finds what the map has there
-find_looked_up : (key : ℕ × ℕ) (es : List ((ℕ × ℕ) × Entry))
+find_looked_up : (key : ℕ × ℕ) (es : List ((ℕ × ℕ) × EntryText))
     → lookup (is_at (key_cmp key)) es ≡ map.find key_cmp key es
 find_looked_up key [] = refl
 find_looked_up key (e ∷ es) =
     ap (cond (eq_by_cmp key_cmp key e.0) (Some e.1)) (find_looked_up key es)
 
 -- looking up a key among the entries finds what their map has there
-pub looked_up : (key : ℕ × ℕ) (es : List ((ℕ × ℕ) × Entry)) →
+pub looked_up : (key : ℕ × ℕ) (es : List ((ℕ × ℕ) × EntryText)) →
     lookup (is_at (key_cmp key)) es ≡ map.get (map.from_entries {R = key_cmp} es) key
 looked_up key es = find_looked_up key es ∙ sym (map.get-from_entries key_total es key)
 
 -- a number more to look through
-passed_by : (key own : ℕ × ℕ) (o : Option Entry) (rest : List ((ℕ × ℕ) × Entry))
+passed_by : (key own : ℕ × ℕ) (o : Option EntryText) (rest : List ((ℕ × ℕ) × EntryText))
     → is_at (key_cmp key) own ≡ false
     → lookup (is_at (key_cmp key)) (cons_option (option_map (λ e. (own, e)) o) rest)
     ≡ lookup (is_at (key_cmp key)) rest
@@ -62,7 +62,7 @@ passed_by key own None rest other = refl
 passed_by key own (Some e) rest other = rw other refl
 
 -- the number that is looked for
-stopped_at : (key own : ℕ × ℕ) (es : List Entry) (number : ℕ) (rest : List ((ℕ × ℕ) × Entry))
+stopped_at : (key own : ℕ × ℕ) (es : List EntryText) (number : ℕ) (rest : List ((ℕ × ℕ) × EntryText))
     → is_at (key_cmp key) own ≡ true → number < length es
     → lookup (is_at (key_cmp key))
     (cons_option (option_map (λ e. (own, e)) (slice_get es number)) rest) ≡ slice_get es number
@@ -72,7 +72,7 @@ stopped_at key own (e ∷ es) (suc number) rest same within =
     stopped_at key own es number rest same (omega (arith, within))
 
 -- a source and a group have the entry of their number
-pub by_number : (key : ℕ × ℕ) (numbers : List ((ℕ × ℕ) × ℕ)) (es : List Entry)
+pub by_number : (key : ℕ × ℕ) (numbers : List ((ℕ × ℕ) × ℕ)) (es : List EntryText)
     → IfSome (number_in numbers key) (λ number. number < length es)
     → lookup (is_at (key_cmp key)) (entries_by numbers es)
     ≡ option_and_then (slice_get es) (number_in numbers key)
@@ -97,7 +97,7 @@ by_number key (p ∷ numbers) es within =
     ]
 
 -- a number finds an entry
-finds : (es : List Entry) (o : Option ℕ) → IfSome o (λ n. n < length es)
+finds : (es : List EntryText) (o : Option ℕ) → IfSome o (λ n. n < length es)
     → is_some (option_and_then (slice_get es) o) ≡ is_some o
 finds es None within = refl
 finds [] (Some n) within = absurd (omega (arith, within))
@@ -105,7 +105,7 @@ finds (e ∷ es) (Some zero) within = refl
 finds (e ∷ es) (Some (suc n)) within = finds es (Some n) (omega (arith, within))
 
 -- a source and a group have an entry where they have a number
-pub entry_there : (key : ℕ × ℕ) (numbers : List ((ℕ × ℕ) × ℕ)) (es : List Entry)
+pub entry_there : (key : ℕ × ℕ) (numbers : List ((ℕ × ℕ) × ℕ)) (es : List EntryText)
     → AreNumbers numbers es
     → is_some (map.get (map.from_entries {R = key_cmp} (entries_by numbers es)) key)
     ≡ is_some (number_in numbers key)
@@ -114,7 +114,7 @@ entry_there key numbers es own =
     ∙ finds es (number_in numbers key) (own key)
 
 -- what a number finds stays found behind one entry more
-still_found : (es : List Entry) (entry : Entry) (o : Option ℕ) → IfSome o (λ n. n < length es)
+still_found : (es : List EntryText) (entry : EntryText) (o : Option ℕ) → IfSome o (λ n. n < length es)
     → option_and_then (slice_get (es ++ entry ∷ [])) o ≡ option_and_then (slice_get es) o
 still_found es entry None within = refl
 still_found [] entry (Some n) within = absurd (omega (arith, within))
@@ -123,7 +123,7 @@ still_found (e ∷ es) entry (Some (suc n)) within =
     still_found es entry (Some n) (omega (arith, within))
 
 -- the last number finds the last entry
-last_found : (es : List Entry) (entry : Entry)
+last_found : (es : List EntryText) (entry : EntryText)
     → slice_get (es ++ entry ∷ []) (length es) ≡ Some entry
 last_found [] entry = refl
 last_found (e ∷ es) entry = last_found es entry
@@ -134,7 +134,7 @@ below_more n None within = tt
 below_more n (Some m) within = omega (arith, within)
 
 -- with the next number and an entry more, each number is of an entry
-pub more_numbers : (key : ℕ × ℕ) (entry : Entry) (es : List Entry)
+pub more_numbers : (key : ℕ × ℕ) (entry : EntryText) (es : List EntryText)
     (numbers more : List ((ℕ × ℕ) × ℕ)) → AreNumbers numbers es
     → MoreNumbers key (length es) numbers more → AreNumbers more (es ++ entry ∷ [])
 more_numbers key entry es numbers more own grown = λ q.
@@ -150,7 +150,7 @@ more_numbers key entry es numbers more own grown = λ q.
     (subst (λ o. IfSome o (λ m. m < length es + 1)) (sym (grown q)) within)
 
 -- and the entry has the number
-pub more_answers : (key : ℕ × ℕ) (entry : Entry) (es : List Entry)
+pub more_answers : (key : ℕ × ℕ) (entry : EntryText) (es : List EntryText)
     (numbers more : List ((ℕ × ℕ) × ℕ)) → AreNumbers numbers es
     → MoreNumbers key (length es) numbers more → (q : ℕ × ℕ)
     → lookup (is_at (key_cmp q)) (entries_by more (es ++ entry ∷ []))
@@ -169,7 +169,7 @@ more_answers key entry es numbers more own grown q =
     ]
 
 -- entries that answer as those before and one more are the map with that one
-pub inserted : (key : ℕ × ℕ) (entry : Entry) (es more : List ((ℕ × ℕ) × Entry)) →
+pub inserted : (key : ℕ × ℕ) (entry : EntryText) (es more : List ((ℕ × ℕ) × EntryText)) →
     ((q : ℕ × ℕ) → lookup (is_at (key_cmp q)) more
     ≡ cond (is_at (key_cmp key) q) (Some entry) (lookup (is_at (key_cmp q)) es)) →
     map.from_entries {R = key_cmp} more ≡ map.insert (map.from_entries {R = key_cmp} es) key entry

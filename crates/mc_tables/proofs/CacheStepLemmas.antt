@@ -12,7 +12,7 @@ use Rattle.std.proofs.lemmas.Bool.{cases_Bool}
 use Rattle.std.proofs.lemmas.Cmp.{nat_cmp_total}
 use Rattle.std.proofs.lemmas.List.{append-nil, map-append}
 use Rattle.std.proofs.lemmas.List.Elements.{filter_map-append}
-use Rattle.mc_tables.specs.declared.entry.Entry.{Entry}
+use Rattle.mc_tables.specs.CacheTable.{EntryText}
 use Rattle.mc_tables.specs.declared.fault.TableFaultKind.TheVariants.{RepeatedEntry}
 use Rattle.mc_text.specs.Steps.{◌>>=◌}
 use Rattle.mc_tables.specs.Steps.{demand}
@@ -29,13 +29,13 @@ use Rattle.mc_tables.proofs.CacheMapLemmas.{key_antisymmetric}
 -- ---- one row
 
 -- an entry whose key is there is refused
-pub entry_repeated : (table : CacheText) (key : ℕ × ℕ) (entry : Entry)
+pub entry_repeated : (table : CacheText) (key : ℕ × ℕ) (entry : EntryText)
     → is_some (map.get table.entries key) ≡ true → entry_added table key entry ≡ Err RepeatedEntry
 entry_repeated table key entry repeats = rw repeats refl
 
 -- an entry whose key is new is added
-pub entry_entered : (table : CacheText) (key : ℕ × ℕ) (entry : Entry)
-    (more : map.FinMap key_cmp Entry) → is_some (map.get table.entries key) ≡ false →
+pub entry_entered : (table : CacheText) (key : ℕ × ℕ) (entry : EntryText)
+    (more : map.FinMap key_cmp EntryText) → is_some (map.get table.entries key) ≡ false →
     more ≡ map.insert table.entries key entry →
     entry_added table key entry ≡ Ok (record {
       entries = more;
@@ -45,7 +45,7 @@ pub entry_entered : (table : CacheText) (key : ℕ × ℕ) (entry : Entry)
 entry_entered table key entry more new grown = rw (new, grown) refl
 
 -- the map has a row's key where an earlier row has it
-key_repeats : (exact : Option ((ℕ × ℕ) × Entry)) (rows : List RowText) →
+key_repeats : (exact : Option ((ℕ × ℕ) × EntryText)) (rows : List RowText) →
     has_key (map.from_entries (filter_map exact_entry rows)) exact
     ≡ is_among same_key (option_map (λ e. e.0) exact) (filter_map key_of rows)
 key_repeats None rows = refl
@@ -59,7 +59,7 @@ none_is None e = refl
 none_is (Some x) e = absurd cc
 
 -- the entries of one row more
-entries_grow : (exact : Option ((ℕ × ℕ) × Entry)) (es : List ((ℕ × ℕ) × Entry)) →
+entries_grow : (exact : Option ((ℕ × ℕ) × EntryText)) (es : List ((ℕ × ℕ) × EntryText)) →
     has_key (map.from_entries es) exact ≡ false →
     map.from_entries {R = key_cmp} (es ++ cons_option exact [])
     ≡ with_exact (map.from_entries es) exact
@@ -70,7 +70,7 @@ entries_grow (Some exact) es new =
     ∙ none_is (map.get (map.from_entries {R = key_cmp} es) exact.0) new)
 
 -- the same by number
-numbers_grow : (exact : Option ((ℕ × ℕ) × Entry)) (es : List ((ℕ × ℕ) × Entry)) →
+numbers_grow : (exact : Option ((ℕ × ℕ) × EntryText)) (es : List ((ℕ × ℕ) × EntryText)) →
     map_list (λ e. e.1) (es ++ cons_option exact [])
     ≡ with_number (map_list (λ e. e.1) es) exact
 numbers_grow None es = ap (map_list (λ e. e.1)) (append-nil es)

@@ -1,7 +1,8 @@
 -- The entries of rows that were read are as a line writes them.
-use Rattle.std.proofs.Common.{◌≡◌, ℕ, ◌≤◌, Bool, true, false, cond, T, List, [], ◌∷◌, length}
+use Rattle.std.proofs.Common.{◌≡◌, ℕ, suc, ◌+◌, ◌<◌, ◌≤◌, Bool, true, false, cond, T, List, []}
+use Rattle.std.proofs.Common.{◌∷◌, length, Ok}
 use Rattle.std.proofs.Common.{Option, Some, None, refl, sym, subst, ◌∙◌, arith}
-use Rattle.std.specs.Prelude.{map, IfSome, ◌==◌, ◌&&◌}
+use Rattle.std.specs.Prelude.{map, IfSome, ◌==◌, ◌&&◌, slice_index}
 use Rattle.std.specs.List.{AllByRecursion, filter_map, cons_option}
 use Rattle.std.specs.List.Sorted.{IsStrictlyIncreasing, IsStrictlySortedBy}
 use Rattle.std.specs.Option.{option_map}
@@ -16,10 +17,13 @@ use Rattle.mc_text.specs.declared.text.addr.Order.{Order}
 use Rattle.mc_text.specs.Lines.{LineText}
 use Rattle.mc_text.specs.Lines.{words_of}
 use Rattle.mc_tables.specs.declared.entry.Oif.{Oif}
-use Rattle.mc_tables.specs.declared.entry.Entry.{Entry}
+use Rattle.mc_tables.specs.CacheTable.{EntryText}
 use Rattle.mc_tables.specs.TableLines.{EachTells}
-use Rattle.mc_tables.specs.CacheTable.{to_oif, by_vif, WritesOif, WriteEntry, RowText, WordsTellRow}
+use Rattle.mc_tables.specs.CacheTable.{to_oif, by_vif, WritesOif, WriteOifs, WriteEntry, RowText}
+use Rattle.mc_tables.specs.CacheTable.{WordsTellRow}
 use Rattle.mc_tables.specs.CacheTable.{LineTellsRow, key_cmp, same_key, exact_entry, IsEntry}
+use Rattle.mc_tables.specs.CacheReading.{oifs_in}
+use Rattle.mc_tables.proofs.OifLemmas.{oifs_found}
 
 -- ---- what stands in a map of what has P has P
 
@@ -117,21 +121,26 @@ as_oifs : (es : List (ℕ × ℕ)) → AllByRecursion InRange es
 as_oifs [] all = tt
 as_oifs (e ∷ es) all = (all.0, as_oifs es all.1)
 
--- the entry that words write is one
-entry_stands : (iif : List ℕ) (outgoing : List (List ℕ)) (entry : Option Entry)
-    → WriteEntry iif outgoing entry → IfSome entry IsEntry
-entry_stands iif outgoing None h = tt
-entry_stands iif outgoing (Some entry) h =
-    let told = told_in_range outgoing h.1.told h.1.each in
-    let same = sym h.1.ascending in
+-- outgoing vifs that words write make one, with an incoming vif up to 31
+oifs_stand : (outgoing : List (List ℕ)) (entry : EntryText) → entry.iif ≤ 31
+    → WriteOifs outgoing entry.oifs → IsEntry entry
+oifs_stand outgoing entry iif h =
+    let told = told_in_range outgoing h.told h.each in
+    let same = sym h.ascending in
     record {
-      incoming = h.0.2;
+      incoming = iif;
       ascending = subst (λ (oifs : List Oif). IsStrictlyIncreasing (map (λ oif. oif.vif) oifs)) same
-          (vifs_ascend (fin.from_entries h.1.told));
+          (vifs_ascend (fin.from_entries h.told));
       ranges = subst (AllByRecursion
           (λ oif. (oif.vif ≤ 31) × (1 ≤ oif.threshold) × (oif.threshold ≤ 254))) same
-          (as_oifs (fin.entries (fin.from_entries h.1.told)) (entries_have InRange h.1.told told));
+          (as_oifs (fin.entries (fin.from_entries h.told)) (entries_have InRange h.told told));
     }
+
+-- the entry that words write is one
+entry_stands : (iif : List ℕ) (outgoing : List (List ℕ)) (entry : Option EntryText)
+    → WriteEntry iif outgoing entry → IfSome entry IsEntry
+entry_stands iif outgoing None h = tt
+entry_stands iif outgoing (Some entry) h = oifs_stand outgoing entry h.0.2 h.1
 
 -- so is that of a row that words tell
 pub row_stands : (order : Order) (words : List (List ℕ)) (row : RowText) → WordsTellRow order words row
@@ -139,6 +148,46 @@ pub row_stands : (order : Order) (words : List (List ℕ)) (row : RowText) → W
 row_stands order (group ∷ origin ∷ iif ∷ packets ∷ bytes ∷ wrong ∷ outgoing) row h =
     entry_stands iif outgoing row.entry h.5
 row_stands order words row h = absurd h
+
+-- ---- how many outgoing vifs there are
+
+-- numbers after the first ascend as well
+pub tail-ascends : (x : ℕ) (xs : List ℕ) → IsStrictlyIncreasing (x ∷ xs) → IsStrictlyIncreasing xs
+tail-ascends x xs h i lt =
+    let e : suc i + 1 ≡ suc (i + 1) = omega arith in
+    let k : slice_index (x ∷ xs) (suc i) < slice_index (x ∷ xs) (suc i + 1) =
+    h (suc i) (omega (arith, lt)) in
+    subst (λ (j : ℕ). slice_index xs i < slice_index (x ∷ xs) j) e k
+
+abbrev AreInRange : List Oif → Type 0
+AreInRange oifs =
+    AllByRecursion (λ oif. (oif.vif ≤ 31) × (1 ≤ oif.threshold) × (oif.threshold ≤ 254)) oifs
+
+-- vifs that ascend from the first up to 31
+room : (oif : Oif) (oifs : List Oif) → IsStrictlyIncreasing (map (λ (o : Oif). o.vif) (oif ∷ oifs))
+    → AreInRange (oif ∷ oifs) → oif.vif + length (oif ∷ oifs) ≤ 32
+room oif [] up within = omega (arith, within.0.0)
+room oif (next ∷ oifs) up within =
+    let first : oif.vif < next.vif = up 0 (omega arith) in
+    let rest = room next oifs (tail-ascends oif.vif (map (λ (o : Oif). o.vif) (next ∷ oifs)) up)
+    within.1 in
+    omega (arith, first, rest)
+
+few : (oifs : List Oif) → IsStrictlyIncreasing (map (λ (o : Oif). o.vif) oifs) → AreInRange oifs
+    → length oifs ≤ 32
+few [] up within = omega arith
+few (oif ∷ oifs) up within = let h = room oif oifs up within in omega (arith, h)
+
+-- an entry has at most one outgoing vif for each of the numbers 0 to 31
+pub few-oifs : (entry : EntryText) → IsEntry entry → length entry.oifs ≤ 32
+few-oifs entry ok = few entry.oifs ok.ascending ok.ranges
+
+-- so have words that are read as outgoing vifs
+pub few_read : (words : List (List ℕ)) (oifs : List Oif) → oifs_in words ≡ Ok oifs
+    → length oifs ≤ 32
+few_read words oifs e =
+    let entry : EntryText = record { iif = 0; oifs = oifs } in
+    few-oifs entry (oifs_stand words entry (omega arith) (oifs_found words oifs e))
 
 -- ---- the entries of a table
 
@@ -156,7 +205,7 @@ rows_stand order (line ∷ lines) (row ∷ rows) told =
     (row_stands order (words_of line.bytes) row told.0.words, rows_stand order lines rows told.1)
 
 -- what is found is the first entry, or one of the others
-find_stands : (key : ℕ × ℕ) (o : Option ((ℕ × ℕ) × Entry)) (rest : List ((ℕ × ℕ) × Entry))
+find_stands : (key : ℕ × ℕ) (o : Option ((ℕ × ℕ) × EntryText)) (rest : List ((ℕ × ℕ) × EntryText))
     → IfSome o (λ exact. IsEntry exact.1) → IfSome (fin.find key_cmp key rest) IsEntry
     → IfSome (fin.find key_cmp key (cons_option o rest)) IsEntry
 find_stands key None rest stands others = others
@@ -168,8 +217,8 @@ find_stands key (Some exact) rest stands others =
     ]
 
 -- a row for one source has its entry, and one for every source none
-exact_stands : (b : Bool) (key : ℕ × ℕ) (entry : Option Entry) → IfSome entry IsEntry
-    → IfSome {T = (ℕ × ℕ) × Entry} (cond b None (option_map (λ e. (key, e)) entry))
+exact_stands : (b : Bool) (key : ℕ × ℕ) (entry : Option EntryText) → IfSome entry IsEntry
+    → IfSome {T = (ℕ × ℕ) × EntryText} (cond b None (option_map (λ e. (key, e)) entry))
     (λ exact. IsEntry exact.1)
 exact_stands true key entry stands = tt
 exact_stands false key None stands = tt

@@ -6,7 +6,7 @@ use Rattle.std.specs.Prelude.{not, filter}
 use Rattle.std.specs.List.{filter_map, cons_option, list_any}
 use Rattle.std.specs.Option.{option_map}
 use Rattle.std.proofs.lemmas.Bool.{cases_Bool}
-use Rattle.mc_tables.specs.declared.entry.Entry.{Entry}
+use Rattle.mc_tables.specs.CacheTable.{EntryText}
 use Rattle.mc_tables.specs.TableLines.{is_among}
 use Rattle.mc_tables.specs.CacheTable.{RowText, same_key}
 use Rattle.mc_tables.specs.CacheTable.{key_of}
@@ -95,10 +95,10 @@ kept_repeats listed rows None is = refl
 kept_repeats listed rows (Some key) is = kept_among listed key rows is
 
 -- a row that isn't kept has a source and a group
-pub other_key : (listed : Listed) (row : RowText) (b : Bool) (entry : Option Entry)
-    → is_kept_key listed (option_map (λ (exact : (ℕ × ℕ) × Entry). exact.0)
+pub other_key : (listed : Listed) (row : RowText) (b : Bool) (entry : Option EntryText)
+    → is_kept_key listed (option_map (λ (exact : (ℕ × ℕ) × EntryText). exact.0)
     (cond b None (option_map (λ e. ((row.origin, row.group), e)) entry))) ≡ false
-    → (option_map (λ (exact : (ℕ × ℕ) × Entry). exact.0)
+    → (option_map (λ (exact : (ℕ × ℕ) × EntryText). exact.0)
     (cond b None (option_map (λ e. ((row.origin, row.group), e)) entry))
     ≡ Some (row.origin, row.group)) × (is_listed listed (row.origin, row.group) ≡ false)
 other_key listed row true entry e = absurd cc

@@ -12,6 +12,7 @@ pub mod ColonLemmas
 pub mod RowWordLemmas
 pub mod OifLemmas
 pub mod EntryLemmas
+pub mod FlatLemmas
 pub mod CacheLemmas
 pub mod CacheLookupLemmas
 pub mod CacheMapLemmas

@@ -9,7 +9,7 @@ use Rattle.std.specs.FinMap as map
 use Rattle.std.specs.FinSet as set
 use Rattle.std.proofs.lemmas.Bool.{cases_Bool}
 use Rattle.mc_text.specs.declared.text.addr.Order.{Order}
-use Rattle.mc_tables.specs.declared.entry.Entry.{Entry}
+use Rattle.mc_tables.specs.CacheTable.{EntryText}
 use Rattle.mc_tables.specs.declared.fault.TableFault.{TableFault}
 use Rattle.mc_text.specs.Steps.{◌>>=◌}
 use Rattle.mc_tables.specs.CacheTable.{RowText, CacheText, key_cmp, exact_entry}
@@ -25,11 +25,11 @@ use Rattle.mc_tables.proofs.KeptRowLemmas.{differ}
 
 -- one row more to search for a listed source and group
 listed_step : (listed : Listed) (key : ℕ × ℕ) (row : RowText) (kept rows : List RowText)
-    (own : Option ((ℕ × ℕ) × Entry)) → exact_entry row ≡ own → is_listed listed key ≡ true
+    (own : Option ((ℕ × ℕ) × EntryText)) → exact_entry row ≡ own → is_listed listed key ≡ true
     → map.find key_cmp key (filter_map exact_entry kept)
     ≡ map.find key_cmp key (filter_map exact_entry rows)
     → map.find key_cmp key (filter_map exact_entry
-    (cond (is_kept_key listed (option_map (λ (e : (ℕ × ℕ) × Entry). e.0) own)) (row ∷ kept) kept))
+    (cond (is_kept_key listed (option_map (λ (e : (ℕ × ℕ) × EntryText). e.0) own)) (row ∷ kept) kept))
     ≡ map.find key_cmp key (cons_option own (filter_map exact_entry rows))
 listed_step listed key row kept rows None own is rest = rw own rest
 listed_step listed key row kept rows (Some exact) own is rest =
@@ -49,10 +49,10 @@ listed_found listed key (row ∷ rows) is =
 
 -- one row more to search for another source and group
 other_step : (listed : Listed) (key : ℕ × ℕ) (row : RowText) (kept : List RowText)
-    (own : Option ((ℕ × ℕ) × Entry)) → exact_entry row ≡ own → is_listed listed key ≡ false
+    (own : Option ((ℕ × ℕ) × EntryText)) → exact_entry row ≡ own → is_listed listed key ≡ false
     → map.find key_cmp key (filter_map exact_entry kept) ≡ None
     → map.find key_cmp key (filter_map exact_entry
-    (cond (is_kept_key listed (option_map (λ (e : (ℕ × ℕ) × Entry). e.0) own)) (row ∷ kept) kept))
+    (cond (is_kept_key listed (option_map (λ (e : (ℕ × ℕ) × EntryText). e.0) own)) (row ∷ kept) kept))
     ≡ None
 other_step listed key row kept None own is rest = rw own rest
 other_step listed key row kept (Some exact) own is rest =
@@ -72,8 +72,8 @@ other_absent listed key (row ∷ rows) is =
 -- ---- rows for every source
 
 -- a row that isn't kept is for one source
-for_one_source : (listed : Listed) (row : RowText) (b : Bool) (entry : Option Entry)
-    → is_kept_key listed (option_map (λ (exact : (ℕ × ℕ) × Entry). exact.0)
+for_one_source : (listed : Listed) (row : RowText) (b : Bool) (entry : Option EntryText)
+    → is_kept_key listed (option_map (λ (exact : (ℕ × ℕ) × EntryText). exact.0)
     (cond b None (option_map (λ e. ((row.origin, row.group), e)) entry))) ≡ false
     → cond b (option_map (λ _. row.group) entry) None ≡ None
 for_one_source listed row true entry e = absurd cc

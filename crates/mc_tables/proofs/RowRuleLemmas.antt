@@ -10,7 +10,7 @@ use Rattle.std.specs.Ordering.{nat_cmp}
 use Rattle.std.proofs.lemmas.Bool.{cases_Bool}
 use Rattle.mc_text.specs.Lines.{LineText, numbered}
 use Rattle.mc_text.specs.Lines.{words_of}
-use Rattle.mc_tables.specs.declared.entry.Entry.{Entry}
+use Rattle.mc_tables.specs.CacheTable.{EntryText}
 use Rattle.mc_tables.specs.declared.fault.TableFaultKind.{TableFaultKind}
 use Rattle.mc_tables.specs.declared.fault.TableFaultKind.TheVariants.{Unended, RepeatedEntry}
 use Rattle.mc_tables.specs.declared.fault.TableFaultKind.TheVariants.{TooLarge}
@@ -23,7 +23,7 @@ use Rattle.mc_tables.specs.CacheSteps.{row_with_room, row_added, has_key, with_e
 use Rattle.mc_tables.specs.CacheSteps.{with_number, with_wildcard}
 use Rattle.mc_tables.specs.ListedRows.{ListedSet, is_kept_by}
 use Rattle.mc_tables.specs.RowsSoFar.{RowsSoFar, other_added, kept_added, one_added, ListedSoFar}
-use Rattle.mc_tables.specs.RowsSoFar.{listed_added}
+use Rattle.mc_tables.specs.RowsSoFar.{listed_added, line_added}
 use Rattle.mc_text.proofs.StepLemmas.{bind_ok, ok_is}
 use Rattle.mc_tables.proofs.StepLemmas.{demand_then}
 use Rattle.mc_tables.proofs.CacheLemmas.{key_total, row_words_found}
@@ -32,14 +32,14 @@ use Rattle.mc_tables.proofs.EntryLemmas.{row_stands}
 use Rattle.mc_tables.proofs.RuleLemmas.{cache_rules}
 
 -- an entry that is one, if it is for a source, may be added
-exact_keeps : (entries : fin.FinMap key_cmp Entry) (source group : ℕ) (entry : Entry)
+exact_keeps : (entries : fin.FinMap key_cmp EntryText) (source group : ℕ) (entry : EntryText)
     → eqb source 0 ≡ false → IsEntry entry
     → ((key : ℕ × ℕ) → IfSome (fin.get entries key) IsEntry)
     → ((other : ℕ) → fin.get entries (0, other) ≡ None)
     → ((key : ℕ × ℕ) → IfSome (fin.get (fin.insert entries (source, group) entry) key) IsEntry)
     × ((other : ℕ) → fin.get (fin.insert entries (source, group) entry) (0, other) ≡ None)
 exact_keeps entries source group entry apart stands all none = (
-  λ key. subst (λ (o : Option Entry). IfSome o IsEntry)
+  λ key. subst (λ (o : Option EntryText). IfSome o IsEntry)
       (sym (fin.get-insert key_total entries (source, group) entry key))
       (elim (same_key key (source, group)) as
       (λ b. IfSome (cond b (Some entry) (fin.get entries key)) IsEntry) [
@@ -52,8 +52,8 @@ exact_keeps entries source group entry apart stands all none = (
 )
 
 -- and so may a row's
-entry_keeps : (table : CacheText) (source group : ℕ) (b : Bool) (entry : Option Entry)
-    (numbered : List Entry) (wildcards : set.FinSet nat_cmp) → eqb source 0 ≡ b
+entry_keeps : (table : CacheText) (source group : ℕ) (b : Bool) (entry : Option EntryText)
+    (numbered : List EntryText) (wildcards : set.FinSet nat_cmp) → eqb source 0 ≡ b
     → IfSome entry IsEntry → IsCache table
     → IsCache (record {
       entries = with_exact table.entries
@@ -108,11 +108,14 @@ one_keeps listed rows new row line is stands rules =
     ]
 
 -- the table keeps the rules with a line's row
-pub row_keeps : (so_far new : ListedSoFar) (line : LineText) (row : RowText)
-    → row_with_room so_far.order so_far.rows.count line ≡ Ok row
-    → listed_added so_far row line.number ≡ Ok new → IsCache so_far.rows.table
-    → IsCache new.rows.table
-row_keeps so_far new line row read added rules =
+pub line_keeps : (so_far new : ListedSoFar) (line : LineText) → line_added so_far line ≡ Ok new
+    → IsCache so_far.rows.table → IsCache new.rows.table
+line_keeps so_far new line is rules =
+    let both = bind_ok (row_with_room so_far.order so_far.rows.count line)
+    (λ row. listed_added so_far row line.number) new is in
+    let row = both.0 in
+    let read = both.1 in
+    let added = both.2 in
     let make : RowsSoFar → ListedSoFar = λ r.
     record { order = so_far.order; listed = so_far.listed; rows = r } in
     let one = bind_ok (one_added so_far.listed so_far.rows row line.number) (λ r. Ok (make r)) new

@@ -9,7 +9,7 @@ use Rattle.std.specs.FinMap.{FinMap, from_entries, get-from_entries}
 use Rattle.std.proofs.lemmas.Bool.{both_ways}
 use Rattle.std.proofs.lemmas.Slice.Eq.{bytes_eq-Decides}
 use Rattle.mc_text.specs.declared.text.addr.Order.{Order}
-use Rattle.mc_tables.specs.declared.entry.Entry.{Entry}
+use Rattle.mc_tables.specs.CacheTable.{EntryText}
 use Rattle.mc_tables.specs.VifTable.{VifText, no_device, device_of}
 use Rattle.mc_tables.specs.VifLookups.{HasDevice, IsVifTable, first_index_with}
 use Rattle.mc_tables.specs.CacheTable.{RowText, CacheText, IsEntry, IsCache, StandsForCache}
@@ -39,7 +39,7 @@ pub cache_rules : (rows : List RowText) → HaveEntries rows → IsCache (table_
 cache_rules rows stand =
     let at = λ (key : ℕ × ℕ). sym (get-from_entries key_total (filter_map exact_entry rows) key) in
     record {
-      entries = λ key. subst (λ (o : Option Entry). IfSome o IsEntry) (at key)
+      entries = λ key. subst (λ (o : Option EntryText). IfSome o IsEntry) (at key)
           (found_stands key rows stand);
       sources = λ group. sym (at (0, group)) ∙ zero_absent group rows;
     }

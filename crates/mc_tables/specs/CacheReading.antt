@@ -9,7 +9,7 @@ use Rattle.mc_text.specs.declared.text.addr.Order.{Order}
 use Rattle.mc_text.specs.Lines.{LineText}
 use Rattle.mc_text.specs.Lines.{words_of}
 use Rattle.mc_tables.specs.declared.entry.Oif.{Oif}
-use Rattle.mc_tables.specs.declared.entry.Entry.{Entry}
+use Rattle.mc_tables.specs.CacheTable.{EntryText}
 use Rattle.mc_tables.specs.declared.fault.TableFault.{TableFault}
 use Rattle.mc_tables.specs.declared.fault.TableFaultKind.{TableFaultKind}
 use Rattle.mc_tables.specs.declared.fault.TableFaultKind.TheVariants.{Unended, WordCount}
@@ -62,7 +62,7 @@ abbrev pub incoming_in : List ℕ → Result (Option ℕ) TableFaultKind
 incoming_in word =
     if bytes_eq word (codes "-1") then Ok None else incoming_number (number_in 0 31 word)
 
-abbrev pub entry_in : Option ℕ → List (List ℕ) → Result (Option Entry) TableFaultKind
+abbrev pub entry_in : Option ℕ → List (List ℕ) → Result (Option EntryText) TableFaultKind
 entry_in None [] = Ok None
 entry_in None (word ∷ words) = Err BadOif
 entry_in (Some iif) words = oifs_in words >>= λ oifs. Ok (Some (record { iif = iif; oifs = oifs }))

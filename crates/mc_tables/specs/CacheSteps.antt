@@ -7,7 +7,7 @@ use Rattle.std.specs.Ordering.{nat_cmp}
 use Rattle.mc_text.specs.declared.text.addr.Order.{Order}
 use Rattle.mc_text.specs.Lines.{LineText}
 use Rattle.mc_text.specs.Lines.{words_of}
-use Rattle.mc_tables.specs.declared.entry.Entry.{Entry}
+use Rattle.mc_tables.specs.CacheTable.{EntryText}
 use Rattle.mc_tables.specs.declared.fault.TableFaultKind.{TableFaultKind}
 use Rattle.mc_tables.specs.declared.fault.TableFaultKind.TheVariants.{Unended, TooLarge}
 use Rattle.mc_tables.specs.declared.fault.TableFaultKind.TheVariants.{RepeatedEntry}
@@ -17,18 +17,18 @@ use Rattle.mc_tables.specs.CacheTable.{RowText, CacheText, key_cmp, exact_entry,
 use Rattle.mc_tables.specs.CacheReading.{row_in_words}
 
 -- the map has the entry's key, if it is one
-abbrev pub has_key : map.FinMap key_cmp Entry → Option ((ℕ × ℕ) × Entry) → Bool
+abbrev pub has_key : map.FinMap key_cmp EntryText → Option ((ℕ × ℕ) × EntryText) → Bool
 has_key entries None = false
 has_key entries (Some exact) = is_some (map.get entries exact.0)
 
 -- one entry more, if it is one
-abbrev pub with_exact : map.FinMap key_cmp Entry → Option ((ℕ × ℕ) × Entry)
-    → map.FinMap key_cmp Entry
+abbrev pub with_exact : map.FinMap key_cmp EntryText → Option ((ℕ × ℕ) × EntryText)
+    → map.FinMap key_cmp EntryText
 with_exact entries None = entries
 with_exact entries (Some exact) = map.insert entries exact.0 exact.1
 
 -- one entry more by number, if it is one
-abbrev pub with_number : List Entry → Option ((ℕ × ℕ) × Entry) → List Entry
+abbrev pub with_number : List EntryText → Option ((ℕ × ℕ) × EntryText) → List EntryText
 with_number entries None = entries
 with_number entries (Some exact) = entries ++ exact.1 ∷ []
 
@@ -48,7 +48,7 @@ row_added table row = do
   })
 
 -- an entry more, if its source and group are new
-abbrev pub entry_added : CacheText → ℕ × ℕ → Entry → Result CacheText TableFaultKind
+abbrev pub entry_added : CacheText → ℕ × ℕ → EntryText → Result CacheText TableFaultKind
 entry_added table key entry = do
   _ ← demand (not (is_some (map.get table.entries key))) RepeatedEntry
   Ok (record {

@@ -15,7 +15,6 @@ use Rattle.mc_text.specs.declared.text.addr.Order.{Order}
 use Rattle.mc_text.specs.Lines.{LineText}
 use Rattle.mc_text.specs.Lines.{words_of}
 use Rattle.mc_tables.specs.declared.entry.Oif.{Oif}
-use Rattle.mc_tables.specs.declared.entry.Entry.{Entry}
 use Rattle.mc_tables.specs.TableWords.{is_counter, WritesNumber, WritesAddress}
 use Rattle.mc_tables.specs.TableLines.{HasHeader, EachTells}
 
@@ -43,8 +42,13 @@ pub record WriteOifs (words : List (List ℕ)) (oifs : List Oif) : Type 0 where
   pub vifs_differ : IsDistinct nat_eq (map_list (λ oif. oif.0) told)
   pub ascending : oifs ≡ by_vif (map.from_entries told)
 
+-- what a resolved row says: the incoming vif, and the outgoing ones by ascending vif
+pub record EntryText : Type 0 where
+  pub iif : ℕ
+  pub oifs : List Oif
+
 -- the word of an incoming vif and the outgoing words: `-1` alone in an unresolved row
-abbrev pub WriteEntry : List ℕ → List (List ℕ) → Option Entry → Type 0
+abbrev pub WriteEntry : List ℕ → List (List ℕ) → Option EntryText → Type 0
 WriteEntry iif outgoing None = (iif ≡ codes "-1") × (outgoing ≡ [])
 WriteEntry iif outgoing (Some entry) =
     WritesNumber 0 31 iif entry.iif × WriteOifs outgoing entry.oifs
@@ -54,7 +58,7 @@ WriteEntry iif outgoing (Some entry) =
 pub record RowText : Type 0 where
   pub group : ℕ
   pub origin : ℕ
-  pub entry : Option Entry
+  pub entry : Option EntryText
 
 -- Words tell a row: group, origin, incoming vif, packets, bytes, packets from a wrong vif, and the
 -- outgoing vifs.
@@ -80,7 +84,7 @@ abbrev pub same_key : ℕ × ℕ → ℕ × ℕ → Bool
 same_key = eq_by_cmp key_cmp
 
 -- the source, the group and the entry of a resolved row whose source isn't 0.0.0.0
-abbrev pub exact_entry : RowText → Option ((ℕ × ℕ) × Entry)
+abbrev pub exact_entry : RowText → Option ((ℕ × ℕ) × EntryText)
 exact_entry row =
     if row.origin == 0 then None
     else option_map (λ entry. ((row.origin, row.group), entry)) row.entry
@@ -105,8 +109,8 @@ pub record AreCacheRows (order : Order) (text : List ℕ) (rows : List RowText) 
 -- the entries by source and group, the same entries in the order of their lines, so that each has a
 -- number, and the groups of the rows for every source
 pub record CacheText : Type 0 where
-  pub entries : map.FinMap key_cmp Entry
-  pub numbered : List Entry
+  pub entries : map.FinMap key_cmp EntryText
+  pub numbered : List EntryText
   pub wildcards : set.FinSet nat_cmp
 
 abbrev pub table_of : List RowText → CacheText
@@ -118,7 +122,7 @@ table_of rows = record {
 
 -- What each entry of a table is: vifs from 0 to 31, of which the outgoing ones ascend, so that none
 -- stands twice, and thresholds from 1 to 254.
-pub record IsEntry (entry : Entry) : Type 0 where
+pub record IsEntry (entry : EntryText) : Type 0 where
   pub incoming : entry.iif ≤ 31
   pub ascending : IsStrictlyIncreasing (map_list (λ oif. oif.vif) entry.oifs)
   pub ranges : AllByRecursion
@@ -142,14 +146,14 @@ oif_code =
     code_by (ℕ × ℕ) (coded× coded_ℕ coded_ℕ) (λ o. (o.vif, o.threshold))
     (λ p. record { vif = p.0; threshold = p.1 }) (λ _. refl)
 
-abbrev pub entry_code : Coded Entry
+abbrev pub entry_code : Coded EntryText
 entry_code =
     code_by (ℕ × List Oif) (coded× coded_ℕ (coded_list oif_code)) (λ e. (e.iif, e.oifs))
     (λ p. record { iif = p.0; oifs = p.1 }) (λ _. refl)
 
 abbrev pub cache_code : Coded CacheText
 cache_code =
-    code_by (map.FinMap key_cmp Entry × (List Entry × set.FinSet nat_cmp))
+    code_by (map.FinMap key_cmp EntryText × (List EntryText × set.FinSet nat_cmp))
     (coded× (map.code (coded× coded_ℕ coded_ℕ) entry_code)
     (coded× (coded_list entry_code) (set.code coded_ℕ)))
     (λ t. (t.entries, (t.numbered, t.wildcards)))

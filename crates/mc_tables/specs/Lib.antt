@@ -1,6 +1,7 @@
 pub mod Steps
 pub mod TableWords
 pub mod TableLines
+pub mod FlatRows
 pub mod LinesSoFar
 pub mod VifTable
 pub mod VifReading

@@ -1,20 +1,20 @@
 //! One line of `/proc/net/ip_mr_cache`.
 
-ghost use Rattle.std.specs.Prelude.{◌≡◌, ◌≢◌, ◌<◌, length, IfSome, IfNone, None, Err};
+ghost use Rattle.std.specs.Prelude.{◌≡◌, ◌≢◌, [], ◌<◌, ◌≤◌, length, OnOk, IfOk, IfErr, IfSome, IfNone, None, Ok, Err};
 ghost use Rattle.std.specs.Option.{ok_or};
 ghost use Rattle.mc_text.specs.Lines.{words_of};
 ghost use Rattle.mc_tables.specs.declared.fault.TableFaultKind.TheVariants.{Memory, BadAddress};
 ghost use Rattle.mc_tables.specs.TableWords.{address_in};
 ghost use Rattle.mc_tables.specs.CacheReading.{incoming_in, entry_in, row_in_words};
+ghost use Rattle.mc_tables.specs.FlatRows.{entry_with, row_with};
 ghost use Rattle.mc_tables.specs.RowWords.{words_before};
 
 use crate::cache_row::CacheRow;
-use crate::entry::Entry;
+use crate::entry::Oif;
 use crate::fault::TableFaultKind;
-use crate::outgoing::oifs_of_words;
+use crate::outgoing::read_oifs;
 use crate::table_words::{MAX_VIF, check_counter, number, three_words};
 use mc_text::{Addr, Order, Words};
-use std::alloc::Global;
 
 /// The word of an incoming vif in an unresolved row.
 const UNRESOLVED: &[u8] = b"-1";
@@ -30,14 +30,23 @@ pub struct CacheWords<'a> {
     pub wrong: &'a [u8],
 }
 
-/// Reads a row.
+/// Reads a row, and puts its outgoing vifs by ascending vif in the place of those that were there.
 #[tactic(auto, using(crate::proofs::RowWordLemmas::few_words))]
-pub fn row_of_line(alloc: Global, line: &[u8], order: Order) -> Result<CacheRow, TableFaultKind>
-    ensures { result ≢ Err Memory → result ≡ row_in_words order (words_of line.now) }
+pub fn read_row(
+    line: &[u8],
+    order: Order,
+    oifs: &mut Vec<Oif>,
+) -> Result<CacheRow, TableFaultKind>
+    ensures few { OnOk result (length oifs.new.items ≤ 32) }
+    ensures read { IfOk result (λ row.
+        row_in_words order (words_of line.now) ≡ Ok (row_with row oifs.new.items)) }
+    ensures fault { IfErr result (λ fault. fault ≢ Memory →
+        row_in_words order (words_of line.now) ≡ Err fault) }
 {
+    oifs.clear();
     let mut words = Words::new(line);
     let first = first_words(&mut words).ok_or(TableFaultKind::WordCount)?;
-    row_of_words(alloc, &first, words, order)
+    read_words(&first, words, order, oifs)
 }
 
 /// The six words before the outgoing ones, if they are there.
@@ -58,14 +67,19 @@ fn first_words<'a>(words: &mut Words<'a>) -> Option<CacheWords<'a>>
 }
 
 #[tactic(auto, unfolding(crate::specs::CacheReading::row_in_words))]
-fn row_of_words(
-    alloc: Global,
+fn read_words(
     first: &CacheWords<'_>,
     outgoing: Words<'_>,
     order: Order,
+    oifs: &mut Vec<Oif>,
 ) -> Result<CacheRow, TableFaultKind>
-    ensures { result ≢ Err Memory →
-        result ≡ row_in_words order (words_before first.now outgoing.entry) }
+    requires { oifs.old.items ≡ [] }
+    ensures few { OnOk result (length oifs.new.items ≤ 32) }
+    ensures read { IfOk result (λ row.
+        row_in_words order (words_before first.now outgoing.entry)
+        ≡ Ok (row_with row oifs.new.items)) }
+    ensures fault { IfErr result (λ fault. fault ≢ Memory →
+        row_in_words order (words_before first.now outgoing.entry) ≡ Err fault) }
 {
     let group = address(first.group, order)?;
     let origin = address(first.origin, order)?;
@@ -73,12 +87,8 @@ fn row_of_words(
     check_counter(first.packets)?;
     check_counter(first.bytes)?;
     check_counter(first.wrong)?;
-    let entry = entry_of_words(alloc, iif, outgoing)?;
-    Ok(CacheRow {
-        group,
-        origin,
-        entry,
-    })
+    read_entry(iif, outgoing, oifs)?;
+    Ok(CacheRow { group, origin, iif })
 }
 
 fn address(word: &[u8], order: Order) -> Result<Addr, TableFaultKind>
@@ -98,28 +108,29 @@ fn incoming_vif(word: &[u8]) -> Result<Option<u8>, TableFaultKind>
     Ok(Some(iif))
 }
 
-/// What a row says of an incoming vif and its outgoing ones. An unresolved row has none.
-fn entry_of_words(
-    alloc: Global,
+/// Reads the outgoing vifs of a row with this incoming one. An unresolved row has none.
+fn read_entry(
     iif: Option<u8>,
     outgoing: Words<'_>,
-) -> Result<Option<Entry>, TableFaultKind>
-    ensures { result ≢ Err Memory → result ≡ entry_in iif outgoing.entry }
+    oifs: &mut Vec<Oif>,
+) -> Result<(), TableFaultKind>
+    requires { oifs.old.items ≡ [] }
+    ensures few { OnOk result (length oifs.new.items ≤ 32) }
+    ensures read { OnOk result (entry_in iif outgoing.entry ≡ Ok (entry_with iif oifs.new.items)) }
+    ensures fault { IfErr result (λ fault. fault ≢ Memory → entry_in iif outgoing.entry ≡ Err fault) }
 {
     match iif {
-        Some(iif) => {
-            let oifs = oifs_of_words(alloc, outgoing)?;
-            Ok(Some(Entry { iif, oifs }))
-        }
-        None => no_entry(outgoing),
+        Some(_) => read_oifs(outgoing, oifs),
+        None => check_no_oif(outgoing),
     }
 }
 
-fn no_entry(mut outgoing: Words<'_>) -> Result<Option<Entry>, TableFaultKind>
-    ensures { result ≡ entry_in None outgoing.entry }
+fn check_no_oif(mut outgoing: Words<'_>) -> Result<(), TableFaultKind>
+    ensures read { OnOk result (entry_in None outgoing.entry ≡ Ok None) }
+    ensures fault { IfErr result (λ fault. entry_in None outgoing.entry ≡ Err fault) }
 {
     match outgoing.next() {
         Some(_) => Err(TableFaultKind::BadOif),
-        None => Ok(None),
+        None => Ok(()),
     }
 }

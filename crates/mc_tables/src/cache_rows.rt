@@ -7,11 +7,13 @@ ghost use Rattle.std.specs.FinSet as set;
 ghost use Rattle.mc_tables.specs.declared.fault.TableFaultKind.TheVariants.{Memory};
 ghost use Rattle.mc_tables.specs.CacheTable.{table_of};
 ghost use Rattle.mc_tables.specs.CacheSteps.{row_added, entry_added, group_added};
+ghost use Rattle.mc_tables.specs.FlatRows.{row_with};
 ghost use Rattle.mc_tables.specs.ListedRows.{is_in, is_kept_by};
 
 use crate::cache_row::CacheRow;
-use crate::entry::Entry;
+use crate::entry::{Entry, Oif};
 use crate::fault::TableFaultKind;
+use crate::flat_entries::{EntryHead, entry_at, push_entry};
 use crate::key_numbers::KeyNumbers;
 use crate::listed_numbers::Numbered;
 use mc_text::Addr;
@@ -24,7 +26,9 @@ use std::marker::Model;
 /// aren't kept.
 #[derive(Debug)]
 pub struct CacheRows {
-    entries: Vec<Entry>,
+    heads: Vec<EntryHead>,
+    // those of all entries, one after another
+    oifs: Vec<Oif>,
     numbers: KeyNumbers,
     wildcards: BTreeSet<Addr>,
 }
@@ -33,7 +37,8 @@ pub struct CacheRows {
 impl Drop for CacheRows {
     fn drop(self) {
         let Self {
-            entries,
+            heads,
+            oifs,
             numbers,
             wildcards,
         } = self;
@@ -46,6 +51,7 @@ impl Model for CacheRows {
     ghost use Rattle.std.specs.FinSet as set;
     ghost use Rattle.mc_tables.specs.CacheTable.{cache_code};
     ghost use Rattle.mc_tables.specs.CacheNumbers.{entries_by, AreNumbers, KeptText};
+    ghost use Rattle.mc_tables.specs.FlatRows.{entries_of, AreFlat};
     ghost use Rattle.mc_tables.specs.ListedRows.{pairs_code};
 
     ghost Value = { KeptText };
@@ -54,14 +60,17 @@ impl Model for CacheRows {
 
     ghost view = { λ rows. record {
       table = record {
-        entries = map.from_entries (entries_by rows.numbers.numbers rows.entries.items);
-        numbered = rows.entries.items;
+        entries = map.from_entries
+            (entries_by rows.numbers.numbers (entries_of rows.heads.items rows.oifs.items));
+        numbered = entries_of rows.heads.items rows.oifs.items;
         wildcards = set.from_list rows.wildcards.keys;
       };
       listed = rows.numbers.listed;
     } };
 
-    ghost invariant = { λ rows. AreNumbers rows.numbers.numbers rows.entries.items };
+    ghost invariant = { λ rows.
+        AreNumbers rows.numbers.numbers (entries_of rows.heads.items rows.oifs.items)
+        × AreFlat rows.heads.items rows.oifs.items };
 }
 
 impl CacheRows {
@@ -71,36 +80,36 @@ impl CacheRows {
         ensures { result ≡ record { table = table_of []; listed = numbers.listed } }
     {
         CacheRows {
-            entries: Vec::new(alloc),
+            heads: Vec::new(alloc),
+            oifs: Vec::new(alloc),
             numbers,
             wildcards: BTreeSet::new(alloc),
         }
     }
 
-    /// Adds a row if it is kept, and answers whether it is. After an error the rows are of no use.
-    pub fn add(&mut self, row: CacheRow) -> Result<bool, TableFaultKind>
-        requires { length self.old.table.numbered < 65536 }
-        ensures kept { IfOk result (λ kept. kept ≡ is_kept_by self.old.listed row) }
+    /// Adds a row with its outgoing vifs if it is kept, and answers whether it is. After an error
+    /// the rows are of no use.
+    pub fn add(&mut self, row: &CacheRow, oifs: &[Oif]) -> Result<bool, TableFaultKind>
+        requires room { length self.old.table.numbered < 65536 }
+        requires few { length oifs.now ≤ 32 }
+        ensures kept { IfOk result (λ kept.
+            kept ≡ is_kept_by self.old.listed (row_with row.now oifs.now)) }
         ensures added { IfOk result (λ kept. kept ≡ true →
-            row_added self.old.table row ≡ Ok self.new.table) }
+            row_added self.old.table (row_with row.now oifs.now) ≡ Ok self.new.table) }
         ensures other { IfOk result (λ kept. kept ≡ false → self.new.table ≡ self.old.table) }
         ensures fault { IfErr result (λ fault. fault ≢ Memory →
-            (is_kept_by self.old.listed row ≡ true) × (row_added self.old.table row ≡ Err fault)) }
+            (is_kept_by self.old.listed (row_with row.now oifs.now) ≡ true)
+            × (row_added self.old.table (row_with row.now oifs.now) ≡ Err fault)) }
         ensures listed { self.new.listed ≡ self.old.listed }
         ensures room { length self.new.table.numbered ≤ length self.old.table.numbered + 1 }
         ensures refused { OnErr result (self.new.table.numbered ≡ self.old.table.numbered) }
     {
-        let CacheRow {
-            group,
-            origin,
-            entry,
-        } = row;
-        match entry {
-            Some(_) if origin.is_unspecified() => {
-                self.add_group(group)?;
+        match row.iif {
+            Some(_) if row.origin.is_unspecified() => {
+                self.add_group(row.group)?;
                 Ok(true)
             }
-            Some(entry) => self.add_entry(&(origin, group), entry),
+            Some(iif) => self.add_entry(&(row.origin, row.group), iif, oifs),
             None => Ok(true),
         }
     }
@@ -116,23 +125,32 @@ impl CacheRows {
     }
 
     /// Adds an entry if its source and group can have a number, and answers whether they can.
-    fn add_entry(&mut self, key: &(Addr, Addr), entry: Entry) -> Result<bool, TableFaultKind>
-        requires { length self.old.table.numbered < 65536 }
+    fn add_entry(
+        &mut self,
+        key: &(Addr, Addr),
+        iif: u8,
+        oifs: &[Oif],
+    ) -> Result<bool, TableFaultKind>
+        requires room { length self.old.table.numbered < 65536 }
+        requires few { length oifs.now ≤ 32 }
         ensures kept { IfOk result (λ kept. kept ≡ is_in self.old.listed key.now) }
         ensures added { IfOk result (λ kept. kept ≡ true →
-            entry_added self.old.table key.now entry ≡ Ok self.new.table) }
+            entry_added self.old.table key.now (record { iif = iif; oifs = oifs.now })
+            ≡ Ok self.new.table) }
         ensures other { IfOk result (λ kept. kept ≡ false → self.new.table ≡ self.old.table) }
         ensures fault { IfErr result (λ fault. fault ≢ Memory →
             (is_in self.old.listed key.now ≡ true)
-            × (entry_added self.old.table key.now entry ≡ Err fault)) }
+            × (entry_added self.old.table key.now (record { iif = iif; oifs = oifs.now })
+            ≡ Err fault)) }
         ensures listed { self.new.listed ≡ self.old.listed }
         ensures refused { OnErr result (self.new.table.numbered ≡ self.old.table.numbered) }
     {
-        let number = self.entries.len() as u32;
-        self.entries.reserve(1)?;
+        let number = self.heads.len() as u32;
+        self.heads.reserve(1)?;
+        self.oifs.reserve(oifs.len())?;
         match self.numbers.add(key, number)? {
             Numbered::New => {
-                self.entries.push(entry)?;
+                push_entry(&mut self.heads, &mut self.oifs, iif, oifs)?;
                 Ok(true)
             }
             Numbered::Repeated => Err(TableFaultKind::RepeatedEntry),
@@ -150,11 +168,11 @@ impl CacheRows {
     }
 
     /// The entry with this number.
-    pub fn entry_at(&self, number: u32) -> &Entry
+    pub fn entry_at(&self, number: u32) -> Entry<'_>
         requires { number < length self.now.table.numbered }
-        ensures { slice_get self.now.table.numbered number ≡ Some result.now }
+        ensures { slice_get self.now.table.numbered number ≡ Some result }
     {
-        &self.entries[number as usize]
+        entry_at(&self.heads, &self.oifs, number)
     }
 
     /// Whether a row for every source has this group or the group 0.0.0.0.

@@ -1,29 +1,20 @@
 //! The forwarding cache, `/proc/net/ip_mr_cache`.
 
-ghost use Rattle.std.specs.Prelude.{◌≡◌, ◌≢◌, ◌<◌, ◌||◌, OnOk, IfOk, IfSome, Ok, Err, None, Some};
+ghost use Rattle.std.specs.Prelude.{◌≡◌, ◌≢◌, ◌<◌, ◌||◌, IfOk, IfSome, Ok, Err, None, Some};
 ghost use Rattle.std.specs.Prelude.{length, slice_get, option_and_then};
-ghost use Rattle.std.specs.Option.{option_copied};
 ghost use Rattle.std.specs.FinMap as map;
 ghost use Rattle.std.specs.FinSet as set;
-ghost use Rattle.mc_text.specs.LineView.{line_text};
-ghost use Rattle.mc_tables.specs.declared.fault.TableFaultKind.TheVariants.{Memory};
 ghost use Rattle.mc_tables.specs.Steps.{out_of_memory};
 ghost use Rattle.mc_tables.specs.CacheTable.{CacheText, IsEntry, IsCache, StandsForCache};
 ghost use Rattle.mc_tables.specs.CacheReading.{cache_in};
-ghost use Rattle.mc_tables.specs.CacheSteps.{row_with_room};
 
-use crate::cache_line::row_of_line;
 use crate::cache_reader::CacheReader;
-use crate::cache_row::CacheRow;
 use crate::cache_rows::CacheRows;
 use crate::entry::Entry;
-use crate::fault::{TableFault, TableFaultKind};
-use mc_text::{Addr, Line, Order};
+use crate::fault::TableFault;
+use mc_text::{Addr, Order};
 use std::alloc::Global;
 use std::marker::Model;
-
-/// The greatest number of rows.
-const MAX_ROWS: usize = 65_536;
 
 /// Where a router forwards the packets of each source to each group.
 #[derive(Debug, Drop)]
@@ -82,9 +73,9 @@ impl CacheTable {
     }
 
     /// The entry of the resolved row of this source and this group. There is none for 0.0.0.0.
-    pub fn exact(&self, source: Addr, group: Addr) -> Option<&Entry>
-        ensures entry { option_copied result ≡ map.get self.now.entries (source, group) }
-        ensures stands { IfSome result (λ entry. IsEntry entry.now) }
+    pub fn exact(&self, source: Addr, group: Addr) -> Option<Entry<'_>>
+        ensures entry { result ≡ map.get self.now.entries (source, group) }
+        ensures stands { IfSome result IsEntry }
         ensures unspecified { source ≡ 0 → result ≡ None }
         ensures rules { IsCache self.now }
     {
@@ -105,9 +96,9 @@ impl CacheTable {
     }
 
     /// The entry with this number.
-    pub fn entry_at(&self, number: u32) -> &Entry
+    pub fn entry_at(&self, number: u32) -> Entry<'_>
         requires { number < length self.now.numbered }
-        ensures entry { slice_get self.now.numbered number ≡ Some result.now }
+        ensures entry { slice_get self.now.numbered number ≡ Some result }
         ensures rules { IsCache self.now }
     {
         self.rows.entry_at(number)
@@ -121,23 +112,4 @@ impl CacheTable {
     {
         self.rows.wildcard(group)
     }
-}
-
-/// Reads the row of a line after so many others.
-pub(crate) fn row_with_room(
-    alloc: Global,
-    count: usize,
-    line: &Line<'_>,
-    order: Order,
-) -> Result<CacheRow, TableFaultKind>
-    ensures room { OnOk result (count < 65536) }
-    ensures row { result ≢ Err Memory → result ≡ row_with_room order count (line_text line.now) }
-{
-    if !line.ended {
-        return Err(TableFaultKind::Unended);
-    }
-    if count >= MAX_ROWS {
-        return Err(TableFaultKind::TooLarge);
-    }
-    row_of_line(alloc, line.bytes, order)
 }

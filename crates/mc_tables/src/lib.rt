@@ -9,6 +9,7 @@ mod cache_rows;
 mod cache_table;
 mod entry;
 mod fault;
+mod flat_entries;
 mod header;
 mod key_numbers;
 mod laws;
@@ -28,7 +29,7 @@ mod vif_table;
 
 pub use cache_reader::CacheReader;
 pub use cache_table::CacheTable;
-pub use entry::{Entry, Oif, Oifs};
+pub use entry::{Entry, Oif};
 pub use fault::{TableFault, TableFaultKind};
 pub use laws::{
     devices_have_one_vif, entries_ascend_in_range, listed_rows_are_part_of_the_whole,

@@ -1,15 +1,18 @@
 //! The rows of a cache, of which those of listed sources and groups are kept.
 
-ghost use Rattle.std.specs.Prelude.{◌≡◌, ◌≢◌, [], ◌<◌, OnOk, OnErr, IfErr, Ok, Err};
+ghost use Rattle.std.specs.Prelude.{◌≡◌, ◌≢◌, [], ◌<◌, ◌≤◌, length, OnOk, OnErr, IfErr, IfOk, Ok, Err};
 ghost use Rattle.mc_text.specs.LineView.{line_text};
 ghost use Rattle.mc_tables.specs.declared.fault.TableFaultKind.TheVariants.{Memory};
 ghost use Rattle.mc_tables.specs.CacheTable.{IsCache};
 ghost use Rattle.mc_tables.specs.OtherRows.{without_repeat};
-ghost use Rattle.mc_tables.specs.RowsSoFar.{no_rows, listed_added, line_added};
+ghost use Rattle.mc_tables.specs.CacheSteps.{row_with_room};
+ghost use Rattle.mc_tables.specs.FlatRows.{row_with};
+ghost use Rattle.mc_tables.specs.RowsSoFar.{no_rows, line_added};
 
+use crate::cache_line::read_row;
 use crate::cache_row::CacheRow;
 use crate::cache_rows::CacheRows;
-use crate::cache_table::row_with_room;
+use crate::entry::Oif;
 use crate::fault::{TableFault, TableFaultKind};
 use crate::header::check_header;
 use crate::key_numbers::KeyNumbers;
@@ -19,12 +22,16 @@ use mc_text::{Line, Order};
 use std::alloc::Global;
 use std::marker::Model;
 
+/// The greatest number of rows.
+const MAX_ROWS: usize = 65_536;
+
 /// The rows that are kept, what finds a repeated one of the others, and how many rows there are, of
 /// a router whose machine has this byte order.
 #[derive(Debug, Drop)]
 pub struct ListedRows {
-    alloc: Global,
     order: Order,
+    // of the row that is read
+    oifs: Vec<Oif>,
     kept: CacheRows,
     others: OtherRows,
     count: usize,
@@ -57,8 +64,8 @@ impl ListedRows {
         ensures { result ≡ no_rows order numbers.listed }
     {
         ListedRows {
-            alloc,
             order,
+            oifs: Vec::new(alloc),
             kept: CacheRows::new(alloc, numbers),
             others: OtherRows::new(alloc),
             count: 0,
@@ -73,32 +80,19 @@ impl ListedRows {
         kept
     }
 
-    /// Adds the row of a line.
-    fn add(&mut self, row: CacheRow, line: u32) -> Result<(), TableFaultKind>
-        requires { self.old.rows.count < 65536 }
-        ensures added { OnOk result (listed_added self.old row line ≡ Ok self.new) }
-        ensures fault { IfErr result (λ fault. fault ≢ Memory →
-            listed_added self.old row line ≡ Err fault) }
-        ensures others { OnErr result (self.new.rows.others ≡ self.old.rows.others) }
-    {
-        let (origin, group) = (row.origin, row.group);
-        if !self.kept.add(row)? {
-            self.others.add(origin, group, line)?;
-        }
-        self.count += 1;
-        Ok(())
-    }
-
     /// Reads the row of a line and adds it.
     fn add_row(&mut self, line: &Line<'_>) -> Result<(), TableFaultKind>
         ensures added { OnOk result (line_added self.old (line_text line.now) ≡ Ok self.new) }
         ensures fault { IfErr result (λ fault. fault ≢ Memory →
             line_added self.old (line_text line.now) ≡ Err fault) }
         ensures others { OnErr result (self.new.rows.others ≡ self.old.rows.others) }
-        ensures stand { OnOk result (IsCache self.old.rows.table → IsCache self.new.rows.table) }
     {
-        let row = row_with_room(self.alloc, self.count, line, self.order)?;
-        self.add(row, line.number)
+        let row = read_row_with_room(self.count, line, self.order, &mut self.oifs)?;
+        if !self.kept.add(&row, &self.oifs)? {
+            self.others.add(row.origin, row.group, line.number)?;
+        }
+        self.count += 1;
+        Ok(())
     }
 
     /// Refuses rows of which one isn't kept and has the source and the group of an earlier line's.
@@ -108,6 +102,29 @@ impl ListedRows {
     {
         self.others.check_repeats()
     }
+}
+
+/// Reads the row of a line after so many others.
+fn read_row_with_room(
+    count: usize,
+    line: &Line<'_>,
+    order: Order,
+    oifs: &mut Vec<Oif>,
+) -> Result<CacheRow, TableFaultKind>
+    ensures room { OnOk result (count < 65536) }
+    ensures few { OnOk result (length oifs.new.items ≤ 32) }
+    ensures read { IfOk result (λ row.
+        row_with_room order count (line_text line.now) ≡ Ok (row_with row oifs.new.items)) }
+    ensures fault { IfErr result (λ fault. fault ≢ Memory →
+        row_with_room order count (line_text line.now) ≡ Err fault) }
+{
+    if !line.ended {
+        return Err(TableFaultKind::Unended);
+    }
+    if count >= MAX_ROWS {
+        return Err(TableFaultKind::TooLarge);
+    }
+    read_row(line.bytes, order, oifs)
 }
 
 impl Rows for ListedRows {
@@ -125,6 +142,7 @@ impl Rows for ListedRows {
 
     ghost stand = { λ so_far. IsCache so_far.rows.table };
 
+    #[tactic(auto, using(crate::proofs::RowRuleLemmas::line_keeps))]
     fn add_line(&mut self, ended: u32, line: &Line<'_>) -> Result<(), TableFault> {
         if ended == 0 {
             return check_header(line, b"Group");

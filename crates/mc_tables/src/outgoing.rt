@@ -8,24 +8,26 @@ ghost use Rattle.mc_tables.specs.TableWords.{number_in};
 ghost use Rattle.mc_tables.specs.CacheReading.{oif_in, oifs_in};
 ghost use Rattle.mc_tables.specs.OutgoingSteps.{threshold_in, oif_in_turn, has_vif, oifs_with};
 
-use crate::entry::{Oif, Oifs};
+use crate::entry::Oif;
 use crate::fault::TableFaultKind;
 use crate::table_words::{MAX_VIF, number};
 use mc_text::Words;
-use std::alloc::Global;
 
 /// The greatest threshold that the kernel shows. It keeps 255 for "not forwarded there".
 const MAX_THRESHOLD: u8 = 254;
 
-/// Reads the outgoing vifs, and gives them by ascending vif.
-pub fn oifs_of_words(alloc: Global, words: Words<'_>) -> Result<Oifs, TableFaultKind>
-    ensures { result ≢ Err Memory → result ≡ oifs_in words.entry }
+/// Reads the outgoing vifs, by ascending vif.
+#[tactic(auto, using(crate::proofs::EntryLemmas::few_read))]
+pub fn read_oifs(words: Words<'_>, oifs: &mut Vec<Oif>) -> Result<(), TableFaultKind>
+    requires { oifs.old.items ≡ [] }
+    ensures few { OnOk result (length oifs.new.items ≤ 32) }
+    ensures read { OnOk result (oifs_in words.entry ≡ Ok oifs.new.items) }
+    ensures fault { IfErr result (λ fault. fault ≢ Memory → oifs_in words.entry ≡ Err fault) }
 {
-    let mut oifs = Vec::new(alloc);
     for word in words {
-        add_oif(&mut oifs, word)?;
+        add_oif(oifs, word)?;
     }
-    Ok(Oifs::from_vec(oifs))
+    Ok(())
 }
 
 /// Adds the outgoing vif of a word. A kernel prints them by ascending vif.

@@ -1,7 +1,7 @@
 use Rattle.std.proofs.Common.{◌≡◌}
 use Rattle.mc_tables.specs.CacheReading.{oifs_in}
 use Rattle.mc_tables.specs.OutgoingSteps.{oifs_after}
-use Rattle.mc_tables.proofs.outgoing.oifs_of_words.Given as goal
+use Rattle.mc_tables.proofs.outgoing.read_oifs.Given as goal
 
 -- what is read after the outgoing vifs so far is what is read of all words
 abbrev pub invariant-loop-word : goal.invariant-loop-word

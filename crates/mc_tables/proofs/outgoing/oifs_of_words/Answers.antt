@@ -1,6 +1,0 @@
-use Rattle.mc_tables.proofs.OifLemmas.{steps_are_read}
-use Rattle.mc_tables.proofs.outgoing.oifs_of_words.Goals as goal
-
-pub loop-word-init : goal.loop-word-init
-loop-word-init c = rw (c.new-oifs.ensures.items, c.into_iter-word-iterator.ensures.into_iter_gives)
-    (steps_are_read c.args.words)

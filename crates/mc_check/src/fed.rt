@@ -33,7 +33,7 @@ fn row_feeds(view: &FlowView<'_>, named: &Named<'_>, router: RouterNo, vif: u8) 
 {
     match view.row(router) {
         RowFor::Exact(entry) => match named.at(view.placed(router, entry.iif)) {
-            Some(base) => feeds(&base, vif, entry.oifs.as_slice()),
+            Some(base) => feeds(&base, vif, entry.oifs),
             None => false,
         },
         RowFor::Open | RowFor::NoRow => false,

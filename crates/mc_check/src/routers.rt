@@ -107,7 +107,7 @@ fn router_reason(view: &FlowView<'_>, named: &Named<'_>, router: RouterNo) -> Op
 {
     match view.row(router) {
         RowFor::Exact(entry) => match named.at(view.placed(router, entry.iif)) {
-            Some(base) => pairs_reason(view, named, &base, router, entry.oifs.as_slice()),
+            Some(base) => pairs_reason(view, named, &base, router, entry.oifs),
             None => None,
         },
         RowFor::Open => wildcard_reason(view, named, router),

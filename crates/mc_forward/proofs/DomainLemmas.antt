@@ -10,6 +10,7 @@ use Rattle.std.specs.FinSet as set
 use Rattle.std.specs.List.Sorted.{IsStrictlyIncreasing}
 use Rattle.std.proofs.lemmas.List.{length-map}
 use Rattle.std.proofs.lemmas.Option.{slice_get_within, slice_get_read, slice_get_past}
+use Rattle.mc_tables.proofs.EntryLemmas.{tail-ascends}
 use Rattle.mc_tables.specs.CacheTable.{EntryText}
 use Rattle.mc_tables.specs.declared.entry.Oif.{Oif}
 use Rattle.mc_tables.specs.CacheTable.{IsEntry}
@@ -71,13 +72,6 @@ placed-listed d router vif ok (Some lan) e = by_vif d router lan ok (vif_of d.ta
         ((v.tunnel || v.register) || bytes_eq v.device no_device) e
 
 -- ---- rows
-
-pub tail-ascends : (x : ℕ) (xs : List ℕ) → IsStrictlyIncreasing (x ∷ xs) → IsStrictlyIncreasing xs
-tail-ascends x xs h i lt =
-    let e : suc i + 1 ≡ suc (i + 1) = omega arith in
-    let k : slice_index (x ∷ xs) (suc i) < slice_index (x ∷ xs) (suc i + 1) =
-    h (suc i) (omega (arith, lt)) in
-    subst (λ (j : ℕ). slice_index xs i < slice_index (x ∷ xs) j) e k
 
 above-first : (x : ℕ) (xs : List ℕ) → IsStrictlyIncreasing (x ∷ xs) → (y : ℕ) → In y xs → x < y
 above-first x [] h y k = absurd k

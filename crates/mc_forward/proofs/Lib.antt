@@ -1,6 +1,5 @@
 pub mod BelowLemmas
 pub mod DomainLemmas
-pub mod EntryLemmas
 pub mod LateLemmas
 pub mod RouterLemmas
 pub mod PastLemmas

@@ -8,12 +8,12 @@ use Rattle.mc_forward.specs.Domains.{pairs_of}
 
 -- the row that an answer shows
 abbrev pub row_seen : RowFor → Row
-row_seen (Exact entry) = exact entry.now.iif (pairs_of entry.now.oifs)
+row_seen (Exact entry) = exact entry.iif (pairs_of entry.oifs)
 row_seen Open = open_row
 row_seen NoRow = no_row
 
 -- an entry that is answered is as a kernel has it
 abbrev pub EntryStands : RowFor → Type 0
-EntryStands (Exact entry) = IsEntry entry.now
+EntryStands (Exact entry) = IsEntry entry
 EntryStands Open = Unit {0}
 EntryStands NoRow = Unit {0}

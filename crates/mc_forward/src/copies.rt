@@ -192,7 +192,7 @@ impl Copies {
         match view.row(taken.router) {
             RowFor::Exact(entry) => {
                 if entry.iif == taken.vif {
-                    self.send_all(view, taken, entry.oifs.as_slice())
+                    self.send_all(view, taken, entry.oifs)
                 } else {
                     Ok(Outcome::OtherVif)
                 }

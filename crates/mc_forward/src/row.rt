@@ -3,10 +3,10 @@
 use mc_tables::Entry;
 
 /// What a router's forwarding cache has for a flow.
-#[derive(Clone, Copy, Debug)]
+#[derive(Debug, Drop)]
 pub enum RowFor<'a> {
     /// The entry of the resolved row for the flow's source and group.
-    Exact(&'a Entry),
+    Exact(Entry<'a>),
     /// No such row, but a resolved row for every source, of the flow's group or of every group.
     /// What the kernel does with the flow's packets is then not followed here.
     Open,

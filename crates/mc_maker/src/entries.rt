@@ -55,7 +55,7 @@ fn need_by(view: &FlowView<'_>, by_lan: &PerLan<Reached>, router: RouterNo, vif:
 {
     match view.row(router) {
         RowFor::Exact(entry) => {
-            let threshold = threshold_of(vif, entry.oifs.as_slice());
+            let threshold = threshold_of(vif, entry.oifs);
             need_over(threshold, entry_at(by_lan, view.placed(router, entry.iif)))
         }
         RowFor::Open | RowFor::NoRow => 1,

@@ -36,7 +36,7 @@ returns-in-Exact-clause-row c =
     c.requires.flow c.index-rows.ensures c.index.ensures in
     let read = tables-read c.self.view_is c.router.view_is c.index-in-Exact.ensures in
     entry-row c.args.self.now c.args.flow c.args.router c.in-Exact.number c.index.result.now
-    c.index-in-Exact.result.now c.entry_at.result.now kept c.in-Exact.is read
+    c.index-in-Exact.result.now c.entry_at.result kept c.in-Exact.is read
     (read-behind c.in-Exact.number c.behind-self.view_is c.entry_at.ensures.entry)
 
 pub returns-in-Exact-clause-stands : goal.returns-in-Exact-clause-stands
@@ -45,7 +45,7 @@ returns-in-Exact-clause-stands c =
     c.requires.flow c.index-rows.ensures c.index.ensures in
     let read = tables-read c.self.view_is c.router.view_is c.index-in-Exact.ensures in
     entry-stands c.args.self.now c.args.flow c.args.router c.in-Exact.number c.index.result.now
-    c.index-in-Exact.result.now c.entry_at.result.now
+    c.index-in-Exact.result.now c.entry_at.result
     (subst IsDomain c.self.view_is c.self.invariant.domain) kept c.in-Exact.is read
     (read-behind c.in-Exact.number c.behind-self.view_is c.entry_at.ensures.entry)
 

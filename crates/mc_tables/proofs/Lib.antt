@@ -13,6 +13,7 @@ pub mod RowWordLemmas
 pub mod OifLemmas
 pub mod EntryLemmas
 pub mod FlatLemmas
+pub mod PlainLemmas
 pub mod CacheLemmas
 pub mod CacheLookupLemmas
 pub mod CacheMapLemmas

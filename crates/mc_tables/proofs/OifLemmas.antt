@@ -76,7 +76,7 @@ oif_found : (word : List ℕ) (oif : ℕ × ℕ) → oif_in word ≡ Ok oif → 
 oif_found word oif e = parts_found word (slice_split (λ b. b == 58) word) oif refl e
 
 -- the outgoing vif that the word writes is read
-oif_only : (word : List ℕ) (oif : ℕ × ℕ) → WritesOif word oif → oif_in word ≡ Ok oif
+pub oif_only : (word : List ℕ) (oif : ℕ × ℕ) → WritesOif word oif → oif_in word ≡ Ok oif
 unfolding oif_in_parts
 oif_only word oif h =
     let one = All-from_recursion (λ b. (b == 58) ≡ false) h.vif

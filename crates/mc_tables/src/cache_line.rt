@@ -13,6 +13,7 @@ use crate::cache_row::CacheRow;
 use crate::entry::Oif;
 use crate::fault::TableFaultKind;
 use crate::outgoing::read_oifs;
+use crate::plain_row::{read_ascending, row_at_front};
 use crate::table_words::{MAX_VIF, check_counter, number, three_words};
 use mc_text::{Addr, Order, Words};
 
@@ -31,7 +32,7 @@ pub struct CacheWords<'a> {
 }
 
 /// Reads a row, and puts its outgoing vifs by ascending vif in the place of those that were there.
-#[tactic(auto, using(crate::proofs::RowWordLemmas::few_words))]
+#[tactic(auto, using(crate::proofs::EntryLemmas::few_read))]
 pub fn read_row(
     line: &[u8],
     order: Order,
@@ -44,6 +45,29 @@ pub fn read_row(
         row_in_words order (words_of line.now) ≡ Err fault) }
 {
     oifs.clear();
+    if let Some((row, outgoing)) = row_at_front(line, order) {
+        if read_ascending(outgoing, oifs)? {
+            return Ok(row);
+        }
+        oifs.clear();
+    }
+    read_words_of(line, order, oifs)
+}
+
+/// Reads a row word by word.
+#[tactic(auto, using(crate::proofs::RowWordLemmas::few_words))]
+fn read_words_of(
+    line: &[u8],
+    order: Order,
+    oifs: &mut Vec<Oif>,
+) -> Result<CacheRow, TableFaultKind>
+    requires { oifs.old.items ≡ [] }
+    ensures few { OnOk result (length oifs.new.items ≤ 32) }
+    ensures read { IfOk result (λ row.
+        row_in_words order (words_of line.now) ≡ Ok (row_with row oifs.new.items)) }
+    ensures fault { IfErr result (λ fault. fault ≢ Memory →
+        row_in_words order (words_of line.now) ≡ Err fault) }
+{
     let mut words = Words::new(line);
     let first = first_words(&mut words).ok_or(TableFaultKind::WordCount)?;
     read_words(&first, words, order, oifs)

@@ -18,6 +18,7 @@ mod listed_rows;
 mod other_rows;
 mod outgoing;
 mod piece_lines;
+mod plain_row;
 mod rows;
 mod table_words;
 mod vif;

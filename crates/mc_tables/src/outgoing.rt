@@ -14,7 +14,7 @@ use crate::table_words::{MAX_VIF, number};
 use mc_text::Words;
 
 /// The greatest threshold that the kernel shows. It keeps 255 for "not forwarded there".
-const MAX_THRESHOLD: u8 = 254;
+pub const MAX_THRESHOLD: u8 = 254;
 
 /// Reads the outgoing vifs, by ascending vif.
 #[tactic(auto, using(crate::proofs::EntryLemmas::few_read))]

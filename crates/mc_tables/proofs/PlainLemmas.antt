@@ -1,0 +1,250 @@
+-- A line whose words are read from its front.
+use Rattle.std.proofs.Common.{◌≡◌, ℕ, zero, suc, ◌+◌, ◌-◌, ◌<◌, ◌≤◌, true, false, List, [], ◌∷◌, ◌++◌, length, take}
+use Rattle.std.proofs.Common.{drop, get_or, Option, Some, None, Ok, refl, sym, ap, subst, ◌∙◌, arith}
+use Rattle.std.specs.Prelude.{◌==◌, ◌&&◌, Bool, nat_le, nat_lt, not, position, filter, unwrap_or, IfSome}
+use Rattle.std.specs.List.{All, list_all, slice_split}
+use Rattle.std.specs.Char.{is_ascii_digit}
+use Rattle.std.proofs.lemmas.Bool.{ne_eqb, not-true, not-false, not_from_false, and_parts, and_from}
+use Rattle.std.proofs.lemmas.Bool.{leb-true, le-leb, ltb-true, lt-ltb}
+use Rattle.std.proofs.lemmas.List.Splits.{slice_split_at}
+use Rattle.std.proofs.lemmas.List.Sums.{AllPass-from_list_all, list_all-from_AllPass}
+use Rattle.std.proofs.lemmas.List.Quantifiers.{position-Some}
+use Rattle.std.proofs.lemmas.List.{length-drop, take_all, length-take-le, take-append-drop, drop_more, length-append, append_assoc}
+use Rattle.std.proofs.lemmas.List.{get_or-take}
+use Rattle.std.proofs.lemmas.List.Folds.{list_all-append}
+use Rattle.std.proofs.lemmas.List.Elements.{All-from_get_or}
+use Rattle.mc_text.specs.Hex.{is_hex_digit, decode_of}
+use Rattle.mc_text.specs.Lines.{words_of}
+use Rattle.mc_text.specs.declared.text.addr.Order.{Order}
+use Rattle.mc_text.specs.AddressWord.{printed_octets}
+use Rattle.mc_text.proofs.AddrLemmas.{length-printed_octets}
+use Rattle.mc_text.proofs.AddressDigitLemmas.{eight_digits}
+use Rattle.mc_text.proofs.LineLemmas.{words_of-word, words_of-spaces}
+use Rattle.std.specs.Prelude.{codes}
+use Rattle.std.specs.Str.{bytes_eq}
+use Rattle.mc_tables.specs.FlatRows.{row_with}
+use Rattle.mc_tables.specs.TableWords.{is_decimal, is_counter, number_in, address_in}
+use Rattle.mc_tables.specs.declared.entry.Oif.{Oif}
+use Rattle.mc_text.specs.Steps.{◌>>=◌}
+use Rattle.mc_tables.specs.OutgoingSteps.{oifs_after}
+use Rattle.mc_tables.specs.CacheTable.{WritesOif}
+use Rattle.mc_tables.specs.CacheReading.{oif_in, oifs_in, incoming_in, incoming_number, row_in_words}
+use Rattle.mc_tables.proofs.AddressLemmas.{address_found}
+use Rattle.mc_tables.proofs.OifLemmas.{oif_only, added_last}
+use Rattle.mc_tables.proofs.WordLemmas.{number_found}
+
+-- no space stands among them
+abbrev pub HasNoSpace : List ℕ → Type 0
+HasNoSpace word = list_all (λ b. not (b == 32)) word ≡ true
+
+-- a part of a line that isn't empty is one of its words
+kept_part : (word : List ℕ) (parts : List (List ℕ)) → 0 < length word
+    → filter (λ part. not (length part == 0)) (word ∷ parts)
+    ≡ word ∷ filter (λ part. not (length part == 0)) parts
+kept_part word parts some =
+    let full : (length word == 0) ≡ false = ne_eqb (length word) 0 (λ is. omega (arith, some, is)) in
+    rw full refl
+
+-- bytes without a space and then a space are the first word
+pub first_word : (word more : List ℕ) → HasNoSpace word → 0 < length word
+    → words_of (word ++ 32 ∷ more) ≡ word ∷ words_of more
+first_word word more none some =
+    ap (filter (λ part. not (length part == 0)))
+    (slice_split_at (λ b. b == 32) word 32 more
+    (λ k d within. not-true _ (AllPass-from_list_all (λ b. not (b == 32)) word none k d within)) refl)
+    ∙ kept_part word (slice_split (λ b. b == 32) more) some
+
+-- bytes that pass a test that a space doesn't pass are no spaces
+passes_no_space : (p : ℕ → Bool) (word : List ℕ) → p 32 ≡ false
+    → ((k d : ℕ) → k < length word → p (get_or word k d) ≡ true) → HasNoSpace word
+passes_no_space p word other all =
+    list_all-from_AllPass (λ b. not (b == 32)) word (λ k d within.
+    not_from_false _ (ne_eqb (get_or word k d) 32
+    (λ is. let e : true ≡ false = sym (all k d within) ∙ ap p is ∙ other in absurd cc)))
+
+-- ---- digits
+
+digits_no_space : (word : List ℕ) → list_all is_ascii_digit word ≡ true → HasNoSpace word
+digits_no_space word e =
+    passes_no_space is_ascii_digit word refl (AllPass-from_list_all is_ascii_digit word e)
+
+-- so digits and a space are the first word
+pub digits_first : (digits more : List ℕ) → is_decimal digits ≡ true
+    → words_of (digits ++ 32 ∷ more) ≡ digits ∷ words_of more
+digits_first digits more e =
+    let p = and_parts (nat_le 1 (length digits)) _ e in
+    first_word digits more (digits_no_space digits p.1) (leb-true 1 (length digits) p.0)
+
+-- the bytes before the first that is no digit are digits
+before_other : (line : List ℕ) (end : ℕ) → position (λ b. not (is_ascii_digit b)) line ≡ Some end
+    → list_all is_ascii_digit (take end line) ≡ true
+before_other line end e =
+    let first = position-Some (λ b. not (is_ascii_digit b)) line end 0 e in
+    let size = length-take-le end line (omega (arith, first.0)) in
+    list_all-from_AllPass is_ascii_digit (take end line)
+    (All-from_get_or (λ c. is_ascii_digit c ≡ true) (take end line) 0 (λ k within.
+    let below : k < end = omega (arith, within, size) in
+    rw (get_or-take end line k 0 below) (not-false _ (first.2 k below))))
+
+pub front_digits : (line : List ℕ) (end : ℕ) → position (λ b. not (is_ascii_digit b)) line ≡ Some end
+    → (end ≡ 0 → ⊥) → is_decimal (take end line) ≡ true
+front_digits line end e some =
+    let first = position-Some (λ b. not (is_ascii_digit b)) line end 0 e in
+    let size = length-take-le end line (omega (arith, first.0)) in
+    and_from (nat_le 1 (length (take end line))) _
+    (le-leb 1 (length (take end line)) (omega (arith, size, some))) (before_other line end e)
+
+-- ---- spaces
+
+-- a line has the words that it has from its first byte that is no space
+pub from_word : (line : List ℕ) (start : ℕ) → position (λ b. not (b == 32)) line ≡ Some start
+    → words_of (drop start line) ≡ words_of line
+from_word line start e =
+    let at = position-Some (λ b. not (b == 32)) line start 0 e in
+    let from = drop start line in
+    let begins : position (λ b. not (b == 32)) from ≡ Some 0 =
+    rw (drop_more line start 0 at.0, at.1, le-leb 1 (suc (length (drop (start + 1) line))) (omega arith))
+    refl in
+    let end = unwrap_or (position (λ b. b == 32) from) (length from) in
+    words_of-word from from 0 end begins refl refl
+    ∙ sym (words_of-word line from start end e refl refl)
+
+-- a line of spaces alone has none
+pub no_word : (line : List ℕ) → position (λ b. not (b == 32)) line ≡ None → words_of [] ≡ words_of line
+no_word line e = sym (words_of-spaces line e)
+
+-- ---- an address
+
+-- a digit at each of eight places
+digit_at : (word : List ℕ) → ((k : ℕ) → k < 7
+    → (is_hex_digit (get_or word k 0) && is_hex_digit (get_or word (k + 1) 0)) ≡ true) → (k : ℕ)
+    → k < 8 → is_hex_digit (get_or word k 0) ≡ true
+digit_at word both zero less = (and_parts _ _ (both 0 (omega arith))).0
+digit_at word both (suc k) less =
+    let next : k + 1 ≡ suc k = omega arith in
+    subst (λ n. is_hex_digit (get_or word n 0) ≡ true) next
+    (and_parts _ _ (both k (omega (arith, less)))).1
+
+-- eight bytes that show an address have no space
+address_no_space : (order : Order) (word : List ℕ) (a : ℕ) → address_in order word ≡ Some a
+    → (length word ≡ 8) × HasNoSpace word
+address_no_space order word a e =
+    let printed = address_found order word a e in
+    let digits = eight_digits word (printed_octets order a) (length-printed_octets order a) printed.1 in
+    (digits.0, passes_no_space is_hex_digit word refl
+    (All-from_get_or (λ c. is_hex_digit c ≡ true) word 0 (λ k within.
+    digit_at word digits.1 k (omega (arith, within, digits.0)))))
+
+-- so they and a space behind them are the first word
+pub address_first : (order : Order) (line : List ℕ) (a : ℕ) → 9 ≤ length line
+    → get_or line 8 0 ≡ 32 → address_in order (take 8 line) ≡ Some a
+    → words_of line ≡ take 8 line ∷ words_of (drop 9 line)
+address_first order line a long space e =
+    let word = address_no_space order (take 8 line) a e in
+    let behind : drop 8 line ≡ 32 ∷ drop 9 line =
+    drop_more line 8 0 (omega (arith, long)) ∙ ap (λ b. b ∷ drop 9 line) space in
+    ap words_of (sym (take-append-drop 8 line) ∙ ap (λ rest. take 8 line ++ rest) behind)
+    ∙ first_word (take 8 line) (drop 9 line) word.1 (omega (arith, word.0))
+
+pub address_words : (order : Order) (line : List ℕ) (read : Option ℕ) → 8 < length line
+    → get_or line 8 0 ≡ 32 → read ≡ address_in order (take 8 line)
+    → IfSome read (λ _. words_of line ≡ take 8 line ∷ words_of (drop 9 line))
+address_words order line None long space is = tt
+address_words order line (Some a) long space is =
+    address_first order line a (omega (arith, long)) space (sym is)
+
+-- what stands behind a place, to the end of a line
+pub rest_of : (line : List ℕ) (n : ℕ) → take (length line - n) (drop n line) ≡ drop n line
+rest_of line n = let size = length-drop n line in
+    take_all (length line - n) (drop n line) (omega (arith, size))
+
+-- ---- an outgoing vif
+
+-- digits, a colon, digits and a space are a first word that writes an outgoing vif
+pub oif_first : (line vif rest threshold after : List ℕ) (v t : ℕ) → line ≡ vif ++ 58 ∷ rest
+    → rest ≡ threshold ++ 32 ∷ after → is_decimal vif ≡ true → is_decimal threshold ≡ true
+    → number_in 0 31 vif ≡ Some v → number_in 1 254 threshold ≡ Some t
+    → (word : List ℕ) × (words_of line ≡ word ∷ words_of after) × (oif_in word ≡ Ok (v, t))
+oif_first line vif rest threshold after v t line_is rest_is of_vif of_threshold vif_is threshold_is =
+    let word = vif ++ 58 ∷ threshold in
+    let writes : WritesOif word (v, t) = record {
+      vif = vif;
+      threshold = threshold;
+      colon = refl;
+      vif_number = number_found 0 31 vif v vif_is;
+      threshold_number = number_found 1 254 threshold t threshold_is;
+    } in
+    let first = digits_no_space vif (and_parts (nat_le 1 (length vif)) _ of_vif).1 in
+    let second = digits_no_space threshold (and_parts (nat_le 1 (length threshold)) _ of_threshold).1 in
+    let none : HasNoSpace word =
+    list_all-append (λ b. not (b == 32)) vif (58 ∷ threshold) ∙ rw (first, second) refl in
+    let size = length-append vif (58 ∷ threshold) in
+    (
+      word,
+      ap words_of (line_is ∙ ap (λ r. vif ++ 58 ∷ r) rest_is
+      ∙ sym (append_assoc vif (58 ∷ threshold) (32 ∷ after)))
+      ∙ first_word word after none (omega (arith, size)),
+      oif_only word (v, t) writes,
+    )
+
+-- a number for a vif is at most 31
+pub vif_in_range : (word : List ℕ) (v : ℕ) → number_in 0 31 word ≡ Some v → v ≤ 31
+vif_in_range word v e = (number_found 0 31 word v e).2
+
+-- what is below a number is below a greater one
+below_greater : (oifs : List Oif) (next vif : ℕ)
+    → list_all (λ other. nat_lt other.vif next) oifs ≡ true → next ≤ vif
+    → list_all (λ other. nat_lt other.vif vif) oifs ≡ true
+below_greater [] next vif all up = refl
+below_greater (oif ∷ oifs) next vif all up =
+    let p = and_parts (nat_lt oif.vif next) _ all in
+    let less = ltb-true oif.vif next p.0 in
+    and_from (nat_lt oif.vif vif) _ (lt-ltb oif.vif vif (omega (arith, less, up)))
+    (below_greater oifs next vif p.1 up)
+
+-- a greater outgoing vif more
+pub one_ascends : (oifs : List Oif) (oif : Oif) (next : ℕ) (word : List ℕ) (words : List (List ℕ))
+    → oif_in word ≡ Ok (oif.vif, oif.threshold)
+    → list_all (λ other. nat_lt other.vif next) oifs ≡ true → next ≤ oif.vif
+    → (oifs_after oifs (word ∷ words) ≡ oifs_after (oifs ++ oif ∷ []) words)
+    × (list_all (λ other. nat_lt other.vif (oif.vif + 1)) (oifs ++ oif ∷ []) ≡ true)
+one_ascends oifs oif next word words is below up =
+    let all = below_greater oifs next oif.vif below up in
+    (
+      ap (λ r. r >>= λ more. oifs_after more words)
+          (added_last oifs word oif.vif oif.threshold is all),
+      list_all-append (λ other. nat_lt other.vif (oif.vif + 1)) oifs (oif ∷ [])
+          ∙ rw (
+            below_greater oifs oif.vif (oif.vif + 1) all (omega arith),
+            lt-ltb oif.vif (oif.vif + 1) (omega arith),
+          ) refl,
+    )
+
+-- ---- a row
+
+-- decimal digits are not `-1`
+not_unresolved : (word : List ℕ) → is_decimal word ≡ true → bytes_eq word (codes "-1") ≡ false
+not_unresolved [] e = absurd cc
+not_unresolved (c ∷ word) e =
+    let p = and_parts (nat_le 1 (length (c ∷ word))) _ e in
+    let digit = and_parts (is_ascii_digit c) _ p.1 in
+    let other : (c == 45) ≡ false =
+    ne_eqb c 45 (λ is. let wrong = subst (λ b. is_ascii_digit b ≡ true) is digit.0 in cc) in
+    rw other refl
+
+-- so they are an incoming vif
+pub incoming_read : (word : List ℕ) (i : ℕ) → is_decimal word ≡ true → number_in 0 31 word ≡ Some i
+    → incoming_in word ≡ Ok (Some i)
+incoming_read word i digits e = rw (not_unresolved word digits) (ap incoming_number e)
+
+-- the row of six words that are read, and of the outgoing ones behind them
+pub row_front : (order : Order) (words after : List (List ℕ)) (group origin iif a b c : List ℕ)
+    (g o i : ℕ) (oifs : List Oif) → words ≡ group ∷ origin ∷ iif ∷ a ∷ b ∷ c ∷ after
+    → address_in order group ≡ Some g → address_in order origin ≡ Some o → is_decimal iif ≡ true
+    → number_in 0 31 iif ≡ Some i → is_counter a ≡ true → is_counter b ≡ true → is_counter c ≡ true
+    → oifs_in after ≡ Ok oifs → row_in_words order words
+    ≡ Ok (row_with (record { group = g; origin = o; iif = Some i }) oifs)
+unfolding row_in_words
+row_front order words after group origin iif a b c g o i oifs is of_group of_origin digits of_iif x y
+    z read =
+    rw (is, of_group, of_origin, incoming_read iif i digits of_iif, x, y, z, read) refl

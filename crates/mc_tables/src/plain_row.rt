@@ -1,0 +1,162 @@
+//! A row as kernels print it, read in one pass. Whatever else a line may be is left to who reads its
+//! words one after the other.
+
+ghost use Rattle.std.specs.Prelude.{◌≡◌, ℕ, [], ◌∷◌, ◌++◌, ◌==◌, not, List, IfOk, IfSome, Ok, Some, take};
+ghost use Rattle.std.specs.Prelude.{drop, length, ◌<◌, ◌≤◌};
+ghost use Rattle.std.specs.Prelude.{position, true};
+ghost use Rattle.std.specs.Char.{is_ascii_digit};
+ghost use Rattle.mc_text.specs.Lines.{words_of};
+ghost use Rattle.mc_tables.specs.declared.entry.Oif.{Oif};
+ghost use Rattle.mc_tables.specs.TableWords.{address_in, is_counter, is_decimal};
+ghost use Rattle.mc_tables.specs.CacheReading.{oif_in, oifs_in, row_in_words};
+ghost use Rattle.mc_tables.specs.FlatRows.{row_with};
+
+use crate::cache_row::CacheRow;
+use crate::entry::Oif;
+use crate::outgoing::MAX_THRESHOLD;
+use crate::table_words::{MAX_VIF, number};
+use mc_text::{Addr, Order};
+use std::alloc::AllocError;
+
+/// The place of the first byte that is no space.
+fn word_start(line: &[u8]) -> Option<usize>
+    ensures { result ≡ position (λ b. not (b == 32)) line.now }
+{
+    line.iter().position(|byte| *byte != b' ')
+}
+
+/// The line from its first byte that is no space.
+#[tactic(auto, using(crate::proofs::PlainLemmas::from_word, crate::proofs::PlainLemmas::no_word))]
+fn without_spaces(line: &[u8]) -> &[u8]
+    ensures words { words_of result.now ≡ words_of line.now }
+    ensures shorter { length result.now ≤ length line.now }
+{
+    match word_start(line) {
+        Some(start) => &line[start..],
+        None => &[],
+    }
+}
+
+/// The place of the first byte that is no decimal digit.
+fn digits_end(line: &[u8]) -> Option<usize>
+    ensures { result ≡ position (λ b. not (is_ascii_digit b)) line.now }
+{
+    line.iter().position(|byte| !byte.is_ascii_digit())
+}
+
+/// The decimal digits that a line begins with, and what stands behind this byte after them.
+#[tactic(auto, using(crate::proofs::PlainLemmas::front_digits))]
+fn digits_before(line: &[u8], stop: u8) -> Option<(&[u8], &[u8])>
+    ensures parts { IfSome result (λ parts. line.now ≡ parts.0.now ++ stop ∷ parts.1.now) }
+    ensures digits { IfSome result (λ parts. is_decimal parts.0.now ≡ true) }
+{
+    let end = digits_end(line)?;
+    if end == 0 || line[end] != stop {
+        return None;
+    }
+    Some((&line[..end], &line[end + 1..]))
+}
+
+/// The decimal digits that are a line's first word, and what stands behind them.
+#[tactic(auto, using(crate::proofs::PlainLemmas::digits_first))]
+fn digits_at_front(line: &[u8]) -> Option<(&[u8], &[u8])>
+    ensures words { IfSome result (λ parts. words_of line.now ≡ parts.0.now ∷ words_of parts.1.now) }
+    ensures digits { IfSome result (λ parts. is_decimal parts.0.now ≡ true) }
+{
+    digits_before(without_spaces(line), b' ')
+}
+
+/// The address of eight bytes and a space with which a line begins.
+#[tactic(auto, using(crate::proofs::PlainLemmas::address_words))]
+fn address_at_front(line: &[u8], order: Order) -> Option<Addr>
+    ensures long { IfSome result (λ address. 9 ≤ length line.now) }
+    ensures words { IfSome result (λ address.
+        words_of line.now ≡ take 8 line.now ∷ words_of (drop 9 line.now)) }
+    ensures address { IfSome result (λ address.
+        address_in order (take 8 line.now) ≡ Some address) }
+{
+    if line.len() > 8 && line[8] == b' ' {
+        Addr::from_hex_word(&line[..8], order)
+    } else {
+        None
+    }
+}
+
+/// What stands behind an address and its space.
+#[tactic(auto, using(crate::proofs::PlainLemmas::rest_of))]
+fn after_address(line: &[u8]) -> &[u8]
+    requires { 9 ≤ length line.now }
+    ensures { result.now ≡ drop 9 line.now }
+{
+    &line[9..]
+}
+
+/// What stands behind the counter that is a line's first word.
+fn after_counter(line: &[u8]) -> Option<&[u8]>
+    ensures { IfSome result (λ after. (counter : List ℕ)
+        × (words_of line.now ≡ counter ∷ words_of after.now) × (is_counter counter ≡ true)) }
+{
+    let (digits, after) = digits_at_front(line)?;
+    (digits.len() <= 20).then_some(after)
+}
+
+/// The resolved row that a line begins with, and what stands behind its counters.
+pub fn row_at_front(line: &[u8], order: Order) -> Option<(CacheRow, &[u8])>
+    ensures { (oifs : List Oif) → IfSome result (λ found.
+        oifs_in (words_of found.1.now) ≡ Ok oifs →
+        row_in_words order (words_of line.now) ≡ Ok (row_with found.0 oifs)) }
+{
+    let group = address_at_front(line, order)?;
+    let rest = after_address(line);
+    let origin = address_at_front(rest, order)?;
+    let (iif, rest) = digits_at_front(after_address(rest))?;
+    let iif = number(iif, 0, MAX_VIF)?;
+    let rest = after_counter(rest)?;
+    let rest = after_counter(rest)?;
+    let rest = after_counter(rest)?;
+    let row = CacheRow {
+        group,
+        origin,
+        iif: Some(iif),
+    };
+    Some((row, rest))
+}
+
+/// The outgoing vif that a line begins with, and what stands behind it.
+#[tactic(auto, using(crate::proofs::PlainLemmas::vif_in_range))]
+fn oif_at_front(line: &[u8]) -> Option<(Oif, &[u8])>
+    ensures word { IfSome result (λ found. (word : List ℕ)
+        × (words_of line.now ≡ word ∷ words_of found.1.now)
+        × (oif_in word ≡ Ok (found.0.vif, found.0.threshold))) }
+    ensures vif { IfSome result (λ found. found.0.vif ≤ 31) }
+    ensures shorter { IfSome result (λ found. length found.1.now < length line.now) }
+{
+    let (vif, rest) = digits_before(line, b':')?;
+    let (threshold, rest) = digits_before(rest, b' ')?;
+    let vif = number(vif, 0, MAX_VIF)?;
+    let threshold = number(threshold, 1, MAX_THRESHOLD)?;
+    Some((Oif { vif, threshold }, rest))
+}
+
+/// Reads the outgoing vifs of which a line is made, if they ascend. Whether they were read.
+#[tactic(auto, using(crate::proofs::PlainLemmas::one_ascends, crate::proofs::OifLemmas::steps_are_read))]
+pub fn read_ascending(line: &[u8], oifs: &mut Vec<Oif>) -> Result<bool, AllocError>
+    requires { oifs.old.items ≡ [] }
+    ensures { IfOk result (λ read. read ≡ true →
+        oifs_in (words_of line.now) ≡ Ok oifs.new.items) }
+{
+    let mut rest = without_spaces(line);
+    let mut next = 0;
+    'oifs: while !rest.is_empty() {
+        let Some((oif, after)) = oif_at_front(rest) else {
+            return Ok(false);
+        };
+        if oif.vif < next {
+            return Ok(false);
+        }
+        oifs.push(oif)?;
+        next = oif.vif + 1;
+        rest = without_spaces(after);
+    }
+    Ok(true)
+}

@@ -14,6 +14,7 @@ mod header;
 mod key_numbers;
 mod laws;
 mod listed_numbers;
+mod listed_pairs;
 mod listed_rows;
 mod other_rows;
 mod outgoing;

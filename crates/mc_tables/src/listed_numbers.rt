@@ -8,6 +8,7 @@ ghost use Rattle.std.specs.List.Sorted.{IsStrictlySortedBy};
 ghost use Rattle.mc_tables.specs.CacheNumbers.{IsNumbered, IsPlaceOf, number_in};
 ghost use Rattle.mc_tables.specs.CacheTable.{key_cmp, same_key};
 
+use crate::listed_pairs::ListedPairs;
 use mc_text::Addr;
 use std::alloc::{AllocError, Global};
 use std::marker::Model;
@@ -27,7 +28,7 @@ pub enum Numbered {
 /// has one.
 #[derive(Debug, Drop)]
 pub struct ListedNumbers {
-    pairs: Vec<(Addr, Addr)>,
+    pairs: ListedPairs,
     // at the place of a pair one more than its number, or 0; a pair past the end has none
     numbers: Vec<u32>,
 }
@@ -36,9 +37,7 @@ impl Model for ListedNumbers {
     ghost use Rattle.std.specs.Prelude.{Some};
     ghost use Rattle.std.specs.Coded.{codes};
     ghost use Rattle.std.specs.FinSet as set;
-    ghost use Rattle.std.specs.List.Sorted.{IsStrictlySortedBy};
     ghost use Rattle.mc_tables.specs.CacheNumbers.{KeysText, filled};
-    ghost use Rattle.mc_tables.specs.CacheTable.{key_cmp};
     ghost use Rattle.mc_tables.specs.ListedRows.{pairs_code};
 
     ghost Value = { KeysText };
@@ -46,23 +45,19 @@ impl Model for ListedNumbers {
     ghost coded = { Prim.hlevel (codes, pairs_code) };
 
     ghost view = { λ s. record {
-      listed = Some (set.from_list s.pairs.items);
-      numbers = filled s.pairs.items s.numbers.items;
+      listed = Some (set.from_list s.pairs);
+      numbers = filled s.pairs s.numbers.items;
     } };
-
-    ghost invariant = { λ s. IsStrictlySortedBy key_cmp s.pairs.items };
 }
 
 impl ListedNumbers {
     /// These are listed, and none has a number.
-    pub fn of(alloc: Global, mut pairs: Vec<(Addr, Addr)>) -> ListedNumbers
+    pub fn of(alloc: Global, pairs: Vec<(Addr, Addr)>) -> ListedNumbers
         ensures listed { result.listed ≡ Some (set.from_list pairs.items) }
         ensures numbers { result.numbers ≡ [] }
     {
-        pairs.sort_unstable();
-        pairs.dedup();
         ListedNumbers {
-            pairs,
+            pairs: ListedPairs::of(alloc, pairs),
             numbers: Vec::new(alloc),
         }
     }
@@ -71,7 +66,7 @@ impl ListedNumbers {
     pub fn number_of(&self, key: &(Addr, Addr)) -> Option<u32>
         ensures { result ≡ number_in self.now.numbers key.now }
     {
-        let place = place_in(&self.pairs, key)?;
+        let place = self.pairs.place_of(key)?;
         let next = *self.numbers.get(place)?;
         if next == 0 {
             return None;
@@ -85,7 +80,8 @@ impl ListedNumbers {
         ensures numbered { IfOk result (IsNumbered key.now number self.old self.new) }
         ensures refused { OnErr result (self.new ≡ self.old) }
     {
-        let Some(place) = place_in(&self.pairs, key) else {
+        self.pairs.prepare()?;
+        let Some(place) = self.pairs.place_of(key) else {
             return Ok(Numbered::Unlisted);
         };
         add_places(&mut self.numbers, self.pairs.len())?;
@@ -106,13 +102,4 @@ fn add_places(numbers: &mut Vec<u32>, count: usize) -> Result<(), AllocError>
         numbers.resize(count, 0)?;
     }
     Ok(())
-}
-
-/// The place of a source and a group.
-fn place_in(pairs: &[(Addr, Addr)], key: &(Addr, Addr)) -> Option<usize>
-    requires { IsStrictlySortedBy key_cmp pairs.now }
-    ensures found { IfSome result (IsPlaceOf pairs.now key.now) }
-    ensures none { IfNone result (list_any (same_key key.now) pairs.now ≡ false) }
-{
-    pairs.binary_search(key).ok()
 }

@@ -99,6 +99,13 @@ impl Addr {
         }
     }
 
+    /// The four octets as one number, the first octet the most significant.
+    pub fn to_bits(self) -> u32
+        ensures { result ≡ self }
+    {
+        self.bits
+    }
+
     /// Whether routers forward this group: 224.0.1.0 to 239.255.255.255. The groups 224.0.0.0 to
     /// 224.0.0.255 before them stay on their LAN (RFC 5771, section 4).
     pub fn is_forwarded_group(self) -> bool

@@ -13,42 +13,41 @@ use Rattle.mc_tables.proofs.listed_numbers.ListedNumbers.add.Goals as goal
 
 pub returns-in_default-clause-numbered : goal.returns-in_default-clause-numbered
 returns-in_default-clause-numbered c =
-    let key = c.args.key.now in (
-      ap (λ (s : KeysText). is_in s.listed key) (sym c.self.view_is)
-          ∙ unlisted c.self.inside.pairs.items key
-          (subst (λ (pairs : List (ℕ × ℕ)). list_any (same_key key) pairs ≡ false)
-          c.deref.ensures.value c.in_default.ensures.none),
-      refl,
+    let key = c.args.key.now in
+    let keys = c.prepare.new.self in
+    let ns = c.self.inside.numbers.items in
+    let kept = ap (λ ks. kept_as ks ns) c.prepare.ensures ∙ c.self.view_is in (
+      ap (λ (s : KeysText). is_in s.listed key) (sym kept) ∙ unlisted keys key c.in_default.ensures.none,
+      kept,
     )
 
 pub returns-in_err-add_places-clause-refused : goal.returns-in_err-add_places-clause-refused
 returns-in_err-add_places-clause-refused c =
-    let keys = c.self.inside.pairs.items in
+    let keys = c.prepare.new.self in
+    let prepared = ap (λ ks. kept_as ks c.self.inside.numbers.items) c.prepare.ensures ∙ c.self.view_is in
     let more = c.in_err-add_places.ensures.more in
-    if_refused (kept_as keys c.add_places.new.numbers.items ≡ c.args.self.now) c.from_residual.result
+    if_refused (kept_as keys c.add_places.new.numbers.items ≡ c.args.self.now) c.from_residual-in_err-add_places.result
     (grown keys c.self.inside.numbers.items c.add_places.new.numbers.items more.0 c.args.self.now more.1
-    c.self.view_is)
+    prepared)
 
 pub returns-then-index-ne0-clause-numbered : goal.returns-then-index-ne0-clause-numbered
 returns-then-index-ne0-clause-numbered c =
     let key = c.args.key.now in
-    let keys = c.self.inside.pairs.items in
+    let keys = c.prepare.new.self in
+    let prepared = ap (λ ks. kept_as ks c.self.inside.numbers.items) c.prepare.ensures ∙ c.self.view_is in
     let ns = c.add_places.new.numbers.items in
     let i = c.in-Some.place in
     let more = c.in_ok-add_places.ensures.more in
-    let kept = grown keys c.self.inside.numbers.items ns more.0 c.args.self.now more.1 c.self.view_is in
-    let place = subst (λ (pairs : List (ℕ × ℕ)). IsPlaceOf pairs key i) c.deref.ensures.value
-    c.in-Some.ensures.found in
+    let kept = grown keys c.self.inside.numbers.items ns more.0 c.args.self.now more.1 prepared in
+    let place = c.in-Some.ensures.found in
     let within : i < length ns = omega (
       arith,
       place.0,
       c.in_ok-add_places.ensures.room,
       c.len.ensures,
-      c.deref.ensures.len,
-      ap length c.deref.ensures.value,
     ) in (
       listed_here keys ns key i c.args.self.now kept place,
-      ap is_some (number_here keys ns key i c.args.self.now kept c.self.invariant place)
+      ap is_some (number_here keys ns key i c.args.self.now kept c.in-Some.ensures.rules place)
           ∙ is_there (get_or ns i 0) (λ e. c.if-index-ne0.true
           (c.index.ensures ∙ get_or_default ns i c.index.result.now 0 within ∙ e)),
       kept,
@@ -57,27 +56,25 @@ returns-then-index-ne0-clause-numbered c =
 pub returns-clause-numbered : goal.returns-clause-numbered
 returns-clause-numbered c =
     let key = c.args.key.now in
-    let keys = c.self.inside.pairs.items in
+    let keys = c.prepare.new.self in
+    let prepared = ap (λ ks. kept_as ks c.self.inside.numbers.items) c.prepare.ensures ∙ c.self.view_is in
     let ns = c.add_places.new.numbers.items in
     let i = c.in-Some.place in
     let more = c.in_ok-add_places.ensures.more in
-    let kept = grown keys c.self.inside.numbers.items ns more.0 c.args.self.now more.1 c.self.view_is in
-    let place = subst (λ (pairs : List (ℕ × ℕ)). IsPlaceOf pairs key i) c.deref.ensures.value
-    c.in-Some.ensures.found in
+    let kept = grown keys c.self.inside.numbers.items ns more.0 c.args.self.now more.1 prepared in
+    let place = c.in-Some.ensures.found in
     let within : i < length ns = omega (
       arith,
       place.0,
       c.in_ok-add_places.ensures.room,
       c.len.ensures,
-      c.deref.ensures.len,
-      ap length c.deref.ensures.value,
     ) in
     let empty : get_or ns i 0 ≡ 0 =
     get_or_default ns i 0 c.index.result.now within ∙ sym c.index.ensures ∙ c.if-index-ne0.false in (
       listed_here keys ns key i c.args.self.now kept place,
-      number_here keys ns key i c.args.self.now kept c.self.invariant place ∙ ap number_of_next empty,
-      ap (λ (s : KeysText). s.listed) c.self.view_is,
-      λ q. one_more key keys ns i c.args.number (IsDistinct-from_sorted key_cmp keys c.self.invariant)
+      number_here keys ns key i c.args.self.now kept c.in-Some.ensures.rules place ∙ ap number_of_next empty,
+      ap (λ (s : KeysText). s.listed) kept,
+      λ q. one_more key keys ns i c.args.number (IsDistinct-from_sorted key_cmp keys c.in-Some.ensures.rules)
           place within q
           ∙ ap (λ (s : KeysText). cond (is_at (key_cmp key) q) (Some c.args.number)
           (number_in s.numbers q)) kept,

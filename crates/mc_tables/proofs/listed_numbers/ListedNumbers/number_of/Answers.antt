@@ -12,9 +12,8 @@ pub returns-in_err-place : goal.returns-in_err-place
 returns-in_err-place c =
     let key = c.args.key.now in
     c.from_residual.ensures
-    ∙ sym (none_filled key c.self.inside.pairs.items c.self.inside.numbers.items
-    (subst (λ (pairs : List (ℕ × ℕ)). list_any (same_key key) pairs ≡ false) c.deref.ensures.value
-    c.in_err-place.ensures.none))
+    ∙ sym (none_filled key c.self.inside.pairs c.self.inside.numbers.items
+    c.in_err-place.ensures.none)
     ∙ ap (λ (s : KeysText). number_in s.numbers key) c.self.view_is
 
 pub returns-in_err-next : goal.returns-in_err-next
@@ -22,40 +21,37 @@ returns-in_err-next c =
     let key = c.args.key.now in
     let ns = c.self.inside.numbers.items in
     let i = c.in_ok-place.place in
-    let place = subst (λ (pairs : List (ℕ × ℕ)). IsPlaceOf pairs key i) c.deref.ensures.value
-    c.in_ok-place.ensures.found in
+    let place = c.in_ok-place.ensures.found in
     let past : length ns ≤ i =
     omega (
       arith,
-      ltb-false i (length c.deref-2.result.now) (sym c.in_err-next.ensures.lookup.0),
-      ap length c.deref-2.ensures.value,
+      ltb-false i (length c.deref.result.now) (sym c.in_err-next.ensures.lookup.0),
+      ap length c.deref.ensures.value,
     ) in
     c.from_residual-in_err-next.ensures
     ∙ ap number_of_next (sym (get_or-eq_default ns 0 past))
-    ∙ sym (number_here c.self.inside.pairs.items ns key i c.args.self.now c.self.view_is
-    c.self.invariant place)
+    ∙ sym (number_here c.self.inside.pairs ns key i c.args.self.now c.self.view_is
+    c.in_ok-place.ensures.rules place)
 
 pub returns-then-next-eq0 : goal.returns-then-next-eq0
 returns-then-next-eq0 c =
     let key = c.args.key.now in
     let ns = c.self.inside.numbers.items in
     let i = c.in_ok-place.place in
-    let place = subst (λ (pairs : List (ℕ × ℕ)). IsPlaceOf pairs key i) c.deref.ensures.value
-    c.in_ok-place.ensures.found in
-    ap number_of_next (sym (said_at ns c.deref-2.result.now i c.in_ok-next.field-0.now
-    c.deref-2.ensures.value c.in_ok-next.ensures.lookup.0 c.in_ok-next.ensures.lookup.1 ∙ c.if-next-eq0.true))
-    ∙ sym (number_here c.self.inside.pairs.items ns key i c.args.self.now c.self.view_is
-    c.self.invariant place)
+    let place = c.in_ok-place.ensures.found in
+    ap number_of_next (sym (said_at ns c.deref.result.now i c.in_ok-next.field-0.now
+    c.deref.ensures.value c.in_ok-next.ensures.lookup.0 c.in_ok-next.ensures.lookup.1 ∙ c.if-next-eq0.true))
+    ∙ sym (number_here c.self.inside.pairs ns key i c.args.self.now c.self.view_is
+    c.in_ok-place.ensures.rules place)
 
 pub returns : goal.returns
 returns c =
     let key = c.args.key.now in
     let ns = c.self.inside.numbers.items in
     let i = c.in_ok-place.place in
-    let place = subst (λ (pairs : List (ℕ × ℕ)). IsPlaceOf pairs key i) c.deref.ensures.value
-    c.in_ok-place.ensures.found in
+    let place = c.in_ok-place.ensures.found in
     one_less c.in_ok-next.field-0.now c.if-next-eq0.false
-    ∙ ap number_of_next (sym (said_at ns c.deref-2.result.now i c.in_ok-next.field-0.now
-    c.deref-2.ensures.value c.in_ok-next.ensures.lookup.0 c.in_ok-next.ensures.lookup.1))
-    ∙ sym (number_here c.self.inside.pairs.items ns key i c.args.self.now c.self.view_is
-    c.self.invariant place)
+    ∙ ap number_of_next (sym (said_at ns c.deref.result.now i c.in_ok-next.field-0.now
+    c.deref.ensures.value c.in_ok-next.ensures.lookup.0 c.in_ok-next.ensures.lookup.1))
+    ∙ sym (number_here c.self.inside.pairs ns key i c.args.self.now c.self.view_is
+    c.in_ok-place.ensures.rules place)

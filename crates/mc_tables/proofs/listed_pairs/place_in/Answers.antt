@@ -2,7 +2,7 @@ use Rattle.std.proofs.Common.{◌≡◌, false}
 use Rattle.std.specs.List.{list_any}
 use Rattle.mc_tables.specs.CacheTable.{same_key}
 use Rattle.mc_tables.proofs.NumberLemmas.{if_none, place_none}
-use Rattle.mc_tables.proofs.listed_numbers.place_in.Goals as goal
+use Rattle.mc_tables.proofs.listed_pairs.place_in.Goals as goal
 
 pub returns-clause-none : goal.returns-clause-none
 returns-clause-none c =

@@ -18,7 +18,7 @@ use Rattle.std.proofs.lemmas.List.Kept.{IsStrictlySortedBy-dedup}
 use Rattle.std.proofs.lemmas.Map.Keys.{IsDistinct-from_sorted, IsDistinct-head, IsDistinct-tail}
 use Rattle.mc_tables.specs.CacheTable.{key_cmp, same_key}
 use Rattle.mc_tables.specs.CacheNumbers.{IsNumbered, IsPlaceOf, KeysText, MoreNumbers, filled, keys_of}
-use Rattle.mc_tables.specs.CacheNumbers.{number_in}
+use Rattle.mc_tables.specs.CacheNumbers.{number_in, number_of_next}
 use Rattle.mc_tables.specs.declared.listed_numbers.Numbered.TheVariants.{New}
 use Rattle.std.specs.BTreeMap.{is_at}
 use Rattle.mc_tables.specs.ListedRows.{is_in}
@@ -26,11 +26,6 @@ use Rattle.mc_tables.proofs.CacheLemmas.{key_total, key_laws}
 use Rattle.mc_tables.proofs.CacheMapLemmas.{key_antisymmetric}
 use Rattle.mc_tables.proofs.ListedLemmas.{search_finds, set_permuted}
 use Rattle.mc_tables.proofs.OtherRowLemmas.{same_is}
-
--- the number that a place says
-abbrev pub number_of_next : ℕ → Option ℕ
-number_of_next zero = None
-number_of_next (suc n) = Some n
 
 -- ---- a key that is none of the keys has no number
 

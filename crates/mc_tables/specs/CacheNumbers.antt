@@ -41,6 +41,11 @@ filled (key ∷ keys) (zero ∷ ns) = filled keys ns
 filled (key ∷ keys) (suc n ∷ ns) = (key, n) ∷ filled keys ns
 filled _ _ = []
 
+-- the number that a place says
+abbrev pub number_of_next : ℕ → Option ℕ
+number_of_next zero = None
+number_of_next (suc n) = Some n
+
 -- the key stands at this place
 abbrev pub IsPlaceOf : List (ℕ × ℕ) → ℕ × ℕ → ℕ → Type 0
 IsPlaceOf keys key place = (place < length keys) × (get_or keys place key ≡ key)

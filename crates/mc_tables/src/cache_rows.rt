@@ -158,13 +158,20 @@ impl CacheRows {
         }
     }
 
-    /// The number of the entry of a source and a group.
-    pub fn number_of(&self, source: Addr, group: Addr) -> Option<u32>
+    /// Lets go what is of use only while rows are added.
+    pub fn settle(&mut self)
+        ensures { self.new ≡ self.old }
+    {
+        self.numbers.settle();
+    }
+
+    /// The number of the entry of a source and a group, whose place may be known already.
+    pub fn number_near(&self, source: Addr, group: Addr, near: &mut usize) -> Option<u32>
         ensures within { IfSome result (λ number. number < length self.now.table.numbered) }
         ensures entry { option_and_then (slice_get self.now.table.numbered) result
             ≡ map.get self.now.table.entries (source, group) }
     {
-        self.numbers.number_of(&(source, group))
+        self.numbers.number_near(&(source, group), near)
     }
 
     /// The entry with this number.

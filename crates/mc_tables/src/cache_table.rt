@@ -92,7 +92,19 @@ impl CacheTable {
             ≡ map.get self.now.entries (source, group) }
         ensures rules { IsCache self.now }
     {
-        self.rows.number_of(source, group)
+        self.rows.number_near(source, group, &mut 0)
+    }
+
+    /// The same, for whoever asks for the same source and group of many tables of which the rows of
+    /// the same sources and groups are kept: `near` is where they were found in the last one, or any
+    /// number at first. A right one saves a search.
+    pub fn number_near(&self, source: Addr, group: Addr, near: &mut usize) -> Option<u32>
+        ensures within { IfSome result (λ number. number < length self.now.numbered) }
+        ensures entry { option_and_then (slice_get self.now.numbered) result
+            ≡ map.get self.now.entries (source, group) }
+        ensures rules { IsCache self.now }
+    {
+        self.rows.number_near(source, group, near)
     }
 
     /// The entry with this number.

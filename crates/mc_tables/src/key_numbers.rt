@@ -51,13 +51,23 @@ impl KeyNumbers {
         }
     }
 
-    /// The number of a source and a group.
-    pub fn number_of(&self, key: &(Addr, Addr)) -> Option<u32>
+    /// The number of a source and a group, whose place may be known already. It is known afterwards,
+    /// for a table of which the same are kept.
+    pub fn number_near(&self, key: &(Addr, Addr), near: &mut usize) -> Option<u32>
         ensures { result ≡ number_in self.now.numbers key.now }
     {
         match &self.listed {
-            Some(listed) => listed.number_of(key),
+            Some(listed) => listed.number_near(key, near),
             None => self.all.get(key).copied(),
+        }
+    }
+
+    /// Lets go what is of use only while numbers are given.
+    pub fn settle(&mut self)
+        ensures { self.new ≡ self.old }
+    {
+        if let Some(listed) = &mut self.listed {
+            listed.settle();
         }
     }
 

@@ -1,11 +1,11 @@
 //! The numbers of the sources and groups that are listed.
 
 ghost use Rattle.std.specs.Prelude.{◌≡◌, ℕ, [], ◌<◌, ◌≤◌, ◌++◌, IfNone, IfOk, IfSome, OnErr, OnOk, Some, false};
-ghost use Rattle.std.specs.Prelude.{length, replicate};
+ghost use Rattle.std.specs.Prelude.{get_or, length, replicate};
 ghost use Rattle.std.specs.FinSet as set;
 ghost use Rattle.std.specs.List.{list_any};
 ghost use Rattle.std.specs.List.Sorted.{IsStrictlySortedBy};
-ghost use Rattle.mc_tables.specs.CacheNumbers.{IsNumbered, IsPlaceOf, number_in};
+ghost use Rattle.mc_tables.specs.CacheNumbers.{IsNumbered, number_in, number_of_next};
 ghost use Rattle.mc_tables.specs.CacheTable.{key_cmp, same_key};
 
 use crate::listed_pairs::ListedPairs;
@@ -62,16 +62,20 @@ impl ListedNumbers {
         }
     }
 
-    /// The number of a source and a group.
-    pub fn number_of(&self, key: &(Addr, Addr)) -> Option<u32>
+    /// The number of a source and a group, whose place may be known already. It is known afterwards.
+    pub fn number_near(&self, key: &(Addr, Addr), near: &mut usize) -> Option<u32>
         ensures { result ≡ number_in self.now.numbers key.now }
     {
-        let place = self.pairs.place_of(key)?;
-        let next = *self.numbers.get(place)?;
-        if next == 0 {
-            return None;
-        }
-        Some(next - 1)
+        let place = self.pairs.place_near(key, *near)?;
+        *near = place;
+        number_at(&self.numbers, place)
+    }
+
+    /// Lets go what is of use only while numbers are given.
+    pub fn settle(&mut self)
+        ensures { self.new ≡ self.old }
+    {
+        self.pairs.settle();
     }
 
     /// Gives a source and a group this number, if they are listed and have none.
@@ -91,6 +95,17 @@ impl ListedNumbers {
         self.numbers[place] = number + 1;
         Ok(Numbered::New)
     }
+}
+
+/// The number at a place.
+fn number_at(numbers: &[u32], place: usize) -> Option<u32>
+    ensures { result ≡ number_of_next (get_or numbers.now place 0) }
+{
+    let next = *numbers.get(place)?;
+    if next == 0 {
+        return None;
+    }
+    Some(next - 1)
 }
 
 /// Gives each of so many pairs a place, at which there is no number.

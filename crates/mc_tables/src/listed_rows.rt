@@ -76,7 +76,8 @@ impl ListedRows {
     pub fn into_kept(self) -> CacheRows
         ensures { result.table ≡ self.rows.table }
     {
-        let ListedRows { kept, .. } = self;
+        let ListedRows { mut kept, .. } = self;
+        kept.settle();
         kept
     }
 

@@ -4,11 +4,11 @@ use Rattle.std.specs.Prelude.{is_some}
 use Rattle.std.specs.BTreeMap.{is_at}
 use Rattle.std.proofs.lemmas.List.{get_or_default}
 use Rattle.std.proofs.lemmas.Map.Keys.{IsDistinct-from_sorted}
-use Rattle.mc_tables.specs.CacheNumbers.{KeysText, IsPlaceOf, number_in}
+use Rattle.mc_tables.specs.CacheNumbers.{KeysText, number_in, number_of_next}
 use Rattle.mc_tables.specs.CacheTable.{key_cmp, same_key}
 use Rattle.mc_tables.specs.ListedRows.{is_in}
 use Rattle.mc_tables.proofs.NumberLemmas.{grown, if_refused, is_there, kept_as, listed_here, number_here}
-use Rattle.mc_tables.proofs.NumberLemmas.{number_of_next, one_more, unlisted}
+use Rattle.mc_tables.proofs.NumberLemmas.{one_more, unlisted}
 use Rattle.mc_tables.proofs.listed_numbers.ListedNumbers.add.Goals as goal
 
 pub returns-in_default-clause-numbered : goal.returns-in_default-clause-numbered

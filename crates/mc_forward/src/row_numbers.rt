@@ -1,6 +1,6 @@
 //! What each router has for each flow, looked up once.
 
-ghost use Rattle.std.specs.Prelude.{IfOk};
+ghost use Rattle.std.specs.Prelude.{◌≡◌, IfOk, OnOk, length};
 ghost use Rattle.mc_forward.specs.RowNumbers.{IsRowNo, AreRowNos, AreRowsOf};
 
 use crate::items::Items;
@@ -11,11 +11,11 @@ use mc_text::Memory;
 use mc_topology::{Flow, Topology};
 use std::alloc::Global;
 
-/// What a cache has for a flow.
-fn row_no(cache: &CacheTable, flow: &Flow) -> RowNo
+/// What a cache has for a flow, where that of another router had it at this place.
+fn row_no(cache: &CacheTable, flow: &Flow, near: &mut usize) -> RowNo
     ensures { IsRowNo cache.now flow.now result }
 {
-    match cache.number_of(flow.source, flow.group) {
+    match cache.number_near(flow.source, flow.group, near) {
         Some(number) => RowNo::Exact(number),
         None => {
             if cache.wildcard(flow.group) {
@@ -27,17 +27,21 @@ fn row_no(cache: &CacheTable, flow: &Flow) -> RowNo
     }
 }
 
-/// What a router has for each flow.
+/// What a router has for each flow. At these places other routers had them.
 fn rows_of_router(
     alloc: Global,
     topology: &Topology,
     tables: &Tables,
+    places: &mut Vec<usize>,
 ) -> Result<Items<RowNo>, Memory>
-    ensures { IfOk result (AreRowNos topology.now.flows tables.now) }
+    requires { length places.old.items ≡ length topology.now.flows }
+    ensures rows { IfOk result (AreRowNos topology.now.flows tables.now) }
+    ensures places { OnOk result (length places.new.items ≡ length topology.now.flows) }
 {
     let mut rows = Vec::with_capacity(alloc, topology.flows() as usize)?;
     for flow in 0..topology.flows() {
-        rows.push(row_no(&tables.cache, topology.flow(flow)))?;
+        let near = &mut places[flow as usize];
+        rows.push(row_no(&tables.cache, topology.flow(flow), near))?;
     }
     Ok(Items { items: rows })
 }
@@ -50,9 +54,10 @@ pub(crate) fn rows_of_routers(
 ) -> Result<Vec<Items<RowNo>>, Memory>
     ensures { IfOk result (λ rows. AreRowsOf topology.now.flows tables.now rows.items) }
 {
+    let mut places = vec![in alloc; 0; topology.flows() as usize]?;
     let mut rows = Vec::with_capacity(alloc, tables.len())?;
     for own in tables {
-        rows.push(rows_of_router(alloc, topology, own)?)?;
+        rows.push(rows_of_router(alloc, topology, own, &mut places)?)?;
     }
     Ok(rows)
 }

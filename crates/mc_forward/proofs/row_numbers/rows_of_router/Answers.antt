@@ -1,4 +1,5 @@
-use Rattle.std.proofs.Common.{subst}
+use Rattle.std.proofs.Common.{subst, ◌∙◌}
+use Rattle.std.proofs.lemmas.List.{length-set}
 use Rattle.mc_forward.specs.Domains.{TablesValue}
 use Rattle.mc_forward.specs.RowNumbers.{IsRowNo}
 use Rattle.mc_forward.proofs.EachLemmas.{count-pushed, each-pushed}
@@ -15,4 +16,6 @@ loop-flow-preserved c = record {
       (subst (λ (own : TablesValue). IsRowNo own.cache c.flow.result.now c.row_no.result)
       c.tables.view_is c.row_no.ensures)
       c.loop-flow.invariant.each;
+  places = length-set c.loop-flow.places.items c.loop-flow.flow c.row_no.new.near
+      ∙ c.loop-flow.invariant.places;
 }

@@ -7,4 +7,5 @@ abbrev pub invariant-loop-flow : goal.invariant-loop-flow
 invariant-loop-flow l = record {
   count : length l.rows.items ≡ l.flow;
   each : EachAt (IsRowNo l.fn.tables.cache) l.fn.topology.flows l.rows.items;
+  places : length l.places.items ≡ length l.fn.topology.flows;
 }

@@ -13,6 +13,7 @@ loop-own-preserved c =
       each = each-pushed (AreRowNos c.args.topology.now.flows) c.args.tables.now
           c.loop-own.rows.items c.push.new.self.items c.own-item.result
           c.in_ok-rows_of_router.field-0 c.loop-own.own-index c.in_ok-push.ensures.items
-          c.loop-own.invariant.count found c.in_ok-rows_of_router.ensures
+          c.loop-own.invariant.count found c.in_ok-rows_of_router.ensures.rows
           c.loop-own.invariant.each;
+      places = c.in_ok-rows_of_router.ensures.places;
     }

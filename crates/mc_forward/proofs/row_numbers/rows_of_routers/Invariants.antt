@@ -7,4 +7,5 @@ abbrev pub invariant-loop-own : goal.invariant-loop-own
 invariant-loop-own l = record {
   count : length l.rows.items ≡ l.own-index;
   each : EachAt (AreRowNos l.fn.topology.flows) l.fn.tables l.rows.items;
+  places : length l.places.items ≡ length l.fn.topology.flows;
 }

@@ -1,17 +1,16 @@
 -- What the maps of the library keep, as the table of a cache.
-use Rattle.std.proofs.Common.{◌≡◌, ℕ, zero, suc, ◌+◌, ◌<◌, Bool, true, false, cond, List, [], ◌∷◌}
+use Rattle.std.proofs.Common.{◌≡◌, ℕ, zero, suc, ◌+◌, ◌<◌, true, false, cond, List, [], ◌∷◌}
 use Rattle.std.proofs.Common.{◌++◌, length, Option, Some, None, refl, sym, ap, subst, ◌∙◌, inl, inr}
 use Rattle.std.proofs.Common.{arith}
-use Rattle.std.specs.Prelude.{◌||◌, is_some, IfSome, slice_get, option_and_then}
+use Rattle.std.specs.Prelude.{is_some, IfSome, slice_get, option_and_then}
 use Rattle.std.specs.Option.{option_map}
-use Rattle.std.specs.List.{list_any, cons_option}
+use Rattle.std.specs.List.{cons_option}
 use Rattle.std.specs.Ordering.{nat_cmp, eq_by_cmp, ordering_then}
 use Rattle.std.specs.declared.cmp.Ordering.TheVariants.{Less, Equal, Greater}
 use Rattle.std.specs.FinMap as map
 use Rattle.std.specs.FinMap.{IsAntisymmetric, nat_cmp-IsAntisymmetric}
 use Rattle.std.specs.FinSet as set
 use Rattle.std.proofs.lemmas.Bool.{cases_Bool}
-use Rattle.std.proofs.lemmas.Cmp.{nat_cmp_total, eq_by_cmp_equiv}
 use Rattle.std.proofs.lemmas.List.{length_push}
 use Rattle.std.specs.BTreeMap.{is_at}
 use Rattle.std.specs.Map.{lookup}
@@ -21,12 +20,15 @@ use Rattle.mc_tables.specs.CacheNumbers.{entries_by, number_in, AreNumbers, More
 use Rattle.mc_tables.proofs.CacheLemmas.{key_total, key_laws}
 
 -- the table that numbers, entries and groups make
-abbrev pub table_kept : List ((ℕ × ℕ) × ℕ) → List EntryText → List ℕ → CacheText
-table_kept numbers es groups = record {
+abbrev pub table_with : List ((ℕ × ℕ) × ℕ) → List EntryText → set.FinSet nat_cmp → CacheText
+table_with numbers es groups = record {
   entries = map.from_entries (entries_by numbers es);
   numbered = es;
-  wildcards = set.from_list groups;
+  wildcards = groups;
 }
+
+abbrev pub table_kept : List ((ℕ × ℕ) × ℕ) → List EntryText → List ℕ → CacheText
+table_kept numbers es groups = table_with numbers es (set.from_list groups)
 
 -- only equal keys tie
 pub key_antisymmetric : IsAntisymmetric key_cmp
@@ -179,28 +181,3 @@ inserted key entry es more answers =
     ∙ ap (λ b. cond b (Some entry) (lookup (is_at (key_cmp q)) es)) (key_laws.symm key q)
     ∙ ap (cond (eq_by_cmp key_cmp q key) (Some entry)) (looked_up q es)
     ∙ sym (map.get-insert key_total (map.from_entries {R = key_cmp} es) key entry q))
-
--- asking for a group finds whether the set has it
-pub is_member : (group : ℕ) (groups : List ℕ) →
-    list_any (is_at (nat_cmp group)) groups
-    ≡ set.contains (set.from_list {R = nat_cmp} groups) group
-is_member group groups = sym (set.contains-from_list nat_cmp_total groups group)
-
--- a choice of true is a disjunction
-cond_or : (b c : Bool) → cond b true c ≡ (b || c)
-cond_or true c = refl
-cond_or false c = refl
-
--- groups that answer as those before and one more are the set with that one
-pub added : (group : ℕ) (groups more : List ℕ) →
-    ((q : ℕ) → list_any (is_at (nat_cmp q)) more
-    ≡ cond (is_at (nat_cmp group) q) true (list_any (is_at (nat_cmp q)) groups)) →
-    set.from_list {R = nat_cmp} more ≡ set.insert (set.from_list {R = nat_cmp} groups) group
-added group groups more answers =
-    set.same_set nat_cmp_total nat_cmp-IsAntisymmetric _ _ (λ q.
-    sym (is_member q more) ∙ answers q
-    ∙ cond_or (is_at (nat_cmp group) q) (list_any (is_at (nat_cmp q)) groups)
-    ∙ ap (λ b. b || list_any (is_at (nat_cmp q)) groups)
-    ((eq_by_cmp_equiv nat_cmp_total).symm group q)
-    ∙ ap (λ b. eq_by_cmp nat_cmp q group || b) (is_member q groups)
-    ∙ sym (set.contains-insert nat_cmp_total (set.from_list {R = nat_cmp} groups) group q))

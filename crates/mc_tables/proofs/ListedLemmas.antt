@@ -5,16 +5,20 @@ use Rattle.std.specs.Prelude.{◌==◌, ◌&&◌, is_ok}
 use Rattle.std.specs.FinSet as set
 use Rattle.std.specs.List.{All}
 use Rattle.std.specs.List.Sorted.{IsPermutation, IsSorted, IsSearchInRange, IsBinarySearchResult}
-use Rattle.std.specs.Ordering.{is_eq}
+use Rattle.std.specs.Cmp.{IsTotalOrder}
+use Rattle.std.specs.FinMap.{IsAntisymmetric}
+use Rattle.std.specs.Ordering.{eq_by_cmp, is_eq}
+use Rattle.std.specs.declared.cmp.Ordering.{Ordering}
 use Rattle.std.proofs.lemmas.Bool.{cases_lt}
 use Rattle.std.proofs.lemmas.Bool.Decides.{nat_tests}
+use Rattle.std.proofs.lemmas.Cmp.{eq_by_cmp_equiv}
 use Rattle.std.proofs.lemmas.List.Folds.{list_any_at, list_any_none}
 use Rattle.std.proofs.lemmas.List.Sorted.{list_any-IsPermutation, searchable_from_sorted}
 use Rattle.mc_tables.specs.CacheTable.{key_cmp, same_key, key_of}
 use Rattle.mc_tables.specs.CacheTable.{RowText}
 use Rattle.mc_tables.specs.ListedRows.{Listed, is_listed, is_kept_key, is_kept, listed_set, is_in}
 use Rattle.mc_tables.specs.ListedRows.{is_kept_key_by, is_kept_by}
-use Rattle.mc_tables.proofs.CacheLemmas.{key_total, key_laws}
+use Rattle.mc_tables.proofs.CacheLemmas.{key_total}
 use Rattle.mc_tables.proofs.CacheMapLemmas.{key_antisymmetric}
 use Rattle.mc_tables.proofs.OtherRowLemmas.{any_same}
 
@@ -43,30 +47,41 @@ kept_same listed row = kept_key_same listed (key_of row)
 
 -- ---- in order
 
--- in another order they are the same set
+module _ {X : Type 0} {cmp : X → X → Ordering} (total : IsTotalOrder cmp) where
+  -- in another order they are the same set
+  pub set_reordered : IsAntisymmetric cmp → (xs sorted : List X) → IsPermutation xs sorted
+      → set.from_list {R = cmp} sorted ≡ set.from_list xs
+  set_reordered ties xs sorted moved =
+      set.same_set total ties (set.from_list sorted) (set.from_list xs) (λ q.
+      set.contains-from_list total sorted q
+      ∙ sym (list_any-IsPermutation (eq_by_cmp cmp q) xs sorted moved)
+      ∙ sym (set.contains-from_list total xs q))
+
+  -- a search finds what the set has
+  pub search_answers : (xs : List X) (x : X) (r : Result ℕ ℕ) → IsSorted cmp xs
+      → IsSearchInRange r (length xs) → IsBinarySearchResult (λ y. cmp y x) xs r
+      → is_ok r ≡ set.contains (set.from_list {R = cmp} xs) x
+  search_answers xs x (Ok i) up within found =
+      let here : eq_by_cmp cmp x (get_or xs i x) ≡ true =
+      (eq_by_cmp_equiv total).symm x (get_or xs i x) ∙ ap is_eq (found x) in
+      sym (list_any_at (eq_by_cmp cmp x) xs i x within here)
+      ∙ sym (set.contains-from_list total xs x)
+  search_answers xs x (Err i) up within found =
+      let split = found (searchable_from_sorted total (λ (y : X). y) xs x up) in
+      let none : All (λ y. eq_by_cmp cmp x y ≡ false) xs = λ k d lt.
+      (eq_by_cmp_equiv total).symm x (get_or xs k d) ∙ elim (cases_lt k i) [
+        | inl below ↦ ap is_eq (split.0 k d (omega arith) below)
+        | inr above ↦ ap is_eq (split.1 k d above lt)
+      ] in
+      sym (list_any_none (eq_by_cmp cmp x) xs none)
+      ∙ sym (set.contains-from_list total xs x)
+
+-- so of sources and groups
 pub set_permuted : (keys sorted : List (ℕ × ℕ)) → IsPermutation keys sorted
     → set.from_list {R = key_cmp} sorted ≡ set.from_list keys
-set_permuted keys sorted moved =
-    set.same_set key_total key_antisymmetric (set.from_list sorted) (set.from_list keys) (λ q.
-    set.contains-from_list key_total sorted q
-    ∙ sym (list_any-IsPermutation (same_key q) keys sorted moved)
-    ∙ sym (set.contains-from_list key_total keys q))
+set_permuted keys sorted moved = set_reordered key_total key_antisymmetric keys sorted moved
 
--- a search finds what the set has
 pub search_finds : (keys : List (ℕ × ℕ)) (key : ℕ × ℕ) (r : Result ℕ ℕ) → IsSorted key_cmp keys
     → IsSearchInRange r (length keys) → IsBinarySearchResult (λ k. key_cmp k key) keys r
     → is_ok r ≡ set.contains (set.from_list {R = key_cmp} keys) key
-search_finds keys key (Ok i) up within found =
-    let here : same_key key (get_or keys i key) ≡ true =
-    key_laws.symm key (get_or keys i key) ∙ ap is_eq (found key) in
-    sym (list_any_at (same_key key) keys i key within here)
-    ∙ sym (set.contains-from_list key_total keys key)
-search_finds keys key (Err i) up within found =
-    let split = found (searchable_from_sorted key_total (λ (k : ℕ × ℕ). k) keys key up) in
-    let none : All (λ k. same_key key k ≡ false) keys = λ k d lt.
-    key_laws.symm key (get_or keys k d) ∙ elim (cases_lt k i) [
-      | inl below ↦ ap is_eq (split.0 k d (omega arith) below)
-      | inr above ↦ ap is_eq (split.1 k d above lt)
-    ] in
-    sym (list_any_none (same_key key) keys none)
-    ∙ sym (set.contains-from_list key_total keys key)
+search_finds keys key r up within found = search_answers key_total keys key r up within found

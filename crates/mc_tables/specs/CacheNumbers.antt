@@ -79,7 +79,9 @@ IsNumbered key number old new Unlisted = (is_in old.listed key ≡ false) × (ne
 
 -- ---- the rows that are kept
 
--- the table of the rows that are kept, and which rows are
+-- the table of the rows that are kept, which rows are, and the groups of those for every source, as
+-- they stand
 pub record KeptText : Type 0 where
   pub table : CacheText
   pub listed : ListedSet
+  pub groups : List ℕ

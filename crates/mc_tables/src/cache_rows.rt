@@ -4,6 +4,8 @@ ghost use Rattle.std.specs.Prelude.{◌≡◌, ◌≢◌, ◌<◌, ◌≤◌, �
 ghost use Rattle.std.specs.Prelude.{IfSome, Ok, Err, Some, false, true, slice_get, option_and_then};
 ghost use Rattle.std.specs.FinMap as map;
 ghost use Rattle.std.specs.FinSet as set;
+ghost use Rattle.std.specs.List.Sorted.{IsSorted};
+ghost use Rattle.std.specs.Ordering.{nat_cmp};
 ghost use Rattle.mc_tables.specs.declared.fault.TableFaultKind.TheVariants.{Memory};
 ghost use Rattle.mc_tables.specs.CacheTable.{table_of};
 ghost use Rattle.mc_tables.specs.CacheSteps.{row_added, entry_added, group_added};
@@ -18,7 +20,6 @@ use crate::key_numbers::KeyNumbers;
 use crate::listed_numbers::Numbered;
 use mc_text::Addr;
 use std::alloc::Global;
-use std::collections::BTreeSet;
 use std::marker::Model;
 
 /// The entries of resolved rows in the order of their lines, the number of each source and group,
@@ -30,7 +31,8 @@ pub struct CacheRows {
     // those of all entries, one after another
     oifs: Vec<Oif>,
     numbers: KeyNumbers,
-    wildcards: BTreeSet<Addr>,
+    // as their lines come, until they are put in order
+    groups: Vec<Addr>,
 }
 
 // Written out, so that whoever lets rows go takes one step, and not one for each of their parts.
@@ -40,7 +42,7 @@ impl Drop for CacheRows {
             heads,
             oifs,
             numbers,
-            wildcards,
+            groups,
         } = self;
     }
 }
@@ -63,9 +65,10 @@ impl Model for CacheRows {
         entries = map.from_entries
             (entries_by rows.numbers.numbers (entries_of rows.heads.items rows.oifs.items));
         numbered = entries_of rows.heads.items rows.oifs.items;
-        wildcards = set.from_list rows.wildcards.keys;
+        wildcards = set.from_list rows.groups.items;
       };
       listed = rows.numbers.listed;
+      groups = rows.groups.items;
     } };
 
     ghost invariant = { λ rows.
@@ -77,13 +80,13 @@ impl CacheRows {
     /// No rows. Those of the numbers' sources and groups are kept.
     pub fn new(alloc: Global, numbers: KeyNumbers) -> CacheRows
         requires { numbers.numbers ≡ [] }
-        ensures { result ≡ record { table = table_of []; listed = numbers.listed } }
+        ensures { result ≡ record { table = table_of []; listed = numbers.listed; groups = [] } }
     {
         CacheRows {
             heads: Vec::new(alloc),
             oifs: Vec::new(alloc),
             numbers,
-            wildcards: BTreeSet::new(alloc),
+            groups: Vec::new(alloc),
         }
     }
 
@@ -120,7 +123,7 @@ impl CacheRows {
         ensures listed { self.new.listed ≡ self.old.listed }
         ensures numbered { self.new.table.numbered ≡ self.old.table.numbered }
     {
-        self.wildcards.insert(group)?;
+        self.groups.push(group)?;
         Ok(())
     }
 
@@ -158,11 +161,15 @@ impl CacheRows {
         }
     }
 
-    /// Lets go what is of use only while rows are added.
-    pub fn settle(&mut self)
-        ensures { self.new ≡ self.old }
+    /// The same rows, with the groups in order, and without what is of use only while rows are
+    /// added.
+    pub fn in_order(mut self) -> CacheRows
+        ensures table { result.table ≡ self.table }
+        ensures order { IsSorted nat_cmp result.groups }
     {
+        self.groups.sort_unstable();
         self.numbers.settle();
+        self
     }
 
     /// The number of the entry of a source and a group, whose place may be known already.
@@ -184,6 +191,7 @@ impl CacheRows {
 
     /// Whether a row for every source has this group or the group 0.0.0.0.
     pub fn wildcard(&self, group: Addr) -> bool
+        requires { IsSorted nat_cmp self.now.groups }
         ensures { result ≡
             (set.contains self.now.table.wildcards group || set.contains self.now.table.wildcards 0) }
     {
@@ -191,8 +199,9 @@ impl CacheRows {
     }
 
     fn has_group(&self, group: Addr) -> bool
+        requires { IsSorted nat_cmp self.now.groups }
         ensures { result ≡ set.contains self.now.table.wildcards group }
     {
-        self.wildcards.contains(&group)
+        self.groups.binary_search(&group).is_ok()
     }
 }

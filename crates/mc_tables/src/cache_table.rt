@@ -23,6 +23,8 @@ pub struct CacheTable {
 }
 
 impl Model for CacheTable {
+    ghost use Rattle.std.specs.List.Sorted.{IsSorted};
+    ghost use Rattle.std.specs.Ordering.{nat_cmp};
     ghost use Rattle.mc_tables.specs.CacheTable.{CacheText, IsCache, cache_code};
 
     ghost Value = { CacheText };
@@ -31,7 +33,7 @@ impl Model for CacheTable {
 
     ghost view = { λ table. table.rows.table };
 
-    ghost invariant = { λ table. IsCache table.rows.table };
+    ghost invariant = { λ table. IsCache table.rows.table × IsSorted nat_cmp table.rows.groups };
 }
 
 impl CacheTable {
@@ -69,7 +71,9 @@ impl CacheTable {
         requires { IsCache rows.table }
         ensures { result ≡ rows.table }
     {
-        CacheTable { rows }
+        CacheTable {
+            rows: rows.in_order(),
+        }
     }
 
     /// The entry of the resolved row of this source and this group. There is none for 0.0.0.0.

@@ -1,8 +1,6 @@
 use Rattle.std.proofs.Common.{ℕ, ◌≡◌, ◌∙◌, [], ◌∷◌, ◌++◌, List, sym, ap, subst, Ok, Err}
 use Rattle.std.specs.Prelude.{is_some}
 use Rattle.std.specs.FinMap as map
-use Rattle.mc_tables.specs.declared.entry.Oif.{Oif}
-use Rattle.mc_tables.specs.declared.flat_entries.EntryHead.{EntryHead}
 use Rattle.mc_tables.specs.declared.fault.TableFaultKind.TheVariants.{RepeatedEntry}
 use Rattle.mc_tables.specs.CacheTable.{EntryText}
 use Rattle.mc_tables.specs.CacheSteps.{entry_added}
@@ -11,7 +9,7 @@ use Rattle.mc_tables.specs.FlatRows.{entries_of}
 use Rattle.mc_tables.specs.ListedRows.{is_in}
 use Rattle.mc_tables.proofs.CacheMapLemmas.{table_kept, entry_there, inserted, more_answers}
 use Rattle.mc_tables.proofs.CacheStepLemmas.{entry_repeated, entry_entered}
-use Rattle.mc_tables.proofs.FlatLemmas.{entries_pushed, length_entries}
+use Rattle.mc_tables.proofs.FlatLemmas.{length_entries}
 use Rattle.mc_tables.proofs.cache_rows.CacheRows.add_entry.Goals as goal
 
 pub returns-in-Repeated-clause-fault : goal.returns-in-Repeated-clause-fault
@@ -25,7 +23,7 @@ returns-in-Repeated-clause-fault c = λ _.
       ap (λ (kept : KeptText). is_in kept.listed key) (sym c.self.view_is) ∙ own.0,
       subst (λ (kept : KeptText). entry_added kept.table key entry ≡ Err RepeatedEntry)
           c.self.view_is
-          (entry_repeated (table_kept numbers es c.self.inside.wildcards.keys) key entry
+          (entry_repeated (table_kept numbers es c.self.inside.groups.items) key entry
           (entry_there key numbers es c.self.invariant.0 ∙ own.1)),
     )
 
@@ -40,7 +38,7 @@ returns-in_ok-push_entry-in-New-clause-added c = λ _.
     let more = c.add.new.self.numbers in
     let own = subst (IsNumbered key c.len-number.result c.self.inside.numbers c.add.new.self)
     c.in-New.is c.in_ok-add.ensures.numbered in
-    let kept = table_kept numbers es c.self.inside.wildcards.keys in
+    let kept = table_kept numbers es c.self.inside.groups.items in
     let pushed = c.push_entry.ensures.entries
     ∙ ap (λ (e : List EntryText). e ++ entry ∷ [])
     (ap (λ h. entries_of h c.reserve-2.new.self.items) c.in_ok-reserve.ensures.items
@@ -53,10 +51,10 @@ returns-in_ok-push_entry-in-New-clause-added c = λ _.
     subst (λ (kept : KeptText). entry_added kept.table key entry
     ≡ Ok (table_kept more
     (entries_of c.push_entry.new.heads.items c.push_entry.new.all.items)
-    c.self.inside.wildcards.keys))
+    c.self.inside.groups.items))
     c.self.view_is
     (subst (λ (all : List EntryText). entry_added kept key entry
-    ≡ Ok (table_kept more all c.self.inside.wildcards.keys)) (sym pushed)
+    ≡ Ok (table_kept more all c.self.inside.groups.items)) (sym pushed)
     (entry_entered kept key entry
     (map.from_entries (entries_by more (es ++ entry ∷ [])))
     (entry_there key numbers es c.self.invariant.0 ∙ ap is_some own.1)

@@ -1,20 +1,26 @@
 -- Rows of which only what finds a repeated one is kept.
 use Rattle.std.proofs.Common.{◌≡◌, ℕ, ◌+◌, ◌<◌, ◌≤◌, Bool, true, false, cond, List}
-use Rattle.std.proofs.Common.{[], ◌∷◌, ◌++◌, Option, Some, None, refl, sym, ap}
+use Rattle.std.proofs.Common.{[], ◌∷◌, ◌++◌, length, get_or, Option, Some, None, refl, sym, ap}
 use Rattle.std.proofs.Common.{◌∙◌, arith, inl, inr}
 use Rattle.std.specs.Prelude.{nat_lt, nat_le, ◌&&◌, ◌||◌, map, filter}
-use Rattle.std.specs.Cmp.{Equal-is}
-use Rattle.std.specs.List.{list_any, AllByRecursion}
-use Rattle.std.specs.List.Sorted.{IsPermutation}
-use Rattle.std.proofs.lemmas.Bool.{cases_Bool, le-ltb, lt-ltb, and_right}
-use Rattle.std.proofs.lemmas.Bool.{true≢false, leb-true, le-leb}
+use Rattle.std.specs.Cmp.{Equal-is, IsEquivalence}
+use Rattle.std.specs.List.{list_any, AllByRecursion, IsAllAdjacentAnswer, IsDistinct}
+use Rattle.std.specs.List.Sorted.{IsPermutation, IsStrictlyIncreasing}
+use Rattle.std.specs.Ordering.{nat_cmp, eq_by_cmp}
+use Rattle.std.proofs.lemmas.Bool.{cases_Bool, cases_lt, le-ltb, lt-ltb, and_right}
+use Rattle.std.proofs.lemmas.Bool.{true≢false, leb-true, le-leb, ltb-true}
 use Rattle.std.proofs.lemmas.Bool.Decides.{nat_tests}
-use Rattle.std.proofs.lemmas.List.{append-nil, map-append}
+use Rattle.std.proofs.lemmas.List.{append-nil, get_or-map, get_or_default, length-map, map-append}
 use Rattle.std.proofs.lemmas.List.Elements.{filter-append}
-use Rattle.std.proofs.lemmas.List.Folds.{list_any-append}
-use Rattle.std.proofs.lemmas.List.Sorted.{list_any-IsPermutation}
+use Rattle.std.proofs.lemmas.List.Folds.{list_any-append, list_any_none}
+use Rattle.std.proofs.lemmas.List.Sorted.{list_any-IsPermutation, IsPermutation-append_left}
+use Rattle.std.proofs.lemmas.List.Sorted.{IsPermutation-map, IsPermutation-sym, IsPermutation-trans}
+use Rattle.std.proofs.lemmas.Cmp.{nat_cmp_total, eq_by_cmp_equiv}
+use Rattle.std.proofs.lemmas.Map.Keys.{IsDistinct-IsPermutation, IsDistinct-from_sorted}
+use Rattle.std.proofs.lemmas.Map.Keys.{apart_from_distinct, sorted_from_strictly_increasing}
 use Rattle.mc_tables.specs.CacheTable.{key_cmp, same_key}
 use Rattle.mc_tables.specs.OtherRows.{OtherRow, repeats, is_repeat, lesser, least, first_repeat}
+use Rattle.mc_tables.specs.OtherRows.{key_number, row_number}
 use Rattle.mc_tables.proofs.CacheLemmas.{key_laws}
 use Rattle.mc_tables.proofs.CacheMapLemmas.{key_antisymmetric}
 
@@ -251,3 +257,100 @@ repeat_begins rows key line before none =
     repeat_more rows (key, line) (later_repeats_none rows key line before)
     ∙ ap (λ o. cond (is_repeat rows (key, line)) (Some (lesser line o)) o) none
     ∙ ap (λ b. cond b (Some line) None) (later_repeats rows key line before)
+
+-- ---- rows as numbers
+
+-- one row more
+pub numbers_more : (rows : List OtherRow) (numbers : List ℕ) (row : OtherRow)
+    → IsPermutation (map row_number rows) numbers
+    → IsPermutation (map row_number (rows ++ row ∷ [])) (numbers ++ row_number row ∷ [])
+numbers_more rows numbers row same =
+    rw (map-append row_number rows (row ∷ []))
+    (IsPermutation-append_left (row_number row ∷ []) (map row_number rows) numbers same)
+
+-- in another order
+pub numbers_moved : (rows moved : List OtherRow) (numbers others : List ℕ)
+    → IsPermutation (map row_number rows) numbers → IsPermutation rows moved
+    → IsPermutation numbers others → IsPermutation (map row_number moved) others
+numbers_moved rows moved numbers others same by to =
+    IsPermutation-trans (map row_number moved) (map row_number rows) others
+    (IsPermutation-sym (map row_number rows) (map row_number moved)
+    (IsPermutation-map row_number rows moved by))
+    (IsPermutation-trans (map row_number rows) numbers others same to)
+
+-- two numbers are the same
+abbrev same_number : ℕ → ℕ → Bool
+same_number = eq_by_cmp nat_cmp
+
+number_laws : IsEquivalence same_number
+number_laws = eq_by_cmp_equiv nat_cmp_total
+
+-- rows whose numbers differ are no repeats
+number_differs : (x y : OtherRow) → same_number (row_number y) (row_number x) ≡ false
+    → repeats x y ≡ false
+number_differs x y apart =
+    elim (cases_Bool (same_key y.0 x.0)) [
+      | inr other ↦ ap (λ b. b && nat_lt y.1 x.1) other
+      | inl same ↦
+          let one : row_number y ≡ row_number x = ap key_number (same_is y.0 x.0 same) in
+          absurd (true≢false (sym (number_laws.refl (row_number x))
+          ∙ ap (λ n. same_number n (row_number x)) (sym one) ∙ apart))
+    ]
+
+module _ (rows : List OtherRow) (apart : IsDistinct same_number (map row_number rows)) where
+  -- two of the rows have not one number
+  numbers_differ : (i j : ℕ) (d : OtherRow) → i < j → j < length rows
+      → same_number (row_number (get_or rows i d)) (row_number (get_or rows j d)) ≡ false
+  numbers_differ i j d before fits =
+      ap (λ n. same_number n (row_number (get_or rows j d)))
+      (sym (get_or-map row_number rows i d 0 (omega (arith, before, fits))))
+      ∙ ap (same_number (get_or (map row_number rows) i 0))
+      (sym (get_or-map row_number rows j d 0 fits))
+      ∙ apart_from_distinct same_number (map row_number rows) i j 0 apart before
+      (omega (arith, fits, length-map rows row_number))
+
+  -- so none repeats another, nor itself
+  repeats_none : (i j : ℕ) (d : OtherRow) → i < length rows → j < length rows
+      → repeats (get_or rows i d) (get_or rows j d) ≡ false
+  repeats_none i j d fits_i fits_j =
+      let x = get_or rows i d in
+      elim (cases_lt i j) [
+        | inl before ↦
+            number_differs x (get_or rows j d)
+            (number_laws.symm (row_number (get_or rows j d)) (row_number x)
+            ∙ numbers_differ i j d before fits_j)
+        | inr other ↦ elim (cases_lt j i) [
+          | inl after ↦ number_differs x (get_or rows j d) (numbers_differ j i d after fits_i)
+          | inr one ↦
+              let same : j ≡ i = omega (arith, other, one) in
+              ap (λ k. repeats x (get_or rows k d)) same
+              ∙ and_right (same_key x.0 x.0) (nat_lt x.1 x.1) (le-ltb x.1 x.1 (omega arith))
+        ]
+      ]
+
+  no_repeats : (i : ℕ) (d : OtherRow) → i < length rows → is_repeat rows (get_or rows i d) ≡ false
+  no_repeats i d fits =
+      list_any_none (repeats (get_or rows i d)) rows (λ j e lt.
+      ap (repeats (get_or rows i d)) (get_or_default rows j e d lt) ∙ repeats_none i j d fits lt)
+
+-- rows whose numbers ascend, in some order, repeat none
+pub none_repeated : (rows : List OtherRow) (numbers : List ℕ)
+    → IsPermutation (map row_number rows) numbers → IsStrictlyIncreasing numbers
+    → first_repeat rows ≡ None
+none_repeated rows numbers same up =
+    let apart : IsDistinct same_number (map row_number rows) =
+    IsDistinct-IsPermutation same_number number_laws.symm numbers (map row_number rows)
+    (IsPermutation-sym (map row_number rows) numbers same)
+    (IsDistinct-from_sorted nat_cmp numbers (sorted_from_strictly_increasing numbers up)) in
+    one_least (first_repeat rows) None (λ most.
+    repeat_within rows most
+    ∙ list_any_none (λ r. is_repeat rows r && nat_le r.1 most) rows (λ k d lt.
+    ap (λ b. b && nat_le (get_or rows k d).1 most) (no_repeats rows apart k d lt)))
+
+-- numbers of which each was found less than the next
+pub ascending : (numbers : List ℕ) (r : Bool)
+    → IsAllAdjacentAnswer (λ x y b. b ≡ nat_lt x y) numbers r → r ≡ true
+    → IsStrictlyIncreasing numbers
+ascending numbers true each is = λ k lt.
+    ltb-true (get_or numbers k 0) (get_or numbers (k + 1) 0) (sym (each k 0 lt))
+ascending numbers false each is = absurd cc

@@ -1,5 +1,5 @@
 -- Rows of a cache of which only what finds a repeated one is kept.
-use Rattle.std.specs.Prelude.{ℕ, nat_lt, Bool, ◌&&◌, if◌then◌else◌, List, [], ◌∷◌, map, filter, Option}
+use Rattle.std.specs.Prelude.{ℕ, ◌+◌, ◌*◌, ◌^◌, nat_lt, Bool, ◌&&◌, if◌then◌else◌, List, [], ◌∷◌, map, filter, Option}
 use Rattle.std.specs.Prelude.{Some, None, Result, Ok, Err}
 use Rattle.std.specs.List.{list_any}
 use Rattle.std.specs.Ordering.{nat_cmp, ordering_then}
@@ -11,6 +11,13 @@ use Rattle.mc_tables.specs.CacheTable.{key_cmp, same_key}
 -- a row by its source and group, and its line
 abbrev pub OtherRow : Type 0
 OtherRow = (ℕ × ℕ) × ℕ
+
+-- a source and a group as one number, of which the source is the upper half
+abbrev pub key_number : ℕ × ℕ → ℕ
+key_number key = key.0 * 2 ^ 32 + key.1
+
+abbrev pub row_number : OtherRow → ℕ
+row_number row = key_number row.0
 
 -- by source and group, and then by line
 abbrev pub row_cmp : OtherRow → OtherRow → Ordering

@@ -1,9 +1,9 @@
 //! The rows of a cache that are not kept, by what finds a repeated one.
 
-ghost use Rattle.std.specs.Prelude.{◌≡◌, [], ◌∷◌, ◌++◌, OnOk, OnErr, IfErr};
-ghost use Rattle.std.specs.List.Sorted.{IsSorted};
+ghost use Rattle.std.specs.Prelude.{◌≡◌, [], ◌∷◌, ◌++◌, true, OnOk, OnErr, IfErr};
+ghost use Rattle.std.specs.List.Sorted.{IsSorted, IsStrictlyIncreasing};
 ghost use Rattle.mc_tables.specs.declared.fault.TableFaultKind.TheVariants.{Memory};
-ghost use Rattle.mc_tables.specs.OtherRows.{row_cmp, repeats, lesser, first_repeat, without_repeat};
+ghost use Rattle.mc_tables.specs.OtherRows.{key_number, row_cmp, repeats, lesser, first_repeat, without_repeat};
 
 use crate::fault::{TableFault, TableFaultKind};
 use mc_text::Addr;
@@ -17,15 +17,20 @@ type OtherRow = ((Addr, Addr), u32);
 #[derive(Debug, Drop)]
 pub struct OtherRows {
     rows: Vec<OtherRow>,
+    // the source and the group of each as one number, which is compared faster than a row
+    keys: Vec<u64>,
 }
 
 impl Model for OtherRows {
-    ghost use Rattle.std.specs.Prelude.{List};
-    ghost use Rattle.mc_tables.specs.OtherRows.{OtherRow};
+    ghost use Rattle.std.specs.Prelude.{List, map};
+    ghost use Rattle.std.specs.List.Sorted.{IsPermutation};
+    ghost use Rattle.mc_tables.specs.OtherRows.{OtherRow, row_number};
 
     ghost Value = { List OtherRow };
 
     ghost view = { λ s. s.rows.items };
+
+    ghost invariant = { λ s. IsPermutation (map row_number s.rows.items) s.keys.items };
 }
 
 impl OtherRows {
@@ -35,6 +40,7 @@ impl OtherRows {
     {
         OtherRows {
             rows: Vec::new(alloc),
+            keys: Vec::new(alloc),
         }
     }
 
@@ -44,7 +50,9 @@ impl OtherRows {
         ensures fault { IfErr result (λ fault. fault ≡ Memory) }
         ensures err { OnErr result (self.new ≡ self.old) }
     {
+        self.keys.reserve(1)?;
         self.rows.push(((source, group), line))?;
+        self.keys.push(key_number(source, group))?;
         Ok(())
     }
 
@@ -52,12 +60,33 @@ impl OtherRows {
     pub fn check_repeats(&mut self) -> Result<(), TableFault>
         ensures { result ≡ without_repeat self.old }
     {
+        self.keys.sort_unstable();
+        if ascend(&self.keys) {
+            return Ok(());
+        }
+        // Of those that are repeated the lines are needed too.
         self.rows.sort_unstable();
         match first_of_sorted(self.rows.as_slice()) {
             Some(line) => Err(TableFaultKind::RepeatedEntry.at(line)),
             None => Ok(()),
         }
     }
+}
+
+/// A source and a group as one number.
+fn key_number(source: Addr, group: Addr) -> u64
+    ensures { result ≡ key_number (source, group) }
+{
+    let upper = u32::from_be_bytes(source.octets());
+    let lower = u32::from_be_bytes(group.octets());
+    u64::from(upper) * (1 << 32) + u64::from(lower)
+}
+
+/// Whether each number is less than the next.
+fn ascend(numbers: &[u64]) -> bool
+    ensures { result ≡ true → IsStrictlyIncreasing numbers.now }
+{
+    numbers.is_sorted_by(|x, y| x < y)
 }
 
 /// The first line whose row repeats an earlier one, where the rows stand by source and group, and

@@ -30,7 +30,7 @@ Decides-Any p P each xs = (
   λ (k, x, below, is, holds). list_any-from_Any p xs (k, x, below, is, (each x).1 holds),
 )
 
-Decides-wanted : (records : List Record) (group s : ℕ)
+pub Decides-wanted : (records : List Record) (group s : ℕ)
     → Decides (wanted records group s) (Wants records group s)
 Decides-wanted records group s =
     Decides-Any (wanted_by group s) (λ r. (r.group ≡ group) × Admits r s)

@@ -1,0 +1,127 @@
+-- Channels and their places, and what is answered of them.
+use Rattle.std.proofs.Common.{◌≡◌, ℕ, zero, suc, ◌+◌, ◌<◌, ◌%◌, Bool, true, false, not, ◌||◌, eqb}
+use Rattle.std.proofs.Common.{List, [], ◌∷◌, ◌++◌, length, get_or, map, slice_get, Some, refl, sym}
+use Rattle.std.proofs.Common.{ap, subst, ◌∙◌, arith}
+use Rattle.std.specs.Prelude.{◌↔◌, IfOk, IsTrue, Result, Ok, Err}
+use Rattle.std.proofs.Math.Bool.{or-true}
+use Rattle.std.proofs.lemmas.Bool.{cases_eq, eq-eqb}
+use Rattle.std.proofs.lemmas.Grind.{elements}
+use Rattle.std.proofs.Common.{inl, inr, length-append}
+use Rattle.std.proofs.Math.Nat.{mod-lt}
+use Rattle.std.specs.Bool.{Decides}
+use Rattle.std.proofs.Common.{take}
+use Rattle.mc_filter.specs.Gathering.{wanted}
+use Rattle.std.proofs.lemmas.List.{get_or-map, map-append, take_more, get_or_default}
+use Rattle.std.proofs.lemmas.Option.{slice_get_within, get_or_from_slice_get}
+use Rattle.mc_igmp.specs.declared.record.Record.{Record}
+use Rattle.mc_igmp.specs.Wants.{Wants}
+use Rattle.mc_filter.specs.declared.channels.Place.{Place}
+use Rattle.mc_filter.specs.declared.tally.Told.{Told}
+use Rattle.mc_filter.specs.SourceFilter.{has}
+use Rattle.mc_filter.specs.ChannelPlaces.{AreAnswers, IsAnswer, IsPlace, channel_at}
+use Rattle.mc_filter.specs.Tallies.{EachTells, is_left_out}
+use Rattle.mc_filter.proofs.MergedLemmas.{Decides-wanted}
+
+-- what is made of an item of a list is among what is made of all
+pub has-mapped : (f : ℕ × ℕ → ℕ) (xs : List (ℕ × ℕ)) (i : ℕ) (x : ℕ × ℕ) → i < length xs
+    → x ≡ get_or xs i x → has (map f xs) (f x) ≡ true
+has-mapped f [] i x below is = absurd (omega (arith, below))
+has-mapped f (y ∷ ys) zero x below is =
+    ap (λ b. b || has (map f ys) (f x)) (eq-eqb (f y) (f x) (ap f (sym is)))
+has-mapped f (y ∷ ys) (suc i) x below is =
+    ap (λ b. eqb (f y) (f x) || b) (has-mapped f ys i x (omega (arith, below)) is)
+    ∙ or-true (eqb (f y) (f x))
+
+-- the channels of places, and of one more
+pub channels_more : (f : Place → ℕ × ℕ) (places : List Place) (place : Place) (asked : List (ℕ × ℕ))
+    (i : ℕ) (channel : ℕ × ℕ) → i < length asked → channel ≡ get_or asked i channel
+    → map f places ≡ take i asked → f place ≡ channel
+    → map f (places ++ place ∷ []) ≡ take (i + 1) asked
+channels_more f places place asked i channel below is before own =
+    map-append f places (place ∷ []) ∙ ap (λ cs. cs ++ f place ∷ []) before
+    ∙ ap (λ c. take i asked ++ c ∷ []) (own ∙ is) ∙ sym (take_more asked i channel below)
+
+-- a test tells what is wanted
+answer_by_test : (answer left_out all : Bool) (P : Type 0) → Decides all P
+    → answer ≡ not left_out → (not left_out || false) ≡ all → IsTrue answer ↔ P
+answer_by_test answer left_out all P tells is same = grind arith
+
+-- what is told of a channel answers whether it is wanted
+pub is_answer : (groups channels : List ℕ) (records : List Record) (excludes : List ℕ)
+    (told : List Told) (place : Place) (own : Told) (seen : ℕ) (answer : Bool)
+    → length excludes ≡ length groups
+    → EachTells groups channels records excludes told [] → IsPlace groups channels place
+    → own ≡ get_or told place.channel own → seen ≡ get_or excludes place.group seen
+    → answer ≡ not (is_left_out own seen) → IsAnswer groups channels records place answer
+is_answer groups channels records excludes told place own seen answer count each at told_is seen_is is =
+    let source : ℕ = get_or channels place.channel 0 % 4294967296 in
+    let group : ℕ = get_or groups place.group 0 in
+    let fits : source < 4294967296 = mod-lt (get_or channels place.channel 0) (omega arith) in
+    let tells = each place.group place.channel source own at.group at.channel fits at.is in
+    let seen_here : get_or excludes place.group 0 ≡ seen =
+    get_or_default excludes place.group 0 seen (let below = at.group in omega (arith, below, count))
+    ∙ sym seen_is in
+    answer_by_test answer (is_left_out own seen) (wanted records group source)
+    (Wants records group source) (Decides-wanted records group source) is
+    (rw (← told_is, seen_here) at tells.wants)
+
+get_or-last : (xs : List Bool) (x d : Bool) → get_or (xs ++ x ∷ []) (length xs) d ≡ x
+get_or-last [] x d = refl
+get_or-last (y ∷ ys) x d = get_or-last ys x d
+
+-- one answer more
+pub answers_more : (groups channels : List ℕ) (records : List Record) (places : List Place)
+    (answers : List Bool) (place : Place) (answer : Bool) → length answers < length places
+    → place ≡ get_or places (length answers) place
+    → IsAnswer groups channels records place answer
+    → AreAnswers groups channels records places answers
+    → AreAnswers groups channels records places (answers ++ answer ∷ [])
+answers_more groups channels records places answers place answer below is own before i d within =
+    elim (cases_eq i (length answers)) [
+      | inl last ↦
+          let here : get_or places i d ≡ place =
+          ap (λ n. get_or places n d) last
+          ∙ get_or_default places (length answers) d place below ∙ sym is in
+          let told : get_or (answers ++ answer ∷ []) i false ≡ answer =
+          ap (λ n. get_or (answers ++ answer ∷ []) n false) last ∙ get_or-last answers answer false in
+          subst (λ p. IsAnswer groups channels records p (get_or (answers ++ answer ∷ []) i false))
+          (sym here) (subst (λ b. IsAnswer groups channels records place b) (sym told) own)
+      | inr earlier ↦
+          let less : i < length answers =
+          omega (arith, within, earlier, length-append answers (answer ∷ [])) in
+          let told : get_or (answers ++ answer ∷ []) i false ≡ get_or answers i false =
+          grind (arith, elements, less) in
+          subst (λ b. IsAnswer groups channels records (get_or places i d) b) (sym told)
+          (before i d less)
+    ]
+
+-- what is answered of the channels
+pub answers_all : (groups channels : List ℕ) (records : List Record) (places : List Place)
+    (answers : List Bool) → length answers ≡ length places
+    → AreAnswers groups channels records places answers
+    → (i : ℕ) (channel : ℕ × ℕ) (answer : Bool)
+    → slice_get (map (channel_at groups channels) places) i ≡ Some channel
+    → slice_get answers i ≡ Some answer
+    → IsTrue answer ↔ Wants records channel.1 channel.0
+answers_all groups channels records places answers count each i channel answer at told =
+    let f : Place → ℕ × ℕ = channel_at groups channels in
+    let d : Place = record { group = 0; channel = 0 } in
+    let within : i < length answers = slice_get_within answers i answer told in
+    let here : get_or answers i false ≡ answer = get_or_from_slice_get answers i answer false told in
+    let own : f (get_or places i d) ≡ channel =
+    sym (get_or-map f places i d (f d) (omega (arith, within, count)))
+    ∙ get_or_from_slice_get (map f places) i channel (f d) at in
+    subst (λ (c : ℕ × ℕ). IsTrue answer ↔ Wants records c.1 c.0) own
+    (subst (λ (b : Bool). IsAnswer groups channels records (get_or places i d) b) here
+    (each i d within))
+
+-- what holds of every answer holds of this one
+pub answer_then : {A E : Type 0} (P Q : A → Type 0) (r : Result A E) → IfOk r P
+    → ((x : A) → P x → Q x) → IfOk r Q
+answer_then P Q (Ok x) holds then = then x holds
+answer_then P Q (Err e) holds then = tt
+
+pub if_ok_both : {A E : Type 0} (P Q : A → Type 0) (r : Result A E) → IfOk r P → IfOk r Q
+    → IfOk r (λ x. P x × Q x)
+if_ok_both P Q (Ok x) p q = (p, q)
+if_ok_both P Q (Err e) p q = tt

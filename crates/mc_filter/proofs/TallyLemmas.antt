@@ -1,0 +1,249 @@
+-- What records tell of channels, one record after the other.
+use Rattle.std.proofs.Common.{◌≡◌, ℕ, suc, ◌+◌, ◌*◌, ◌<◌, Bool, true, false, not, ◌&&◌, ◌||◌, eqb}
+use Rattle.std.proofs.Common.{List, [], ◌∷◌, length, get_or, set, refl, sym, ap, subst, ◌∙◌, inl, inr, arith}
+use Rattle.std.specs.Prelude.{cond, replicate}
+use Rattle.std.specs.List.Sorted.{IsStrictlyIncreasing}
+use Rattle.std.proofs.lemmas.Bool.{cases_eq, cases_Bool, eq-eqb}
+use Rattle.std.proofs.lemmas.Bool.Decides.{nat_tests}
+use Rattle.std.proofs.lemmas.List.{get_or-set_same, get_or-set_other, get_or_default, length-set}
+use Rattle.std.proofs.lemmas.List.Folds.{list_any_at}
+use Rattle.std.proofs.lemmas.List.Kept.{AllPairs-from_increasing}
+use Rattle.mc_igmp.specs.declared.record.Record.{Record}
+use Rattle.mc_igmp.specs.declared.record.Kind.{Kind}
+use Rattle.mc_igmp.specs.declared.record.Kind.TheVariants as kind
+use Rattle.mc_filter.specs.declared.tally.Told.{Told}
+use Rattle.mc_filter.specs.declared.tally.Told.TheVariants.{Included, Listed}
+use Rattle.mc_filter.specs.SourceFilter.{has}
+use Rattle.mc_filter.specs.Gathering.{kind_admits, wanted}
+use Rattle.mc_filter.specs.Tallies.{AreListedBy, EachTells, IsWithin, Tells, channel_number, excludes_with}
+use Rattle.mc_filter.specs.Tallies.{is_left_out, told_by, told_if}
+
+-- two channels of one number are one channel
+pub same_channel : (g s h x : ℕ) → s < 4294967296 → x < 4294967296
+    → channel_number g s ≡ channel_number h x → (g ≡ h) × (s ≡ x)
+same_channel g s h x below inside is = (omega (arith, below, inside, is), omega (arith, below, inside, is))
+
+-- to be listed twice by a record is to be listed once
+told_twice : (of_kind : Kind) (excludes : ℕ) (told : Told)
+    → told_by of_kind excludes (told_by of_kind excludes told) ≡ told_by of_kind excludes told
+told_twice kind.Include excludes told = refl
+told_twice kind.Exclude excludes told = grind (arith, nat_tests)
+told_twice (kind.Change type) excludes told = refl
+told_twice (kind.Unknown type) excludes told = refl
+
+pub told_listed : (listed : Bool) (of_kind : Kind) (excludes : ℕ) (told : Told)
+    → told_if listed of_kind excludes (told_by of_kind excludes told)
+    ≡ told_by of_kind excludes told
+told_listed true of_kind excludes told = told_twice of_kind excludes told
+told_listed false of_kind excludes told = refl
+
+-- what a record tells that lists the source
+listed_if : (a b c : Bool) (of_kind : Kind) (excludes : ℕ) (told : Told) → (a && b) ≡ true
+    → told_if (a && (b || c)) of_kind excludes told ≡ told_by of_kind excludes told
+listed_if true true c of_kind excludes told h = refl
+listed_if true false c of_kind excludes told h = absurd cc
+listed_if false b c of_kind excludes told h = absurd cc
+
+-- what is told of channels whose sources the rest of a list has is what the whole list tells
+abbrev pub Listing : List ℕ → ℕ → Kind → ℕ → List ℕ → List ℕ → List Told → List Told → Type 0
+Listing channels group of_kind excludes left sources now old =
+    (c g s : ℕ) (d : Told) → c < length channels → s < 4294967296
+    → get_or channels c 0 ≡ channel_number g s
+    → told_if (eqb group g && has left s) of_kind excludes (get_or now c d)
+    ≡ told_if (eqb group g && has sources s) of_kind excludes (get_or old c d)
+
+passed_over : (a b c : Bool) → (a && b) ≡ false → (a && (b || c)) ≡ (a && c)
+passed_over true true c h = absurd cc
+passed_over true false c h = refl
+passed_over false b c h = refl
+
+-- a source that is none of the channels'
+pub Listing-missed : (channels : List ℕ) (group : ℕ) (of_kind : Kind) (excludes x : ℕ)
+    (left sources : List ℕ) (now old : List Told) → x < 4294967296
+    → has channels (channel_number group x) ≡ false
+    → Listing channels group of_kind excludes (x ∷ left) sources now old
+    → Listing channels group of_kind excludes left sources now old
+Listing-missed channels group of_kind excludes x left sources now old inside missed before c g s d within below is =
+    let other : (eqb group g && eqb x s) ≡ false =
+    elim (cases_eq g group) [
+      | inl same ↦ elim (cases_eq x s) [
+        | inl listed ↦ absurd (
+            let number : get_or channels c 0 ≡ channel_number group x = rw (← same, listed) is in
+            let some = list_any_at (λ y. eqb y (channel_number group x)) channels c 0 within
+            (eq-eqb (get_or channels c 0) (channel_number group x) number) in
+            cc)
+        | inr apart ↦ grind (arith, nat_tests, apart)
+      ]
+      | inr apart ↦ grind (arith, nat_tests, apart)
+    ] in
+    rw (passed_over (eqb group g) (eqb x s) (has left s) other) at (before c g s d within below is)
+
+-- a source whose channel has this place
+pub Listing-found : (channels : List ℕ) (group : ℕ) (of_kind : Kind) (excludes x place : ℕ) (own : Told)
+    (left sources : List ℕ) (now old : List Told) → IsStrictlyIncreasing channels
+    → length now ≡ length channels → x < 4294967296
+    → (place < length channels) × (get_or channels place 0 ≡ channel_number group x)
+    → own ≡ get_or now place own
+    → Listing channels group of_kind excludes (x ∷ left) sources now old
+    → Listing channels group of_kind excludes left sources
+    (set now place (told_by of_kind excludes own)) old
+Listing-found channels group of_kind excludes x place own left sources now old up count inside found at before c g s d within below is =
+    let rises = AllPairs-from_increasing channels up in
+    elim (cases_eq c place) [
+      | inl here ↦
+          let number : channel_number g s ≡ channel_number group x =
+          sym is ∙ ap (λ n. get_or channels n 0) here ∙ found.1 in
+          let same = same_channel g s group x below inside number in
+          let old_own : get_or now c d ≡ own =
+          get_or_default now c d own (omega (arith, within, count)) ∙ ap (λ n. get_or now n own) here
+          ∙ sym at in
+          let listed : (eqb group g && eqb x s) ≡ true = grind (arith, nat_tests, same.0, same.1) in
+          let told = before c g s d within below is in
+          let new_own : get_or (set now place (told_by of_kind excludes own)) c d
+          ≡ told_by of_kind excludes own =
+          ap (λ n. get_or (set now place (told_by of_kind excludes own)) n d) here
+          ∙ get_or-set_same now place (told_by of_kind excludes own) d
+          (omega (arith, found.0, count)) in
+          rw new_own (told_listed (eqb group g && has left s) of_kind excludes own
+          ∙ sym (listed_if (eqb group g) (eqb x s) (has left s) of_kind excludes own listed)
+          ∙ ap (λ t. told_if (eqb group g && has (x ∷ left) s) of_kind excludes t) (sym old_own)
+          ∙ told)
+      | inr there ↦
+          let other : (eqb group g && eqb x s) ≡ false =
+          elim (cases_eq g group) [
+            | inl same ↦ elim (cases_eq x s) [
+              | inl listed ↦ absurd (
+                  let number : get_or channels c 0 ≡ get_or channels place 0 =
+                  (rw (← same, listed) is) ∙ sym found.1 in
+                  grind (arith, there, rises c place 0, rises place c 0, number, within, found.0))
+              | inr apart ↦ grind (arith, nat_tests, apart)
+            ]
+            | inr apart ↦ grind (arith, nat_tests, apart)
+          ] in
+          rw (get_or-set_other now place c (told_by of_kind excludes own) d there)
+          (rw (passed_over (eqb group g) (eqb x s) (has left s) other)
+          at (before c g s d within below is))
+    ]
+
+-- a record of a type that tells no filter
+told_neither : (listed : Bool) (excludes : ℕ) (told : Told) (left all : Bool)
+    → Tells told excludes left all → Tells (cond listed told told) excludes left all
+told_neither true excludes told left all h = h
+told_neither false excludes told left all h = h
+
+-- one more record, of a channel of its group or of another
+tells_next : (own listed : Bool) (of_kind : Kind) (excludes : ℕ) (told : Told) (left all : Bool)
+    → Tells told excludes ((own && kind_admits of_kind listed) || left) all
+    → Tells (told_if (own && listed) of_kind excludes told)
+    (cond own (excludes_with of_kind excludes) excludes) left all
+tells_next false listed of_kind excludes told left all h = record {
+  within = h.within;
+  wants = h.wants;
+}
+tells_next true listed (kind.Change type) excludes told left all h = told_neither listed excludes told left all h
+tells_next true listed (kind.Unknown type) excludes told left all h = told_neither listed excludes told left all h
+tells_next true true kind.Include excludes told left all h = record {
+  within = tt;
+  wants = grind (arith, h.wants);
+}
+tells_next true false kind.Include excludes told left all h = record {
+  within = h.within;
+  wants = h.wants;
+}
+tells_next true true kind.Exclude excludes Included left all h = record {
+  within = tt;
+  wants = h.wants;
+}
+tells_next true true kind.Exclude excludes (Listed count) left all h =
+    elim (cases_eq count excludes) [
+      | inl is ↦
+          let same : eqb count excludes ≡ true = eq-eqb count excludes is in
+          let next : eqb (excludes + 1) (excludes + 1) ≡ true = eq-eqb (excludes + 1) (excludes + 1) refl in
+          let wants : left ≡ all = rw same at h.wants in
+          rw same (record {
+            within = omega arith;
+            wants = rw next wants;
+          })
+      | inr other ↦
+          let apart : eqb count excludes ≡ false = grind (arith, nat_tests, other) in
+          let later : eqb count (excludes + 1) ≡ false = grind (arith, nat_tests, h.within) in
+          let wants : true ≡ all = rw apart at h.wants in
+          rw apart (record {
+            within = omega (arith, h.within);
+            wants = rw later wants;
+          })
+    ]
+tells_next true false kind.Exclude excludes Included left all h = record {
+  within = tt;
+  wants = grind (arith, h.wants);
+}
+tells_next true false kind.Exclude excludes (Listed count) left all h = record {
+  within = omega (arith, h.within);
+  wants = grind (arith, nat_tests, h.within, h.wants);
+}
+
+-- one more record, whose group is at a place among the groups
+pub EachTells-next : (groups channels : List ℕ) (records left : List Record)
+    (excludes : List ℕ) (told now : List Told) (place : ℕ) (r : Record)
+    → IsStrictlyIncreasing groups → length groups ≡ length excludes → place < length excludes
+    → get_or groups place 0 ≡ r.group
+    → AreListedBy channels r (get_or excludes place 0) told now
+    → EachTells groups channels records excludes told (r ∷ left)
+    → EachTells groups channels records
+    (set excludes place (excludes_with r.kind (get_or excludes place 0))) now left
+EachTells-next groups channels records left excludes told now place r up count inside at each before
+    g c s d below within fits is =
+    let rises = AllPairs-from_increasing groups up in
+    let group : ℕ = get_or groups g 0 in
+    let own : Bool = eqb r.group group in
+    let all : Bool = wanted records group s in
+    let old = before g c s d below within fits is in
+    let is_told = each c group s d within fits is in
+    elim (cases_eq g place) [
+      | inl here ↦
+          let yes : own ≡ true = eq-eqb r.group group (sym at ∙ ap (λ n. get_or groups n 0) (sym here)) in
+          let seen : get_or (set excludes place (excludes_with r.kind (get_or excludes place 0))) g 0
+          ≡ cond own (excludes_with r.kind (get_or excludes place 0)) (get_or excludes place 0) =
+          ap (λ n. get_or (set excludes place (excludes_with r.kind (get_or excludes place 0))) n 0) here
+          ∙ get_or-set_same excludes place (excludes_with r.kind (get_or excludes place 0)) 0 inside
+          ∙ sym (ap (λ b. cond b (excludes_with r.kind (get_or excludes place 0)) (get_or excludes place 0)) yes) in
+          rw (is_told, seen) (tells_next own (has r.sources s) r.kind (get_or excludes place 0) (get_or told c d)
+          (wanted left group s) all
+          (subst (λ n. Tells (get_or told c d) (get_or excludes n 0) (wanted (r ∷ left) group s) all) here old))
+      | inr there ↦
+          let no : own ≡ false =
+          elim (cases_eq r.group group) [
+            | inl same ↦ absurd (
+                let one : get_or groups place 0 ≡ get_or groups g 0 = at ∙ same in
+                grind (arith, there, rises g place 0, rises place g 0, one, below, inside, count))
+            | inr apart ↦ grind (arith, nat_tests, apart)
+          ] in
+          let seen : get_or (set excludes place (excludes_with r.kind (get_or excludes place 0))) g 0
+          ≡ cond own (excludes_with r.kind (get_or excludes g 0)) (get_or excludes g 0) =
+          get_or-set_other excludes place g (excludes_with r.kind (get_or excludes place 0)) 0 there
+          ∙ sym (ap (λ b. cond b (excludes_with r.kind (get_or excludes g 0)) (get_or excludes g 0)) no) in
+          let told_here : get_or now c d
+          ≡ told_if (own && has r.sources s) r.kind (get_or excludes g 0) (get_or told c d) =
+          is_told
+          ∙ ap (λ b. told_if (b && has r.sources s) r.kind (get_or excludes place 0) (get_or told c d)) no
+          ∙ sym (ap (λ b. told_if (b && has r.sources s) r.kind (get_or excludes g 0) (get_or told c d)) no) in
+          rw (told_here, seen) (tells_next own (has r.sources s) r.kind (get_or excludes g 0)
+          (get_or told c d) (wanted left group s) all old)
+    ]
+
+-- a record whose group is none of the groups
+pub EachTells-missed : (groups channels : List ℕ) (records left : List Record)
+    (excludes : List ℕ) (told : List Told) (r : Record) → has groups r.group ≡ false
+    → EachTells groups channels records excludes told (r ∷ left)
+    → EachTells groups channels records excludes told left
+EachTells-missed groups channels records left excludes told r missed before
+    g c s d below within fits is =
+    let group : ℕ = get_or groups g 0 in
+    let no : eqb r.group group ≡ false =
+    elim (cases_eq r.group group) [
+      | inl same ↦ absurd (
+          let some = list_any_at (λ y. eqb y r.group) groups g 0 below (eq-eqb group r.group (sym same)) in
+          cc)
+      | inr apart ↦ grind (arith, nat_tests, apart)
+    ] in
+    rw no at (before g c s d below within fits is)

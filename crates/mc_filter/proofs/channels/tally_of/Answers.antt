@@ -1,0 +1,45 @@
+use Rattle.std.proofs.Common.{sym, ◌∙◌, arith}
+use Rattle.std.proofs.lemmas.Grind.{common_steps}
+use Rattle.mc_filter.proofs.TallyLemmas.{EachTells-missed}
+use Rattle.mc_filter.proofs.channels.tally_of.Goals as goal
+
+pub loop-group_record-init : goal.loop-group_record-init
+loop-group_record-init c =
+    let tally = c.in_ok-tally.ensures in
+    rw c.into_iter-group_record-iterator.ensures.into_iter_gives
+    (rw c.records-group_record-items.ensures (record {
+      groups = tally.groups ∙ c.len.ensures;
+      channels = tally.channels ∙ c.len-2.ensures;
+      each = tally.each c.args.groups.now c.args.channels.now c.args.reports.now
+          (sym c.len.ensures) (sym c.len-2.ensures);
+    }))
+
+pub loop-group_record-preserved-in-Continue-branch-2 :
+    goal.loop-group_record-preserved-in-Continue-branch-2
+loop-group_record-preserved-in-Continue-branch-2 c =
+    let before = c.loop-group_record.invariant in
+    let found = c.in-Some-place_of.ensures.found in
+    record {
+      groups = c.in_ok-add.ensures.groups ∙ before.groups;
+      channels = c.in_ok-add.ensures.channels;
+      each = c.in_ok-add.ensures.each c.args.groups.now c.args.reports.now c.next.new.self
+          c.place_of.ensures.ascending (sym before.groups) (found.1 ∙ c.number_of.ensures.value)
+          (rw c.in-Some.ensures.steps at before.each);
+    }
+
+pub loop-group_record-preserved : goal.loop-group_record-preserved
+loop-group_record-preserved c =
+    let before = c.loop-group_record.invariant in
+    record {
+      groups = before.groups;
+      channels = before.channels;
+      each = EachTells-missed c.args.groups.now c.args.channels.now c.args.reports.now c.next.new.self
+          c.loop-group_record.tally.excludes.items c.loop-group_record.tally.told.items
+          c.in-Some.group_record
+          (rw c.number_of.ensures.value at c.in_default.ensures.none)
+          (rw c.in-Some.ensures.steps at before.each);
+    }
+
+pub returns-clause-each : goal.returns-clause-each
+returns-clause-each c = 
+    rw c.in-None.ensures.steps.0 at c.loop-group_record.invariant.each

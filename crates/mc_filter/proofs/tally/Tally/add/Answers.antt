@@ -1,0 +1,20 @@
+use Rattle.std.proofs.Common.{◌≡◌, get_or, sym, ap, ◌∙◌, arith}
+use Rattle.std.proofs.lemmas.Grind.{common_steps}
+use Rattle.std.proofs.lemmas.List.{get_or_default}
+use Rattle.mc_filter.specs.Tallies.{excludes_with}
+use Rattle.mc_filter.proofs.TallyLemmas.{EachTells-next}
+use Rattle.mc_filter.proofs.tally.Tally.add.Goals as goal
+
+pub returns-clause-each : goal.returns-clause-each
+returns-clause-each c = λ groups records left up count at before.
+    let r = c.args.group_record.now in
+    let read : c.index-before.result.now ≡ get_or c.args.self.now.excludes.items c.args.place 0 =
+    c.index-before.ensures ∙ sym (get_or_default c.args.self.now.excludes.items c.args.place 0
+    c.index-before.result.now c.requires.place) in
+    let with : c.in_ok-with.with
+    ≡ excludes_with r.kind (get_or c.args.self.now.excludes.items c.args.place 0) =
+    grind (arith, common_steps, read, c.excludes_with.ensures, c.in_ok-with.ensures, c.in_ok-with.was) in
+    rw (c.list_sources.ensures.excludes, with)
+    (EachTells-next groups c.args.channels.now records left c.args.self.now.excludes.items
+    c.args.self.now.told.items c.list_sources.new.self.told.items c.args.place r up count
+    c.requires.place at (rw read at c.list_sources.ensures.each) before)

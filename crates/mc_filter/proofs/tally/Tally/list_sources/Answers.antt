@@ -1,0 +1,19 @@
+use Rattle.std.proofs.Common.{◌∙◌, arith}
+use Rattle.std.proofs.lemmas.List.{length-set}
+use Rattle.mc_filter.proofs.TallyLemmas.{Listing-found, Listing-missed}
+use Rattle.mc_filter.proofs.tally.Tally.list_sources.Goals as goal
+
+pub loop-source-preserved-in-Some-place_of : goal.loop-source-preserved-in-Some-place_of
+loop-source-preserved-in-Some-place_of c =
+    let before = c.loop-source.invariant in
+    rw c.listed_by.ensures (record {
+      excludes = before.excludes;
+      count = length-set _ c.in-Some-place_of.place _ ∙ before.count;
+      each = Listing-found c.args.channels.now c.args.group_record.now.group
+          c.args.group_record.now.kind c.args.before c.in-Some.source c.in-Some-place_of.place
+          c.index.result.now c.next.new.self c.args.group_record.now.sources
+          c.loop-source.self.told.items c.args.self.now.told.items c.place_of.ensures.ascending
+          (before.count ∙ c.requires.room) c.channel_number-number.ensures.in_range
+          (rw c.channel_number-number.ensures.value at c.in-Some-place_of.ensures.found)
+          c.index.ensures (rw c.in-Some.ensures.steps at before.each);
+    })

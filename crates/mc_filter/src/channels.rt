@@ -1,0 +1,182 @@
+//! Channels, of which it is asked whether the hosts of a LAN want them.
+
+ghost use Rattle.std.specs.Prelude.{◌≡◌, ◌↔◌, ◌<◌, ℕ, Bool, IfOk, IsTrue, List, [], Some, length, map};
+ghost use Rattle.std.specs.Prelude.{slice_get, true, vec_len};
+ghost use Rattle.std.specs.List.{All};
+ghost use Rattle.mc_igmp.specs.declared.record.Record.{Record};
+ghost use Rattle.mc_igmp.specs.Wants.{Wants};
+ghost use Rattle.mc_filter.specs.ChannelPlaces.{AreAnswers, IsPlace, channel_at};
+ghost use Rattle.mc_filter.specs.SourceFilter.{has};
+ghost use Rattle.mc_filter.specs.Tallies.{EachTells, channel_number};
+
+use crate::index::Index;
+use crate::tally::{Tally, channel_number, number_of};
+use mc_igmp::ReportList;
+use mc_text::{Addr, Memory};
+use std::alloc::Global;
+use std::marker::Model;
+
+/// The place of a channel among all channels, and of its group among their groups.
+#[derive(Clone, Copy, Debug)]
+struct Place {
+    group: usize,
+    channel: usize,
+}
+
+/// The group of each channel, as a number.
+fn group_numbers(alloc: Global, asked: &[(Addr, Addr)]) -> Result<Vec<u64>, Memory>
+    ensures { IfOk result (λ numbers. numbers.items ≡ map (λ channel. channel.1) asked.now) }
+{
+    let mut numbers = Vec::with_capacity(alloc, asked.len())?;
+    for channel in asked {
+        numbers.push(number_of(channel.1))?;
+    }
+    Ok(numbers)
+}
+
+/// Each channel as a number.
+fn channel_numbers(alloc: Global, asked: &[(Addr, Addr)]) -> Result<Vec<u64>, Memory>
+    ensures { IfOk result (λ numbers. numbers.items
+        ≡ map (λ channel. channel_number channel.1 channel.0) asked.now) }
+{
+    let mut numbers = Vec::with_capacity(alloc, asked.len())?;
+    for channel in asked {
+        numbers.push(channel_number(channel.1, channel.0))?;
+    }
+    Ok(numbers)
+}
+
+/// The place of a channel among channels, which have to have it.
+fn place_of(groups: &Index, channels: &Index, source: Addr, group: Addr) -> Place
+    requires group { has groups.now group ≡ true }
+    requires channel { has channels.now (channel_number group source) ≡ true }
+    ensures place { IsPlace groups.now channels.now result }
+    ensures channel { channel_at groups.now channels.now result ≡ (source, group) }
+{
+    let places = (
+        groups.place_of(number_of(group)),
+        channels.place_of(channel_number(group, source)),
+    );
+    match places {
+        (Some(group), Some(channel)) => Place { group, channel },
+        _ => unreachable!(),
+    }
+}
+
+/// The places of channels.
+fn places_of(
+    alloc: Global,
+    groups: &Index,
+    channels: &Index,
+    asked: &[(Addr, Addr)],
+) -> Result<Vec<Place>, Memory>
+    requires groups { (group : ℕ) →
+        has groups.now group ≡ has (map (λ channel. channel.1) asked.now) group }
+    requires channels { (number : ℕ) → has channels.now number
+        ≡ has (map (λ channel. channel_number channel.1 channel.0) asked.now) number }
+    ensures places { IfOk result (λ places. All (IsPlace groups.now channels.now) places.items) }
+    ensures asked { IfOk result (λ places.
+        map (channel_at groups.now channels.now) places.items ≡ asked.now) }
+{
+    let mut places = Vec::with_capacity(alloc, asked.len())?;
+    for channel in asked {
+        places.push(place_of(groups, channels, channel.0, channel.1))?;
+    }
+    Ok(places)
+}
+
+/// What the records of a list tell of channels.
+fn tally_of(
+    alloc: Global,
+    groups: &Index,
+    channels: &Index,
+    reports: &ReportList,
+) -> Result<Tally, Memory>
+    ensures groups { IfOk result (λ tally. length tally.excludes.items ≡ length groups.now) }
+    ensures channels { IfOk result (λ tally. length tally.told.items ≡ length channels.now) }
+    ensures each { IfOk result (λ tally. EachTells groups.now channels.now reports.now
+        tally.excludes.items tally.told.items []) }
+{
+    let mut tally = Tally::none(alloc, groups.len(), channels.len())?;
+    for group_record in reports.records() {
+        if let Some(place) = groups.place_of(number_of(group_record.group)) {
+            tally.add(channels, place, &group_record)?;
+        }
+    }
+    Ok(tally)
+}
+
+/// Whether each channel is wanted, by what the records of a list told.
+fn answers_of(alloc: Global, tally: &Tally, places: &[Place]) -> Result<Vec<bool>, Memory>
+    requires groups { All (λ place. place.group < length tally.now.excludes.items) places.now }
+    requires channels { All (λ place. place.channel < length tally.now.told.items) places.now }
+    ensures count { IfOk result (λ answers. length answers.items ≡ length places.now) }
+    ensures each { IfOk result (λ answers. (groups channels : List ℕ) (records : List Record) →
+        length tally.now.excludes.items ≡ length groups → All (IsPlace groups channels) places.now →
+        EachTells groups channels records tally.now.excludes.items tally.now.told.items [] →
+        AreAnswers groups channels records places.now answers.items) }
+{
+    let mut answers = Vec::with_capacity(alloc, places.len())?;
+    for place in places {
+        let excludes = tally.excludes[place.group];
+        answers.push(!tally.told[place.channel].is_left_out(excludes))?;
+    }
+    Ok(answers)
+}
+
+/// Channels, each a source and a group (RFC 4607, section 1), as they are looked for in reports. Its
+/// value in contracts is the list of them.
+#[derive(Debug, Drop)]
+pub struct Channels {
+    groups: Index,
+    channels: Index,
+    places: Vec<Place>,
+}
+
+impl Model for Channels {
+    ghost use Rattle.std.specs.Prelude.{ℕ, List, map};
+    ghost use Rattle.std.specs.List.{All};
+    ghost use Rattle.mc_filter.specs.ChannelPlaces.{IsPlace, channel_at};
+
+    ghost Value = { List (ℕ × ℕ) };
+
+    ghost view = { λ s. map (channel_at s.groups s.channels) s.places.items };
+
+    ghost invariant = { λ s. All (IsPlace s.groups s.channels) s.places.items };
+}
+
+impl Channels {
+    /// These channels.
+    ///
+    /// # Errors
+    ///
+    /// `Memory` where a growth was refused.
+    pub fn of(alloc: Global, asked: &[(Addr, Addr)]) -> Result<Channels, Memory>
+        ensures { IfOk result (λ channels. channels ≡ asked.now) }
+    {
+        let groups = Index::of(alloc, group_numbers(alloc, asked)?)?;
+        let channels = Index::of(alloc, channel_numbers(alloc, asked)?)?;
+        let places = places_of(alloc, &groups, &channels, asked)?;
+        Ok(Channels {
+            groups,
+            channels,
+            places,
+        })
+    }
+
+    /// Whether the hosts of a LAN want each channel, by their reports: whether some record for its
+    /// group admits its source (RFC 3376, section 3.2). The list is walked over once.
+    ///
+    /// # Errors
+    ///
+    /// `Memory` where a growth was refused.
+    pub fn wanted(&self, alloc: Global, reports: &ReportList) -> Result<Vec<bool>, Memory>
+        ensures count { IfOk result (λ wanted. vec_len wanted ≡ length self.now) }
+        ensures each { IfOk result (λ wanted. (i : ℕ) (channel : ℕ × ℕ) (is_wanted : Bool) →
+            slice_get self.now i ≡ Some channel → slice_get wanted.items i ≡ Some is_wanted →
+            IsTrue is_wanted ↔ Wants reports.now channel.1 channel.0) }
+    {
+        let tally = tally_of(alloc, &self.groups, &self.channels, reports)?;
+        answers_of(alloc, &tally, &self.places)
+    }
+}

@@ -1,0 +1,153 @@
+//! What records tell of channels, as they are walked over.
+
+ghost use Rattle.std.specs.Prelude.{◌≡◌, ℕ, ◌<◌, ◌==◌, ◌&&◌, IfOk, IfSome, OnOk, List, [], ◌∷◌, length};
+ghost use Rattle.std.specs.Prelude.{get_or, not};
+ghost use Rattle.std.specs.List.Sorted.{IsStrictlyIncreasing};
+ghost use Rattle.mc_igmp.specs.declared.record.Record.{Record};
+ghost use Rattle.mc_filter.specs.SourceFilter.{has};
+ghost use Rattle.mc_filter.specs.Tallies.{AreListedBy, EachTells, channel_number, excludes_with};
+ghost use Rattle.mc_filter.specs.Tallies.{is_left_out, told_by};
+
+use crate::index::Index;
+use mc_igmp::{Kind, Record};
+use mc_text::{Addr, Memory};
+use std::alloc::Global;
+
+/// What records told of a channel.
+#[derive(Clone, Copy, Debug, PartialEq, Eq)]
+pub(crate) enum Told {
+    /// An INCLUDE record lists its source.
+    Included,
+    /// The first so many EXCLUDE records of its group list its source, and no INCLUDE record.
+    Listed(u32),
+}
+
+impl Told {
+    /// Whether nobody wants the channel, where so many EXCLUDE records were seen: each of them lists
+    /// its source.
+    pub(crate) fn is_left_out(self, excludes: u32) -> bool
+        ensures { result ≡ is_left_out self excludes }
+    {
+        match self {
+            Told::Included => false,
+            Told::Listed(count) => count == excludes,
+        }
+    }
+
+    /// What a record that lists the source makes of it, where so many EXCLUDE records were seen
+    /// before it, and so many with it.
+    fn listed_by(self, kind: Kind, before: u32, with: u32) -> Told
+        requires { with ≡ excludes_with kind before }
+        ensures { result ≡ told_by kind before self }
+    {
+        match kind {
+            Kind::Include => Told::Included,
+            Kind::Exclude if self.is_left_out(before) => Told::Listed(with),
+            _ => self,
+        }
+    }
+}
+
+/// How many EXCLUDE records were seen with one more record, if so many can be counted.
+fn excludes_with(kind: Kind, before: u32) -> Option<u32>
+    ensures { IfSome result (λ with. with ≡ excludes_with kind before) }
+{
+    match kind {
+        Kind::Exclude => before.checked_add(1),
+        _ => Some(before),
+    }
+}
+
+/// An address as a number.
+pub(crate) fn number_of(address: Addr) -> u64
+    ensures value { result ≡ address }
+    ensures in_range { address < 4294967296 }
+{
+    u64::from(u32::from_be_bytes(address.octets()))
+}
+
+/// A channel as one number, by which it is looked for.
+pub(crate) fn channel_number(group: Addr, source: Addr) -> u64
+    ensures value { result ≡ channel_number group source }
+    ensures in_range { source < 4294967296 }
+{
+    number_of(group) << 32 | number_of(source)
+}
+
+/// What records told so far.
+#[derive(Debug, Drop)]
+pub(crate) struct Tally {
+    /// How many EXCLUDE records of each group were seen.
+    pub(crate) excludes: Vec<u32>,
+    /// What was told of each channel.
+    pub(crate) told: Vec<Told>,
+}
+
+impl Tally {
+    /// What no record told, of so many groups and channels.
+    pub(crate) fn none(alloc: Global, groups: usize, channels: usize) -> Result<Tally, Memory>
+        ensures groups { IfOk result (λ tally. length tally.excludes.items ≡ groups) }
+        ensures channels { IfOk result (λ tally. length tally.told.items ≡ channels) }
+        ensures each { IfOk result (λ tally. (all_groups all_channels : List ℕ)
+            (records : List Record) → length all_groups ≡ groups → length all_channels ≡ channels →
+            EachTells all_groups all_channels records tally.excludes.items tally.told.items
+            records) }
+    {
+        let mut excludes = Vec::new(alloc);
+        excludes.resize(groups, 0)?;
+        let mut told = Vec::new(alloc);
+        told.resize(channels, Told::Listed(0))?;
+        Ok(Tally { excludes, told })
+    }
+
+    /// Takes in that the record lists its sources, where so many EXCLUDE records of its group were
+    /// seen before it, and so many with it.
+    fn list_sources(
+        &mut self,
+        channels: &Index,
+        group_record: &Record<'_>,
+        before: u32,
+        with: u32,
+    )
+        requires room { length self.old.told.items ≡ length channels.now }
+        requires with { with ≡ excludes_with group_record.now.kind before }
+        ensures excludes { self.new.excludes.items ≡ self.old.excludes.items }
+        ensures count { length self.new.told.items ≡ length self.old.told.items }
+        ensures each { AreListedBy channels.now group_record.now before self.old.told.items
+            self.new.told.items }
+    {
+        for source in group_record.sources.iter() {
+            let number = channel_number(group_record.group, source);
+            if let Some(place) = channels.place_of(number) {
+                self.told[place] = self.told[place].listed_by(group_record.kind, before, with);
+            }
+        }
+    }
+
+    /// Takes in what one more record tells, whose group is at this place among the groups.
+    pub(crate) fn add(
+        &mut self,
+        channels: &Index,
+        place: usize,
+        group_record: &Record<'_>,
+    ) -> Result<(), Memory>
+        requires place { place < length self.old.excludes.items }
+        requires room { length self.old.told.items ≡ length channels.now }
+        ensures groups { OnOk result
+            (length self.new.excludes.items ≡ length self.old.excludes.items) }
+        ensures channels { OnOk result (length self.new.told.items ≡ length channels.now) }
+        ensures each { OnOk result ((groups : List ℕ) (records left : List Record) →
+            IsStrictlyIncreasing groups → length groups ≡ length self.old.excludes.items →
+            get_or groups place 0 ≡ group_record.now.group →
+            EachTells groups channels.now records self.old.excludes.items self.old.told.items
+            (group_record.now ∷ left) →
+            EachTells groups channels.now records self.new.excludes.items self.new.told.items
+            left) }
+    {
+        let before = self.excludes[place];
+        let with = excludes_with(group_record.kind, before).ok_or(Memory)?;
+        self.list_sources(channels, group_record, before, with);
+        self.excludes[place] = with;
+        Ok(())
+    }
+}

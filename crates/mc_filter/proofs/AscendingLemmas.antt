@@ -71,12 +71,6 @@ search_places xs s r h search =
     (λ i missed k d below.
     grind (arith, nat_tests, get_or_default xs k d 0 below, missed.1 k, missed.2 k))
 
--- the place of an address that a search found
-pub found_place : (xs : List ℕ) (s : ℕ) (r : Result ℕ ℕ) (i : ℕ) → IsStrictlyIncreasing xs
-    → IsBinarySearchResult (λ y. nat_cmp y s) xs r → r ≡ Ok i
-    → (i < length xs) × (get_or xs i 0 ≡ s)
-found_place xs s r i h search is = rw is at (search_places xs s r h search)
-
 -- a search finds exactly what the list has
 pub found_by_search : (xs : List ℕ) (s : ℕ) (r : Result ℕ ℕ) → IsStrictlyIncreasing xs
     → IsBinarySearchResult (λ y. nat_cmp y s) xs r → is_ok r ≡ has xs s

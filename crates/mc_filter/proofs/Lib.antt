@@ -4,4 +4,3 @@ pub mod TallyLemmas
 pub mod ChannelLemmas
 pub mod FilterLemmas
 pub mod MergedLemmas
-pub mod WantsLemmas

@@ -1,11 +1,11 @@
 -- What records tell of channels, one record after the other.
-use Rattle.std.proofs.Common.{◌≡◌, ℕ, suc, ◌+◌, ◌*◌, ◌<◌, Bool, true, false, not, ◌&&◌, ◌||◌, eqb}
-use Rattle.std.proofs.Common.{List, [], ◌∷◌, length, get_or, set, refl, sym, ap, subst, ◌∙◌, inl, inr, arith}
-use Rattle.std.specs.Prelude.{cond, replicate}
+use Rattle.std.proofs.Common.{◌≡◌, ℕ, ◌+◌, ◌<◌, Bool, true, false, ◌&&◌, ◌||◌, eqb}
+use Rattle.std.proofs.Common.{List, ◌∷◌, length, get_or, set, refl, sym, ap, subst, ◌∙◌, inl, inr, arith}
+use Rattle.std.specs.Prelude.{cond}
 use Rattle.std.specs.List.Sorted.{IsStrictlyIncreasing}
-use Rattle.std.proofs.lemmas.Bool.{cases_eq, cases_Bool, eq-eqb}
+use Rattle.std.proofs.lemmas.Bool.{cases_eq, eq-eqb}
 use Rattle.std.proofs.lemmas.Bool.Decides.{nat_tests}
-use Rattle.std.proofs.lemmas.List.{get_or-set_same, get_or-set_other, get_or_default, length-set}
+use Rattle.std.proofs.lemmas.List.{get_or-set_same, get_or-set_other, get_or_default}
 use Rattle.std.proofs.lemmas.List.Folds.{list_any_at}
 use Rattle.std.proofs.lemmas.List.Kept.{AllPairs-from_increasing}
 use Rattle.mc_igmp.specs.declared.record.Record.{Record}
@@ -15,8 +15,8 @@ use Rattle.mc_filter.specs.declared.tally.Told.{Told}
 use Rattle.mc_filter.specs.declared.tally.Told.TheVariants.{Included, Listed}
 use Rattle.mc_filter.specs.SourceFilter.{has}
 use Rattle.mc_filter.specs.Gathering.{kind_admits, wanted}
-use Rattle.mc_filter.specs.Tallies.{AreListedBy, EachTells, IsWithin, Tells, channel_number, excludes_with}
-use Rattle.mc_filter.specs.Tallies.{is_left_out, told_by, told_if}
+use Rattle.mc_filter.specs.Tallies.{AreListedBy, EachTells, Tells, channel_number, excludes_with}
+use Rattle.mc_filter.specs.Tallies.{told_by, told_if}
 
 -- two channels of one number are one channel
 pub same_channel : (g s h x : ℕ) → s < 4294967296 → x < 4294967296

@@ -1,6 +1,5 @@
 -- A walk over records in progress, by tests. Only the contracts of private functions speak of it.
-use Rattle.std.specs.Prelude.{◌≡◌, ℕ, ◌<◌, ◌==◌, ◌&&◌, ◌||◌, Bool, true, false, not, List, length}
-use Rattle.std.specs.Prelude.{slice_index, slice_index_or}
+use Rattle.std.specs.Prelude.{◌≡◌, ℕ, ◌==◌, ◌&&◌, ◌||◌, Bool, true, false, not, List}
 use Rattle.std.specs.List.{list_any}
 use Rattle.mc_igmp.specs.declared.record.Record.{Record}
 use Rattle.mc_igmp.specs.declared.record.Kind.{Kind}
@@ -51,8 +50,3 @@ pub record Gathers (records : List Record) (group : ℕ) (gathered : Gathered)
   pub wants : (s : ℕ) →
       ((admits gathered.filter s || has gathered.included.items s) || wanted left group s)
       ≡ wanted records group s
-
--- the same of each group
-abbrev pub EachGathers : List Record → List ℕ → List Gathered → List Record → Type 0
-EachGathers records groups gathered left = (i : ℕ) → i < length gathered → (d : Gathered) →
-    Gathers records (slice_index groups i) (slice_index_or gathered i d) left

@@ -1,6 +1,6 @@
 -- What records told so far of channels, by tests. Only the contracts of private functions speak of
 -- it.
-use Rattle.std.specs.Prelude.{◌≡◌, ℕ, ◌+◌, ◌*◌, ◌<◌, ◌≤◌, ◌==◌, ◌&&◌, ◌||◌, Bool, true, false, not}
+use Rattle.std.specs.Prelude.{◌≡◌, ℕ, ◌+◌, ◌*◌, ◌<◌, ◌≤◌, ◌==◌, ◌&&◌, ◌||◌, Bool, false, not}
 use Rattle.std.specs.Prelude.{cond, List, length, get_or}
 use Rattle.mc_igmp.specs.declared.record.Record.{Record}
 use Rattle.mc_igmp.specs.declared.record.Kind.{Kind}
@@ -8,7 +8,7 @@ use Rattle.mc_igmp.specs.declared.record.Kind.TheVariants as kind
 use Rattle.mc_filter.specs.declared.tally.Told.{Told}
 use Rattle.mc_filter.specs.declared.tally.Told.TheVariants.{Included, Listed}
 use Rattle.mc_filter.specs.SourceFilter.{has}
-use Rattle.mc_filter.specs.Gathering.{is_exclude, kind_admits, wanted}
+use Rattle.mc_filter.specs.Gathering.{is_exclude, wanted}
 
 -- a channel as one number, by its group and its source
 abbrev pub channel_number : ℕ → ℕ → ℕ

@@ -5,6 +5,7 @@ use Rattle.std.proofs.Common.{arith, eqb}
 use Rattle.std.specs.Prelude.{◌↔◌, IfOk, IsTrue, Result, Ok, Err, slice_index_or}
 use Rattle.std.proofs.lemmas.Bool.{eq-eqb}
 use Rattle.std.proofs.lemmas.Map.Keys.{any_passes_from_place}
+use Rattle.std.proofs.lemmas.List.{length-map}
 use Rattle.std.proofs.lemmas.Option.{slice_get-map, slice_get_within, get_or_from_slice_get}
 use Rattle.mc_filter.specs.SourceFilter.{has}
 use Rattle.mc_filter.specs.SourceFilter.{SourceFilter, FilterAdmits}
@@ -14,18 +15,10 @@ use Rattle.mc_topology.specs.declared.flow.Flow.{Flow}
 use Rattle.mc_topology.specs.Topology.{TopologyValue, IsTopology}
 use Rattle.mc_forward.specs.Domains.{TablesValue, AreTables, IsDomain}
 use Rattle.mc_forward.specs.DomainParts.{domain_with}
-use Rattle.mc_forward.specs.Assembling.{EachAt, AreAnswers, AreCounted, IsAssembled, ArePlaces}
-use Rattle.mc_forward.specs.Assembling.{AreWanted}
+use Rattle.mc_forward.specs.Assembling.{EachAt, AreAnswers, AreCounted, IsAssembled, AreWanted}
+use Rattle.mc_forward.specs.ListedTables.{flow_pairs}
 use Rattle.mc_forward.proofs.BelowLemmas.{map-push}
 use Rattle.mc_forward.proofs.EachLemmas.{some-at, take-found}
-
--- a flow's group is among the groups of the flows
-pub has-group : (flows : List Flow) (i : ℕ) (f : Flow) → slice_get flows i ≡ Some f
-    → has (map (λ (g : Flow). g.group) flows) f.group ≡ true
-has-group flows i f e =
-    any_passes_from_place (λ (a : ℕ). eqb a f.group) (map (λ (g : Flow). g.group) flows) i f.group
-    (slice_get-map (λ (g : Flow). g.group) flows i
-    ∙ ap (λ o. option_map (λ (g : Flow). g.group) o) e) (eq-eqb f.group f.group refl)
 
 -- what the rows of wants say, LAN by LAN and flow by flow
 pub wanted-at : (flows : List Flow) (reports : List (List Record)) (wants : List (List Bool))
@@ -85,47 +78,19 @@ assembled-of t ts rs wants size each = record {
       wanted-at t.flows rs wants size each;
 }
 
--- the groups of the flows so far, and one more
-pub groups-more : (flows : List Flow) (k : ℕ) (f : Flow) (old now : List ℕ)
-    → slice_get flows k ≡ Some f → now ≡ old ++ f.group ∷ []
-    → old ≡ map (λ (g : Flow). g.group) (take k flows)
-    → now ≡ map (λ (g : Flow). g.group) (take (k + 1) flows)
-groups-more flows k f old now at more before =
-    more ∙ ap (λ gs. gs ++ f.group ∷ []) before ∙ sym
-    (map-push (λ (g : Flow). g.group) (take k flows) f)
-    ∙ ap (map (λ (g : Flow). g.group)) (sym (take-found flows k f at))
-
--- a flow's group has its place among the groups
-pub place-within : (groups : List ℕ) (flows : List Flow) (places : List ℕ) (k : ℕ)
-    → ArePlaces groups flows places → k < length flows
-    → get_or places k 0 < length groups
-place-within groups flows places k are lt =
-    let f = some-at flows k lt in
-    let place = some-at places k (let size = are.count in omega (arith, size, lt)) in
-    let at = are.each k f.0 place.0 f.1 place.1 in
-    subst (λ (n : ℕ). n < length groups) (sym (get_or_from_slice_get places k place.0 0 place.1))
-    (slice_get_within groups place.0 f.0.group at)
-
--- what the filter of a flow's group answers for the flow's source
-pub wanted-by : (groups : List ℕ) (flows : List Flow) (places : List ℕ) (records : List Record)
-    (filters : List SourceFilter) (k : ℕ)
-    (f : Flow) (filter : SourceFilter) (b : Bool) → ArePlaces groups flows places
-    → slice_get flows k ≡ Some f
-    → slice_get filters (get_or places k 0) ≡ Some filter → IsTrue b ↔ FilterAdmits filter f.source
-    → ((i : ℕ) (x : SourceFilter) → slice_get filters i ≡ Some x → (source : ℕ)
-    → FilterAdmits x source ↔ Wants records (get_or groups i 0) source)
-    → IsTrue b ↔ Wants records f.group f.source
-wanted-by groups flows places records filters k f filter b are at found admits wants =
-    let within : k < length places = (let lt = slice_get_within flows k f at in let size =
-    are.count in omega (arith, lt, size)) in
-    let place = some-at places k within in
-    let same : get_or places k 0 ≡ place.0 = get_or_from_slice_get places k place.0 0 place.1 in
-    let group : get_or groups (get_or places k 0) 0 ≡ f.group =
-    ap (λ (n : ℕ). get_or groups n 0) same ∙ get_or_from_slice_get groups place.0 f.group 0
-    (are.each k f place.0 at place.1) in
-    let told = subst (λ (g : ℕ). FilterAdmits filter f.source ↔ Wants records g f.source) group
-    (wants (get_or places k 0) filter found f.source) in
-    ((λ t. told.0 (admits.0 t)), (λ w. admits.1 (told.1 w)))
+-- whether each channel of the flows is wanted, as whether each flow is
+pub flows-wanted : (flows : List Flow) (records : List Record) (pairs : List (ℕ × ℕ))
+    (wanted : List Bool) → pairs ≡ flow_pairs flows → length wanted ≡ length pairs
+    → ((i : ℕ) (pair : ℕ × ℕ) (b : Bool) → slice_get pairs i ≡ Some pair
+    → slice_get wanted i ≡ Some b → IsTrue b ↔ Wants records pair.1 pair.0)
+    → AreWanted flows records wanted
+flows-wanted flows records pairs wanted are count each = record {
+  count = count ∙ ap length are ∙ length-map flows (λ (f : Flow). (f.source, f.group));
+  each = λ k f b at told. each k (f.source, f.group) b
+      (ap (λ (ps : List (ℕ × ℕ)). slice_get ps k) are
+      ∙ slice_get-map (λ (g : Flow). (g.source, g.group)) flows k
+      ∙ ap (λ o. option_map (λ (g : Flow). (g.source, g.group)) o) at) told;
+}
 
 -- what holds of every answer holds of this one
 pub each-answer : {A E : Type 0} (P Q : A → Type 0) (r : Result A E) → IfOk r P

@@ -2,7 +2,6 @@
 use Rattle.std.specs.Prelude.{◌≡◌, ◌↔◌, ℕ, Bool, IsTrue, List, [], length, map, filter, Option}
 use Rattle.std.specs.Prelude.{Some, None, slice_get, slice_index_or, option_and_then}
 use Rattle.std.specs.FinMap as finite
-use Rattle.std.specs.List.Sorted.{IsStrictlyIncreasing}
 use Rattle.mc_igmp.specs.declared.record.Record.{Record}
 use Rattle.mc_igmp.specs.Wants.{Wants}
 use Rattle.mc_topology.specs.declared.flow.Flow.{Flow}
@@ -10,6 +9,7 @@ use Rattle.mc_topology.specs.Topology.{TopologyValue}
 use Rattle.mc_theory.specs.Lists.{below}
 use Rattle.mc_theory.specs.Nets.{Interface, is_lan, slots}
 use Rattle.mc_forward.specs.Domains.{TablesValue, DomainValue, lan_of_vif, wants_of}
+use Rattle.mc_forward.specs.ListedTables.{flow_pairs}
 
 -- tables for each router, and a list of reports for each LAN
 pub record AreCounted (t : TopologyValue) (ts : List TablesValue) (rs : List (List Record))
@@ -34,24 +34,9 @@ abbrev pub EachAt : {A B : Type 0} → (A → B → Type 0) → List A → List 
 EachAt {A} {B} R xs ys =
     (k : ℕ) (x : A) (y : B) → slice_get xs k ≡ Some x → slice_get ys k ≡ Some y → R x y
 
--- the flow's group is at this place
-abbrev pub IsPlaceOf : List ℕ → Flow → ℕ → Type 0
-IsPlaceOf groups f place = slice_get groups place ≡ Some f.group
-
--- the places of the flows' groups
-pub record ArePlaces (groups : List ℕ) (flows : List Flow) (places : List ℕ) : Type 0 where
-  pub count : length places ≡ length flows
-  pub each : EachAt (IsPlaceOf groups) flows places
-
--- what reports are reduced by
-pub record GroupsValue : Type 0 where
-  pub groups : List ℕ
-  pub places : List ℕ
-
--- the groups of the flows, ascending, and the place of each flow's group among them
-pub record AreGroupsOf (flows : List Flow) (g : GroupsValue) : Type 0 where
-  pub ascending : IsStrictlyIncreasing g.groups
-  pub places : ArePlaces g.groups flows g.places
+-- the source and the group of each flow, by which reports are reduced
+abbrev pub AreGroupsOf : List Flow → List (ℕ × ℕ) → Type 0
+AreGroupsOf flows pairs = pairs ≡ flow_pairs flows
 
 -- whether the flow is wanted by these records
 abbrev pub IsWanted : List Record → Flow → Bool → Type 0

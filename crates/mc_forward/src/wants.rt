@@ -1,103 +1,42 @@
 //! Which flows of a topology the hosts of a LAN want.
 
-ghost use Rattle.std.specs.Prelude.{◌≡◌, ℕ, true, IfOk, Some, length, map, slice_get, vec_len};
-ghost use Rattle.std.specs.List.Sorted.{IsStrictlyIncreasing};
-ghost use Rattle.mc_filter.specs.SourceFilter.{has};
-ghost use Rattle.mc_forward.specs.Assembling.{EachAt, AreGroupsOf, ArePlaces, AreWanted};
+ghost use Rattle.std.specs.Prelude.{◌≡◌, IfOk, length, vec_len};
+ghost use Rattle.mc_forward.specs.Assembling.{EachAt, AreGroupsOf, AreWanted};
+ghost use Rattle.mc_forward.specs.ListedTables.{flow_pairs};
 
 use crate::items::Items;
-use mc_filter::wants_of_groups;
+use mc_filter::Channels;
 use mc_igmp::ReportList;
 use mc_text::{Addr, Memory};
 use mc_topology::Topology;
 use std::alloc::Global;
 use std::marker::Model;
 
-/// The group of each flow.
-fn group_of_each(alloc: Global, topology: &Topology) -> Result<Vec<Addr>, Memory>
-    ensures { IfOk result (λ groups. groups.items ≡ map (λ f. f.group) topology.now.flows) }
+/// The source and the group of each flow.
+fn pairs_of(alloc: Global, topology: &Topology) -> Result<Vec<(Addr, Addr)>, Memory>
+    ensures { IfOk result (λ pairs. pairs.items ≡ flow_pairs topology.now.flows) }
 {
-    let mut groups = Vec::new(alloc);
+    let mut pairs = Vec::with_capacity(alloc, topology.flows() as usize)?;
     for flow in 0..topology.flows() {
-        groups.push(topology.flow(flow).group)?;
+        let flow = topology.flow(flow);
+        pairs.push((flow.source, flow.group))?;
     }
-    Ok(groups)
+    Ok(pairs)
 }
 
-/// The groups of the flows, ascending and each once.
-fn groups_of(alloc: Global, topology: &Topology) -> Result<Vec<Addr>, Memory>
-    ensures ascending { IfOk result (λ groups. IsStrictlyIncreasing groups.items) }
-    ensures all { IfOk result (λ groups. (group : ℕ) →
-        has groups.items group ≡ has (map (λ f. f.group) topology.now.flows) group) }
-{
-    let mut groups = group_of_each(alloc, topology)?;
-    groups.sort_unstable();
-    groups.dedup();
-    Ok(groups)
-}
-
-/// The place of a group among the groups.
-fn place_of(groups: &[Addr], group: Addr) -> usize
-    requires ascending { IsStrictlyIncreasing groups.now }
-    requires among { has groups.now group ≡ true }
-    ensures { slice_get groups.now result ≡ Some group }
-{
-    match groups.binary_search(&group) {
-        Ok(place) => place,
-        Err(_) => unreachable!(),
-    }
-}
-
-/// The place of each flow's group among the groups.
-fn places_of(alloc: Global, topology: &Topology, groups: &[Addr]) -> Result<Vec<usize>, Memory>
-    requires ascending { IsStrictlyIncreasing groups.now }
-    requires all { (group : ℕ) →
-        has groups.now group ≡ has (map (λ f. f.group) topology.now.flows) group }
-    ensures { IfOk result (λ places. ArePlaces groups.now topology.now.flows places.items) }
-{
-    let mut places = Vec::new(alloc);
-    for flow in 0..topology.flows() {
-        places.push(place_of(groups, topology.flow(flow).group))?;
-    }
-    Ok(places)
-}
-
-/// Which flows the records of a list want, where each flow's group is at its place among the
-/// groups.
-fn wanted_flows(
-    alloc: Global,
-    topology: &Topology,
-    groups: &[Addr],
-    places: &[usize],
-    list: &ReportList,
-) -> Result<Items<bool>, Memory>
-    requires ascending { IsStrictlyIncreasing groups.now }
-    requires places { ArePlaces groups.now topology.now.flows places.now }
-    ensures { IfOk result (AreWanted topology.now.flows list.now) }
-{
-    let filters = wants_of_groups(alloc, list, groups)?;
-    let mut flows = Vec::new(alloc);
-    for flow in 0..topology.flows() {
-        let filter = &filters[places[flow as usize]];
-        flows.push(filter.admits(topology.flow(flow).source))?;
-    }
-    Ok(Items { items: flows })
-}
-
-/// What reports are reduced by: the groups of a topology's flows, ascending and each once, and the
-/// place of each flow's group among them.
+/// What reports are reduced by: the sources and the groups of a topology's flows. Its value in
+/// contracts is the list of them.
 #[derive(Debug, Drop)]
 pub struct FlowGroups {
-    groups: Vec<Addr>,
-    places: Vec<usize>,
+    channels: Channels,
 }
 
 impl Model for FlowGroups {
-    ghost use Rattle.mc_forward.specs.Assembling.{GroupsValue};
+    ghost use Rattle.std.specs.Prelude.{ℕ, List};
 
-    ghost Value = { GroupsValue };
+    ghost Value = { List (ℕ × ℕ) };
 
-    ghost view = { λ g. record { groups = g.groups.items; places = g.places.items } };
+    ghost view = { λ g. g.channels };
 }
 
 impl FlowGroups {
@@ -109,9 +48,9 @@ impl FlowGroups {
     pub fn of(alloc: Global, topology: &Topology) -> Result<FlowGroups, Memory>
         ensures { IfOk result (AreGroupsOf topology.now.flows) }
     {
-        let groups = groups_of(alloc, topology)?;
-        let places = places_of(alloc, topology, &groups)?;
-        Ok(FlowGroups { groups, places })
+        let pairs = pairs_of(alloc, topology)?;
+        let channels = Channels::of(alloc, &pairs)?;
+        Ok(FlowGroups { channels })
     }
 
     /// Whether the records of a LAN's reports want each flow of the topology, of which these have to
@@ -129,7 +68,8 @@ impl FlowGroups {
         requires { AreGroupsOf topology.now.flows self.now }
         ensures { IfOk result (AreWanted topology.now.flows list.now) }
     {
-        wanted_flows(alloc, topology, &self.groups, &self.places, list)
+        let items = self.channels.wanted(alloc, list)?;
+        Ok(Items { items })
     }
 }
 

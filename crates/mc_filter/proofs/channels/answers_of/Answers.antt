@@ -1,8 +1,7 @@
-use Rattle.std.proofs.Common.{◌≡◌, ◌<◌, Bool, not, length, get_or, refl, sym, ap, ◌∙◌, arith}
+use Rattle.std.proofs.Common.{◌≡◌, ◌<◌, not, length, get_or, sym, ap, ◌∙◌, arith}
 use Rattle.std.proofs.lemmas.Grind.{elements}
 use Rattle.std.proofs.lemmas.List.{get_or_default}
 use Rattle.mc_filter.specs.declared.channels.Place.{Place}
-use Rattle.mc_filter.specs.Tallies.{is_left_out}
 use Rattle.mc_filter.proofs.ChannelLemmas.{answers_more, is_answer}
 use Rattle.mc_filter.proofs.channels.answers_of.Goals as goal
 

@@ -1,4 +1,4 @@
-use Rattle.std.proofs.Common.{ℕ, ◌∙◌, arith}
+use Rattle.std.proofs.Common.{ℕ, ◌∙◌}
 use Rattle.std.proofs.lemmas.List.Elements.{All-push}
 use Rattle.mc_filter.specs.ChannelPlaces.{IsPlace, channel_at}
 use Rattle.mc_filter.specs.Tallies.{channel_number}

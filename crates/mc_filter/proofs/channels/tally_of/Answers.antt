@@ -1,5 +1,4 @@
-use Rattle.std.proofs.Common.{sym, ◌∙◌, arith}
-use Rattle.std.proofs.lemmas.Grind.{common_steps}
+use Rattle.std.proofs.Common.{sym, ◌∙◌}
 use Rattle.mc_filter.proofs.TallyLemmas.{EachTells-missed}
 use Rattle.mc_filter.proofs.channels.tally_of.Goals as goal
 

@@ -1,4 +1,4 @@
-use Rattle.std.proofs.Common.{ℕ, List, length, map, sym, ap, subst, ◌≡◌, ◌∙◌, arith}
+use Rattle.std.proofs.Common.{length, sym, ap, ◌≡◌, ◌∙◌, arith}
 use Rattle.std.proofs.lemmas.List.{length-map}
 use Rattle.mc_filter.specs.ChannelPlaces.{channel_at}
 use Rattle.mc_filter.proofs.ChannelLemmas.{answers_all, answer_then, if_ok_both}

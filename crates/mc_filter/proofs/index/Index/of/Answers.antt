@@ -1,7 +1,6 @@
-use Rattle.std.proofs.Common.{eqb, sym, ap, ◌∙◌}
+use Rattle.std.proofs.Common.{eqb}
 use Rattle.std.proofs.lemmas.List.Filters.{dedup_is}
 use Rattle.std.proofs.lemmas.Map.Keys.{IsStrictlyIncreasing-dedup}
-use Rattle.mc_filter.specs.Slots.{HaveGuesses}
 use Rattle.mc_filter.proofs.AscendingLemmas.{has-sorted}
 use Rattle.mc_filter.proofs.index.Index.of.Goals as goal
 

@@ -1,6 +1,6 @@
-use Rattle.std.proofs.Common.{◌∙◌, arith}
+use Rattle.std.proofs.Common.{◌∙◌}
 use Rattle.std.proofs.lemmas.List.{length-set}
-use Rattle.mc_filter.proofs.TallyLemmas.{Listing-found, Listing-missed}
+use Rattle.mc_filter.proofs.TallyLemmas.{Listing-found}
 use Rattle.mc_filter.proofs.tally.Tally.list_sources.Goals as goal
 
 pub loop-source-preserved-in-Some-place_of : goal.loop-source-preserved-in-Some-place_of

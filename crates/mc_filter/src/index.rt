@@ -1,6 +1,6 @@
 //! Numbers that are looked for again and again.
 
-ghost use Rattle.std.specs.Prelude.{◌≡◌, ◌≢◌, ℕ, ◌<◌, ◌≤◌, IfOk, IfNone, IfSome, None, false};
+ghost use Rattle.std.specs.Prelude.{◌≡◌, ℕ, ◌<◌, IfOk, IfNone, IfSome, false};
 ghost use Rattle.std.specs.Prelude.{length, get_or, vec_len};
 ghost use Rattle.std.specs.List.Sorted.{IsStrictlyIncreasing};
 ghost use Rattle.mc_filter.specs.SourceFilter.{has};
@@ -14,9 +14,10 @@ use std::marker::Model;
 /// Programming, volume 3, section 6.4).
 const SPREAD: u64 = 0x9E37_79B9_7F4A_7C15;
 
-/// How many numbers have slots of their own, and how many slots there are for each of them.
-const MAX_SPREAD: usize = 4096;
-const SLOTS_EACH: usize = 8;
+/// How many slots there are for each number, and at most: as many as 16 bits tell apart.
+const SLOTS_EACH: usize = 32;
+
+const MAX_SLOTS: usize = 65_536;
 
 /// The slot of a number, of so many.
 fn slot_of(number: u64, slots: usize) -> usize
@@ -31,7 +32,10 @@ fn slot_of(number: u64, slots: usize) -> usize
 fn slots_for(count: usize) -> usize
     ensures { 0 < result }
 {
-    (count.clamp(1, MAX_SPREAD) * SLOTS_EACH).next_power_of_two()
+    count
+        .saturating_mul(SLOTS_EACH)
+        .clamp(SLOTS_EACH, MAX_SLOTS)
+        .next_power_of_two()
 }
 
 /// Slots without a guess.

@@ -5,8 +5,8 @@
 mod addresses;
 mod channels;
 mod filter;
-mod index;
 mod gathered;
+mod index;
 mod laws;
 mod tally;
 mod wants;

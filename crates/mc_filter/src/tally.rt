@@ -102,13 +102,7 @@ impl Tally {
 
     /// Takes in that the record lists its sources, where so many EXCLUDE records of its group were
     /// seen before it, and so many with it.
-    fn list_sources(
-        &mut self,
-        channels: &Index,
-        group_record: &Record<'_>,
-        before: u32,
-        with: u32,
-    )
+    fn list_sources(&mut self, channels: &Index, group_record: &Record<'_>, before: u32, with: u32)
         requires room { length self.old.told.items ≡ length channels.now }
         requires with { with ≡ excludes_with group_record.now.kind before }
         ensures excludes { self.new.excludes.items ≡ self.old.excludes.items }

@@ -40,5 +40,5 @@ loop-group_record-preserved c =
     }
 
 pub returns-clause-each : goal.returns-clause-each
-returns-clause-each c = 
+returns-clause-each c =
     rw c.in-None.ensures.steps.0 at c.loop-group_record.invariant.each

@@ -91,15 +91,39 @@ fn check_group(
     Ok(())
 }
 
-// Merges the records of three groups in one walk over the list, and those of no group.
-fn check_groups(rt: &impl Abort, alloc: Global, list: &ReportList) -> Result<(), Memory> {
-    let groups = [[239, 1, 2, 0], [239, 1, 2, 2], [239, 1, 2, 10]].map(Addr::from_octets);
-    let filters = wants_of_groups(alloc, list, &groups)?;
-    assert!(rt; filters.len() == 3);
-    for (filter, wanted) in filters.iter().zip(["I", "E2", "I12"]) {
-        assert!(rt; is_wanted(filter, wanted), "{wanted}");
+// Sources of the groups above that are asked of together: the last numbers of the source and of the
+// group, and whether some record admits it, as the filters above say. Group 11 has no record.
+const ASKED: [([u8; 2], bool); 12] = [
+    ([1, 0], false),
+    ([3, 1], true),
+    ([4, 1], false),
+    ([1, 2], true),
+    ([2, 2], false),
+    ([2, 3], true),
+    ([2, 5], false),
+    ([1, 5], true),
+    ([1, 9], false),
+    ([3, 9], true),
+    ([2, 10], true),
+    ([1, 11], false),
+];
+
+// Asks of sources of many groups in one walk over the list, in whatever order, of one of them twice,
+// and of none.
+fn check_channels(rt: &impl Abort, alloc: Global, list: &ReportList) -> Result<(), Memory> {
+    let mut asked = Vec::new(alloc);
+    for ([source, group], _) in ASKED.iter().rev().chain(&ASKED[..1]) {
+        asked.push((
+            Addr::from_octets([10, 0, 0, *source]),
+            Addr::from_octets([239, 1, 2, *group]),
+        ))?;
     }
-    assert!(rt; wants_of_groups(alloc, list, &[])?.is_empty());
+    let answers = Channels::of(alloc, &asked)?.wanted(alloc, list)?;
+    assert!(rt; answers.len() == 13);
+    for (answer, (_, wanted)) in answers.iter().zip(ASKED.iter().rev().chain(&ASKED[..1])) {
+        assert!(rt; answer == wanted, "{wanted}");
+    }
+    assert!(rt; Channels::of(alloc, &[])?.wanted(alloc, list)?.is_empty());
     Ok(())
 }
 
@@ -109,6 +133,6 @@ fn merges(rt: HostRuntime) -> Result<(), Fail> {
     for (last, wanted) in (0..11).zip(FILTERS.split(';')) {
         check_group(&rt, rt.alloc(), &list, last, wanted)?;
     }
-    check_groups(&rt, rt.alloc(), &list)?;
+    check_channels(&rt, rt.alloc(), &list)?;
     Ok(())
 }

@@ -53,7 +53,8 @@ pub is_answer : (groups channels : List ℕ) (records : List Record) (excludes :
     → EachTells groups channels records excludes told [] → IsPlace groups channels place
     → own ≡ get_or told place.channel own → seen ≡ get_or excludes place.group seen
     → answer ≡ not (is_left_out own seen) → IsAnswer groups channels records place answer
-is_answer groups channels records excludes told place own seen answer count each at told_is seen_is is =
+is_answer groups channels records excludes told place own seen answer count each at told_is seen_is
+    is =
     let source : ℕ = get_or channels place.channel 0 % 4294967296 in
     let group : ℕ = get_or groups place.group 0 in
     let fits : source < 4294967296 = mod-lt (get_or channels place.channel 0) (omega arith) in
@@ -83,7 +84,8 @@ answers_more groups channels records places answers place answer below is own be
           ap (λ n. get_or places n d) last
           ∙ get_or_default places (length answers) d place below ∙ sym is in
           let told : get_or (answers ++ answer ∷ []) i false ≡ answer =
-          ap (λ n. get_or (answers ++ answer ∷ []) n false) last ∙ get_or-last answers answer false in
+          ap (λ n. get_or (answers ++ answer ∷ []) n false) last ∙ get_or-last answers answer false
+          in
           subst (λ p. IsAnswer groups channels records p (get_or (answers ++ answer ∷ []) i false))
           (sym here) (subst (λ b. IsAnswer groups channels records place b) (sym told) own)
       | inr earlier ↦
@@ -107,7 +109,8 @@ answers_all groups channels records places answers count each i channel answer a
     let f : Place → ℕ × ℕ = channel_at groups channels in
     let d : Place = record { group = 0; channel = 0 } in
     let within : i < length answers = slice_get_within answers i answer told in
-    let here : get_or answers i false ≡ answer = get_or_from_slice_get answers i answer false told in
+    let here : get_or answers i false ≡ answer = get_or_from_slice_get answers i answer false told
+    in
     let own : f (get_or places i d) ≡ channel =
     sym (get_or-map f places i d (f d) (omega (arith, within, count)))
     ∙ get_or_from_slice_get (map f places) i channel (f d) at in

@@ -1,6 +1,7 @@
 -- What records tell of channels, one record after the other.
 use Rattle.std.proofs.Common.{◌≡◌, ℕ, ◌+◌, ◌<◌, Bool, true, false, ◌&&◌, ◌||◌, eqb}
-use Rattle.std.proofs.Common.{List, ◌∷◌, length, get_or, set, refl, sym, ap, subst, ◌∙◌, inl, inr, arith}
+use Rattle.std.proofs.Common.{List, ◌∷◌, length, get_or, set, refl, sym, ap, subst, ◌∙◌, inl, inr}
+use Rattle.std.proofs.Common.{arith}
 use Rattle.std.specs.Prelude.{cond}
 use Rattle.std.specs.List.Sorted.{IsStrictlyIncreasing}
 use Rattle.std.proofs.lemmas.Bool.{cases_eq, eq-eqb}
@@ -21,7 +22,15 @@ use Rattle.mc_filter.specs.Tallies.{told_by, told_if}
 -- two channels of one number are one channel
 pub same_channel : (g s h x : ℕ) → s < 4294967296 → x < 4294967296
     → channel_number g s ≡ channel_number h x → (g ≡ h) × (s ≡ x)
-same_channel g s h x below inside is = (omega (arith, below, inside, is), omega (arith, below, inside, is))
+same_channel g s h x below inside is = (
+  omega (arith, below, inside, is),
+  omega (
+    arith,
+    below,
+    inside,
+    is,
+  ),
+)
 
 -- to be listed twice by a record is to be listed once
 told_twice : (of_kind : Kind) (excludes : ℕ) (told : Told)
@@ -57,29 +66,9 @@ passed_over true true c h = absurd cc
 passed_over true false c h = refl
 passed_over false b c h = refl
 
--- a source that is none of the channels'
-pub Listing-missed : (channels : List ℕ) (group : ℕ) (of_kind : Kind) (excludes x : ℕ)
-    (left sources : List ℕ) (now old : List Told) → x < 4294967296
-    → has channels (channel_number group x) ≡ false
-    → Listing channels group of_kind excludes (x ∷ left) sources now old
-    → Listing channels group of_kind excludes left sources now old
-Listing-missed channels group of_kind excludes x left sources now old inside missed before c g s d within below is =
-    let other : (eqb group g && eqb x s) ≡ false =
-    elim (cases_eq g group) [
-      | inl same ↦ elim (cases_eq x s) [
-        | inl listed ↦ absurd (
-            let number : get_or channels c 0 ≡ channel_number group x = rw (← same, listed) is in
-            let some = list_any_at (λ y. eqb y (channel_number group x)) channels c 0 within
-            (eq-eqb (get_or channels c 0) (channel_number group x) number) in
-            cc)
-        | inr apart ↦ grind (arith, nat_tests, apart)
-      ]
-      | inr apart ↦ grind (arith, nat_tests, apart)
-    ] in
-    rw (passed_over (eqb group g) (eqb x s) (has left s) other) at (before c g s d within below is)
-
 -- a source whose channel has this place
-pub Listing-found : (channels : List ℕ) (group : ℕ) (of_kind : Kind) (excludes x place : ℕ) (own : Told)
+pub Listing-found : (channels : List ℕ) (group : ℕ) (of_kind : Kind) (excludes x place : ℕ) (own :
+    Told)
     (left sources : List ℕ) (now old : List Told) → IsStrictlyIncreasing channels
     → length now ≡ length channels → x < 4294967296
     → (place < length channels) × (get_or channels place 0 ≡ channel_number group x)
@@ -87,7 +76,8 @@ pub Listing-found : (channels : List ℕ) (group : ℕ) (of_kind : Kind) (exclud
     → Listing channels group of_kind excludes (x ∷ left) sources now old
     → Listing channels group of_kind excludes left sources
     (set now place (told_by of_kind excludes own)) old
-Listing-found channels group of_kind excludes x place own left sources now old up count inside found at before c g s d within below is =
+Listing-found channels group of_kind excludes x place own left sources now old up count inside found
+    at before c g s d within below is =
     let rises = AllPairs-from_increasing channels up in
     elim (cases_eq c place) [
       | inl here ↦
@@ -95,7 +85,8 @@ Listing-found channels group of_kind excludes x place own left sources now old u
           sym is ∙ ap (λ n. get_or channels n 0) here ∙ found.1 in
           let same = same_channel g s group x below inside number in
           let old_own : get_or now c d ≡ own =
-          get_or_default now c d own (omega (arith, within, count)) ∙ ap (λ n. get_or now n own) here
+          get_or_default now c d own (omega (arith, within, count)) ∙ ap (λ n. get_or now n own)
+          here
           ∙ sym at in
           let listed : (eqb group g && eqb x s) ≡ true = grind (arith, nat_tests, same.0, same.1) in
           let told = before c g s d within below is in
@@ -140,8 +131,10 @@ tells_next false listed of_kind excludes told left all h = record {
   within = h.within;
   wants = h.wants;
 }
-tells_next true listed (kind.Change type) excludes told left all h = told_neither listed excludes told left all h
-tells_next true listed (kind.Unknown type) excludes told left all h = told_neither listed excludes told left all h
+tells_next true listed (kind.Change type) excludes told left all h = told_neither listed excludes
+    told left all h
+tells_next true listed (kind.Unknown type) excludes told left all h = told_neither listed excludes
+    told left all h
 tells_next true true kind.Include excludes told left all h = record {
   within = tt;
   wants = grind (arith, h.wants);
@@ -158,7 +151,8 @@ tells_next true true kind.Exclude excludes (Listed count) left all h =
     elim (cases_eq count excludes) [
       | inl is ↦
           let same : eqb count excludes ≡ true = eq-eqb count excludes is in
-          let next : eqb (excludes + 1) (excludes + 1) ≡ true = eq-eqb (excludes + 1) (excludes + 1) refl in
+          let next : eqb (excludes + 1) (excludes + 1) ≡ true = eq-eqb (excludes + 1) (excludes + 1)
+          refl in
           let wants : left ≡ all = rw same at h.wants in
           rw same (record {
             within = omega arith;
@@ -201,15 +195,21 @@ EachTells-next groups channels records left excludes told now place r up count i
     let is_told = each c group s d within fits is in
     elim (cases_eq g place) [
       | inl here ↦
-          let yes : own ≡ true = eq-eqb r.group group (sym at ∙ ap (λ n. get_or groups n 0) (sym here)) in
-          let seen : get_or (set excludes place (excludes_with r.kind (get_or excludes place 0))) g 0
+          let yes : own ≡ true = eq-eqb r.group group (sym at ∙ ap (λ n. get_or groups n 0) (sym
+          here)) in
+          let seen : get_or (set excludes place (excludes_with r.kind (get_or excludes place 0))) g
+          0
           ≡ cond own (excludes_with r.kind (get_or excludes place 0)) (get_or excludes place 0) =
-          ap (λ n. get_or (set excludes place (excludes_with r.kind (get_or excludes place 0))) n 0) here
+          ap (λ n. get_or (set excludes place (excludes_with r.kind (get_or excludes place 0))) n 0)
+          here
           ∙ get_or-set_same excludes place (excludes_with r.kind (get_or excludes place 0)) 0 inside
-          ∙ sym (ap (λ b. cond b (excludes_with r.kind (get_or excludes place 0)) (get_or excludes place 0)) yes) in
-          rw (is_told, seen) (tells_next own (has r.sources s) r.kind (get_or excludes place 0) (get_or told c d)
+          ∙ sym (ap (λ b. cond b (excludes_with r.kind (get_or excludes place 0)) (get_or excludes
+          place 0)) yes) in
+          rw (is_told, seen) (tells_next own (has r.sources s) r.kind (get_or excludes place 0)
+          (get_or told c d)
           (wanted left group s) all
-          (subst (λ n. Tells (get_or told c d) (get_or excludes n 0) (wanted (r ∷ left) group s) all) here old))
+          (subst (λ n. Tells (get_or told c d) (get_or excludes n 0) (wanted (r ∷ left) group s)
+          all) here old))
       | inr there ↦
           let no : own ≡ false =
           elim (cases_eq r.group group) [
@@ -218,15 +218,19 @@ EachTells-next groups channels records left excludes told now place r up count i
                 grind (arith, there, rises g place 0, rises place g 0, one, below, inside, count))
             | inr apart ↦ grind (arith, nat_tests, apart)
           ] in
-          let seen : get_or (set excludes place (excludes_with r.kind (get_or excludes place 0))) g 0
+          let seen : get_or (set excludes place (excludes_with r.kind (get_or excludes place 0))) g
+          0
           ≡ cond own (excludes_with r.kind (get_or excludes g 0)) (get_or excludes g 0) =
           get_or-set_other excludes place g (excludes_with r.kind (get_or excludes place 0)) 0 there
-          ∙ sym (ap (λ b. cond b (excludes_with r.kind (get_or excludes g 0)) (get_or excludes g 0)) no) in
+          ∙ sym (ap (λ b. cond b (excludes_with r.kind (get_or excludes g 0)) (get_or excludes g 0))
+          no) in
           let told_here : get_or now c d
           ≡ told_if (own && has r.sources s) r.kind (get_or excludes g 0) (get_or told c d) =
           is_told
-          ∙ ap (λ b. told_if (b && has r.sources s) r.kind (get_or excludes place 0) (get_or told c d)) no
-          ∙ sym (ap (λ b. told_if (b && has r.sources s) r.kind (get_or excludes g 0) (get_or told c d)) no) in
+          ∙ ap (λ b. told_if (b && has r.sources s) r.kind (get_or excludes place 0) (get_or told c
+          d)) no
+          ∙ sym (ap (λ b. told_if (b && has r.sources s) r.kind (get_or excludes g 0) (get_or told c
+          d)) no) in
           rw (told_here, seen) (tells_next own (has r.sources s) r.kind (get_or excludes g 0)
           (get_or told c d) (wanted left group s) all old)
     ]
@@ -242,7 +246,8 @@ EachTells-missed groups channels records left excludes told r missed before
     let no : eqb r.group group ≡ false =
     elim (cases_eq r.group group) [
       | inl same ↦ absurd (
-          let some = list_any_at (λ y. eqb y r.group) groups g 0 below (eq-eqb group r.group (sym same)) in
+          let some = list_any_at (λ y. eqb y r.group) groups g 0 below (eq-eqb group r.group (sym
+          same)) in
           cc)
       | inr apart ↦ grind (arith, nat_tests, apart)
     ] in

@@ -1,10 +1,11 @@
 -- Where a number is looked for first. Only the contracts of private functions speak of it.
-use Rattle.std.specs.Prelude.{◌≡◌, true, is_some, ℕ, ◌<◌, ◌-◌, ◌*◌, ◌/◌, ◌%◌, List, length, get_or, bit_and}
+use Rattle.std.specs.Prelude.{◌≡◌, true, is_some, ℕ, ◌<◌, ◌-◌, ◌*◌, ◌/◌, ◌%◌, List, length}
+use Rattle.std.specs.Prelude.{get_or, bit_and}
 use Rattle.std.specs.Prelude.{Option, None}
 use Rattle.std.specs.List.Sorted.{IsStrictlyIncreasing}
 
--- the slot of a number among so many: of the upper bits of its product with a large odd number as
--- many as tell the slots apart
+-- the slot of a number among so many, a power of two: of the upper 16 bits of its product with a
+-- large odd number as many as tell the slots apart
 abbrev pub slot_in : (slots number : ℕ) → ℕ
 slot_in slots number =
     bit_and (number * 11400714819323198485 % 18446744073709551616 / 281474976710656) (slots - 1)

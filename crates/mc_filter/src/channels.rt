@@ -1,7 +1,7 @@
 //! Channels, of which it is asked whether the hosts of a LAN want them.
 
-ghost use Rattle.std.specs.Prelude.{◌≡◌, ◌↔◌, ◌<◌, ℕ, Bool, IfOk, IsTrue, List, [], Some, length, map};
-ghost use Rattle.std.specs.Prelude.{slice_get, true, vec_len};
+ghost use Rattle.std.specs.Prelude.{◌≡◌, ◌↔◌, ◌<◌, ℕ, Bool, true, IfOk, IsTrue, List, [], Some};
+ghost use Rattle.std.specs.Prelude.{length, map, slice_get, vec_len};
 ghost use Rattle.std.specs.List.{All};
 ghost use Rattle.mc_igmp.specs.declared.record.Record.{Record};
 ghost use Rattle.mc_igmp.specs.Wants.{Wants};
@@ -16,7 +16,8 @@ use mc_text::{Addr, Memory};
 use std::alloc::Global;
 use std::marker::Model;
 
-/// The place of a channel among all channels, and of its group among their groups.
+/// The place of a channel among all channels, which ascend by their numbers, and of its group among
+/// their groups.
 #[derive(Clone, Copy, Debug)]
 struct Place {
     group: usize,
@@ -124,8 +125,8 @@ fn answers_of(alloc: Global, tally: &Tally, places: &[Place]) -> Result<Vec<bool
     Ok(answers)
 }
 
-/// Channels, each a source and a group (RFC 4607, section 1), as they are looked for in reports. Its
-/// value in contracts is the list of them.
+/// Channels, each a source and a group (RFC 4607, section 1), as they are looked for in reports.
+/// Its value in contracts is the list of them.
 #[derive(Debug, Drop)]
 pub struct Channels {
     groups: Index,

@@ -14,9 +14,10 @@ use std::marker::Model;
 /// Programming, volume 3, section 6.4).
 const SPREAD: u64 = 0x9E37_79B9_7F4A_7C15;
 
-/// How many slots there are for each number, and at most: as many as 16 bits tell apart.
+/// How many slots there are for each number.
 const SLOTS_EACH: usize = 32;
 
+/// How many slots there are at most: as many as 16 bits tell apart.
 const MAX_SLOTS: usize = 65_536;
 
 /// The slot of a number, of so many.

@@ -1,10 +1,8 @@
 //! What records tell of channels, as they are walked over.
 
-ghost use Rattle.std.specs.Prelude.{◌≡◌, ℕ, ◌<◌, ◌==◌, ◌&&◌, IfOk, IfSome, OnOk, List, [], ◌∷◌, length};
-ghost use Rattle.std.specs.Prelude.{get_or, not};
+ghost use Rattle.std.specs.Prelude.{◌≡◌, ℕ, ◌<◌, IfOk, IfSome, OnOk, List, ◌∷◌, length, get_or};
 ghost use Rattle.std.specs.List.Sorted.{IsStrictlyIncreasing};
 ghost use Rattle.mc_igmp.specs.declared.record.Record.{Record};
-ghost use Rattle.mc_filter.specs.SourceFilter.{has};
 ghost use Rattle.mc_filter.specs.Tallies.{AreListedBy, EachTells, channel_number, excludes_with};
 ghost use Rattle.mc_filter.specs.Tallies.{is_left_out, told_by};
 
@@ -23,8 +21,8 @@ pub(crate) enum Told {
 }
 
 impl Told {
-    /// Whether nobody wants the channel, where so many EXCLUDE records were seen: each of them lists
-    /// its source.
+    /// Whether nobody wants the channel, where so many EXCLUDE records were seen: each of them
+    /// lists its source.
     pub(crate) fn is_left_out(self, excludes: u32) -> bool
         ensures { result ≡ is_left_out self excludes }
     {
@@ -119,6 +117,11 @@ impl Tally {
     }
 
     /// Takes in what one more record tells, whose group is at this place among the groups.
+    ///
+    /// # Errors
+    ///
+    /// `Memory` where a group has more EXCLUDE records than 32 bits count, as no list that can be
+    /// read has.
     pub(crate) fn add(
         &mut self,
         channels: &Index,

@@ -32,7 +32,8 @@ loop-group_record-preserved c =
     record {
       groups = before.groups;
       channels = before.channels;
-      each = EachTells-missed c.args.groups.now c.args.channels.now c.args.reports.now c.next.new.self
+      each = EachTells-missed c.args.groups.now c.args.channels.now c.args.reports.now
+          c.next.new.self
           c.loop-group_record.tally.excludes.items c.loop-group_record.tally.told.items
           c.in-Some.group_record
           (rw c.number_of.ensures.value at c.in_default.ensures.none)

@@ -13,7 +13,14 @@ returns-clause-each c = λ groups records left up count at before.
     c.index-before.result.now c.requires.place) in
     let with : c.in_ok-with.with
     ≡ excludes_with r.kind (get_or c.args.self.now.excludes.items c.args.place 0) =
-    grind (arith, common_steps, read, c.excludes_with.ensures, c.in_ok-with.ensures, c.in_ok-with.was) in
+    grind (
+      arith,
+      common_steps,
+      read,
+      c.excludes_with.ensures,
+      c.in_ok-with.ensures,
+      c.in_ok-with.was,
+    ) in
     rw (c.list_sources.ensures.excludes, with)
     (EachTells-next groups c.args.channels.now records left c.args.self.now.excludes.items
     c.args.self.now.told.items c.list_sources.new.self.told.items c.args.place r up count

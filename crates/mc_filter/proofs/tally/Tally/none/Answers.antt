@@ -3,8 +3,14 @@ use Rattle.mc_filter.proofs.tally.Tally.none.Goals as goal
 
 pub returns-clause-each : goal.returns-clause-each
 returns-clause-each c = λ gs cs records some count g d' s d below within fits is.
-    let unseen = c.in_ok-resize.ensures.by_index.1 g 0 refl (omega (arith, c.new-excludes.ensures.len))
+    let unseen = c.in_ok-resize.ensures.by_index.1 g 0 refl (omega (
+      arith,
+      c.new-excludes.ensures.len,
+    ))
     (omega (arith, below, some)) in
-    let untold = c.in_ok-resize-2.ensures.by_index.1 d' d refl (omega (arith, c.new-told.ensures.len))
+    let untold = c.in_ok-resize-2.ensures.by_index.1 d' d refl (omega (
+      arith,
+      c.new-told.ensures.len,
+    ))
     (omega (arith, within, count)) in
     rw (unseen, untold) (record { within = omega arith; wants = refl })

@@ -1,14 +1,10 @@
 -- Which flows are wanted, list by list.
-use Rattle.std.proofs.Common.{◌≡◌, ℕ, ◌+◌, ◌<◌, Bool, true, false, List, [], ◌∷◌, ◌++◌, map, length}
-use Rattle.std.proofs.Common.{take, get_or, slice_get, Some, option_map, refl, ap, sym, subst, ◌∙◌}
-use Rattle.std.proofs.Common.{arith, eqb}
+use Rattle.std.proofs.Common.{◌≡◌, ℕ, ◌<◌, Bool, false, List, [], length}
+use Rattle.std.proofs.Common.{get_or, slice_get, Some, option_map, refl, ap, sym, subst, ◌∙◌}
+use Rattle.std.proofs.Common.{arith}
 use Rattle.std.specs.Prelude.{◌↔◌, IfOk, IsTrue, Result, Ok, Err, slice_index_or}
-use Rattle.std.proofs.lemmas.Bool.{eq-eqb}
-use Rattle.std.proofs.lemmas.Map.Keys.{any_passes_from_place}
 use Rattle.std.proofs.lemmas.List.{length-map}
 use Rattle.std.proofs.lemmas.Option.{slice_get-map, slice_get_within, get_or_from_slice_get}
-use Rattle.mc_filter.specs.SourceFilter.{has}
-use Rattle.mc_filter.specs.SourceFilter.{SourceFilter, FilterAdmits}
 use Rattle.mc_igmp.specs.declared.record.Record.{Record}
 use Rattle.mc_igmp.specs.Wants.{Wants}
 use Rattle.mc_topology.specs.declared.flow.Flow.{Flow}
@@ -17,8 +13,7 @@ use Rattle.mc_forward.specs.Domains.{TablesValue, AreTables, IsDomain}
 use Rattle.mc_forward.specs.DomainParts.{domain_with}
 use Rattle.mc_forward.specs.Assembling.{EachAt, AreAnswers, AreCounted, IsAssembled, AreWanted}
 use Rattle.mc_forward.specs.ListedTables.{flow_pairs}
-use Rattle.mc_forward.proofs.BelowLemmas.{map-push}
-use Rattle.mc_forward.proofs.EachLemmas.{some-at, take-found}
+use Rattle.mc_forward.proofs.EachLemmas.{some-at}
 
 -- what the rows of wants say, LAN by LAN and flow by flow
 pub wanted-at : (flows : List Flow) (reports : List (List Record)) (wants : List (List Bool))

@@ -1,9 +1,9 @@
 -- What the rules of a domain say of the nets of its flows.
-use Rattle.std.proofs.Common.{◌≡◌, ℕ, zero, suc, ◌+◌, ◌<◌, ◌≤◌, ◌⊎◌, inl, inr, Bool, true, false}
+use Rattle.std.proofs.Common.{◌≡◌, ℕ, zero, suc, ◌<◌, ◌≤◌, ◌⊎◌, inl, inr, Bool, true, false}
 use Rattle.std.proofs.Common.{cond, ◌||◌, List, [], ◌∷◌, map, length, slice_get, get_or, Option}
 use Rattle.std.proofs.Common.{Some, None, option_map, unwrap_or, IsSome, refl, ap, sym, subst, ◌∙◌}
 use Rattle.std.proofs.Common.{arith}
-use Rattle.std.specs.Prelude.{IfSome, slice_index, slice_index_or, option_and_then}
+use Rattle.std.specs.Prelude.{IfSome, slice_index_or, option_and_then}
 use Rattle.std.specs.Str.{bytes_eq}
 use Rattle.std.specs.FinMap as finite
 use Rattle.std.specs.FinSet as set

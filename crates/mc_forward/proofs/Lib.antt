@@ -11,3 +11,4 @@ pub mod RunLemmas
 pub mod FirstLemmas
 pub mod RowNoLemmas
 pub mod SameLemmas
+pub mod FlatRowLemmas

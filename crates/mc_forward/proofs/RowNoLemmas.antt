@@ -1,155 +1,181 @@
--- The rows that a domain keeps by number are those of its caches.
-use Rattle.std.proofs.Common.{◌≡◌, ℕ, ◌<◌, Bool, List, length, get_or, Option, Some}
-use Rattle.std.proofs.Common.{sym, ap, subst, ◌∙◌, arith}
-use Rattle.std.specs.Prelude.{◌||◌, IfSome, slice_get}
+-- The rows that a domain keeps are those of its caches.
+use Rattle.std.proofs.Common.{◌≡◌, ℕ, zero, suc, ◌+◌, ◌<◌, Bool, true, false, List, [], ◌∷◌, ◌++◌}
+use Rattle.std.proofs.Common.{map, length, take, get_or, Option, Some, None, refl, sym, ap, subst}
+use Rattle.std.proofs.Common.{◌∙◌, arith}
+use Rattle.std.specs.Prelude.{◌||◌, IfSome, slice_get, slice_index_or}
+use Rattle.std.specs.Option.{option_map}
 use Rattle.std.specs.FinMap as finite
 use Rattle.std.specs.FinSet as set
-use Rattle.std.proofs.lemmas.Option.{get_or_from_slice_get, slice_get_within}
-use Rattle.mc_tables.specs.CacheTable.{EntryText}
-use Rattle.mc_tables.specs.CacheTable.{CacheText, IsEntry}
+use Rattle.std.proofs.lemmas.List.{length-map}
+use Rattle.std.proofs.lemmas.Option.{slice_get-map, slice_get_read, slice_get_within}
+use Rattle.mc_tables.specs.CacheTable.{CacheText, EntryText, IsEntry, to_oif}
+use Rattle.mc_tables.specs.declared.entry.Oif.{Oif}
 use Rattle.mc_topology.specs.declared.flow.Flow.{Flow}
-use Rattle.mc_theory.specs.Nets.{Interface, Row}
-use Rattle.mc_theory.specs.Nets.Row.{Exact as exact}
+use Rattle.mc_theory.specs.Nets.{Row}
+use Rattle.mc_theory.specs.Nets.Row.{Exact as exact, Open as open_row, NoRow as no_row}
 use Rattle.mc_forward.specs.declared.row.RowNo.{RowNo}
-use Rattle.mc_forward.specs.declared.row.RowNo.TheVariants.{Exact}
+use Rattle.mc_forward.specs.declared.row.RowNo.TheVariants.{Exact, Open, NoRow}
+use Rattle.mc_forward.specs.declared.row.RowFor.{RowFor}
+use Rattle.mc_forward.specs.declared.row.RowFor.TheVariants as row
 use Rattle.mc_forward.specs.Domains.{TablesValue, DomainValue, IsDomain, pairs_of, row_by, row_in}
 use Rattle.mc_forward.specs.Domains.{row_at, row_of}
-use Rattle.mc_forward.specs.DomainParts.{IsWorkedOut}
-use Rattle.mc_forward.specs.RowNumbers.{IsRowNo, AreRowsOf}
-use Rattle.mc_forward.proofs.EachLemmas.{some-at, read-at}
+use Rattle.mc_forward.specs.DomainParts.{rows_by_tables}
+use Rattle.mc_forward.specs.RowNumbers.{IsRowNo, IsNumbered, AreRowNos}
+use Rattle.mc_forward.specs.Rows.{row_seen, EntryStands}
+use Rattle.mc_forward.proofs.BelowLemmas.{map-push}
+use Rattle.mc_forward.proofs.EachLemmas.{some-at, take-found}
 
--- whether a cache has a row for every source that takes the flow
-abbrev pub is_wild : CacheText → Flow → Bool
-is_wild cache f = set.contains cache.wildcards f.group || set.contains cache.wildcards 0
+-- ---- the numbers of a router's rows
 
--- what is kept of a router's row for a flow, beside the router's tables and the flow
-pub record IsKeptRow (d : DomainValue) (flow router : ℕ) (held : RowNo) : Type 0 where
-  pub tables : TablesValue
-  pub at_tables : slice_get d.tables router ≡ Some tables
+-- a number that is kept is of an entry of the cache
+is-numbered : (cache : CacheText) (f : Flow) (number : RowNo) → IsRowNo cache f number
+    → IsNumbered cache number
+is-numbered cache f (Exact number) is = slice_get_within cache.numbered number is.entry is.numbered
+is-numbered cache f Open is = tt
+is-numbered cache f NoRow is = tt
+
+-- the flow with this place, of which this is the number
+pub record NumberedAt (flows : List Flow) (t : TablesValue) (i : ℕ) (number : RowNo) : Type 0 where
   pub item : Flow
-  pub at_item : slice_get d.topology.flows flow ≡ Some item
-  pub row : IsRowNo tables.cache item held
+  pub at : slice_get flows i ≡ Some item
+  pub row : IsRowNo t.cache item number
+  pub numbered : IsNumbered t.cache number
 
--- a row is that of the router's tables and of the flow
-pub row-of-kept : (d : DomainValue) (flow router : ℕ) (held : RowNo) (kept : IsKeptRow d flow router held)
-    → row_of d flow router ≡ row_in kept.tables.cache kept.item
-row-of-kept d flow router held kept =
-    ap (λ (t : Option TablesValue). row_at t (slice_get d.topology.flows flow)) kept.at_tables
-    ∙ ap (row_at (Some kept.tables)) kept.at_item
+read_or : {A : Type 0} (xs : List A) (i : ℕ) (d : A) → i < length xs
+    → slice_get xs i ≡ Some (slice_index_or xs i d)
+read_or [] i d h = absurd (omega (arith, h))
+read_or (x ∷ xs) zero d h = refl
+read_or (x ∷ xs) (suc i) d h = read_or xs i d (omega (arith, h))
 
--- what was read of the rows of a domain
-pub kept-row : (d : DomainValue) (rs : List (List RowNo)) (flow router : ℕ) (own : List RowNo)
-    (held : RowNo) → IsDomain d → AreRowsOf d.topology.flows d.tables rs
-    → router < length d.topology.routers → flow < length d.topology.flows
-    → own ≡ get_or rs router own → held ≡ get_or own flow held → IsKeptRow d flow router held
-kept-row d rs flow router own held ok rows in_routers in_flows read_own read_no =
-    let sized = ok.routers in
-    let counted = rows.count in
-    let t = some-at d.tables router (omega (arith, in_routers, sized)) in
-    let f = some-at d.topology.flows flow in_flows in
-    let own_at = read-at rs router own (omega (arith, in_routers, sized, counted)) read_own in
-    let own_rows = rows.each router t.0 own t.1 own_at in
-    let size = own_rows.count in
+pub numbered-at : (flows : List Flow) (t : TablesValue) (numbers seen : List RowNo) (i : ℕ)
+    (d : RowNo) → AreRowNos flows t numbers → seen ≡ numbers → i < length seen
+    → NumberedAt flows t i (slice_index_or seen i d)
+numbered-at flows t numbers seen i d rows same lt =
+    let size = rows.count in
+    let number = slice_index_or seen i d in
+    let f = some-at flows i (omega (arith, lt, size, ap length same)) in
+    let row = rows.each i f.0 number f.1
+    (subst (λ (xs : List RowNo). slice_get xs i ≡ Some number) same (read_or seen i d lt)) in
     record {
-      tables = t.0;
-      at_tables = t.1;
       item = f.0;
-      at_item = f.1;
-      row = own_rows.each flow f.0 held f.1
-          (read-at own flow held (omega (arith, in_flows, size)) read_no);
+      at = f.1;
+      row = row;
+      numbered = is-numbered t.cache f.0 number row;
     }
 
--- a router has a row for each flow
-pub kept-width : (d : DomainValue) (rs : List (List RowNo)) (router : ℕ) (own : List RowNo)
-    → IsDomain d → AreRowsOf d.topology.flows d.tables rs → router < length d.topology.routers
-    → own ≡ get_or rs router own → length own ≡ length d.topology.flows
-kept-width d rs router own ok rows in_routers read_own =
-    let sized = ok.routers in
-    let counted = rows.count in
-    let t = some-at d.tables router (omega (arith, in_routers, sized)) in
-    let own_at = read-at rs router own (omega (arith, in_routers, sized, counted)) read_own in
-    (rows.each router t.0 own t.1 own_at).count
+-- one row more
+pub rows-taken : (cache : CacheText) (flows : List Flow) (i : ℕ) (f : Flow) (r : Row)
+    → slice_get flows i ≡ Some f → r ≡ row_in cache f
+    → map (row_in cache) (take i flows) ++ r ∷ [] ≡ map (row_in cache) (take (i + 1) flows)
+rows-taken cache flows i f r at same =
+    ap (λ (o : Row). map (row_in cache) (take i flows) ++ o ∷ []) same
+    ∙ sym (map-push (row_in cache) (take i flows) f)
+    ∙ ap (map (row_in cache)) (sym (take-found flows i f at))
 
--- what is read of the rows that were worked out, where their domain is seen as this one
-pub row-read : {parts d : DomainValue} {ps : List (List (Option ℕ))} {is : List (List Interface)}
-    {rs : List (List RowNo)} {k router flow : ℕ} {own xs : List RowNo} {held : RowNo}
-    → IsWorkedOut parts ps is rs → parts ≡ d → k ≡ router → xs ≡ own
-    → router < length d.topology.routers → flow < length d.topology.flows
-    → own ≡ get_or rs k own → held ≡ get_or xs flow held → IsKeptRow d flow router held
-row-read {parts} {d} {ps} {is} {rs} {k} {router} {flow} {own} {xs} {held} worked seen at of_own
-    in_routers in_flows read_own read_no =
-    kept-row d rs flow router own held (subst IsDomain seen worked.domain)
-    (subst (λ (e : DomainValue). AreRowsOf e.topology.flows e.tables rs) seen worked.rows)
-    in_routers in_flows (read_own ∙ ap (λ (j : ℕ). get_or rs j own) at)
-    (read_no ∙ ap (λ (ys : List RowNo). get_or ys flow held) of_own)
+-- ---- the row that a cache has
 
--- and of its tables
-pub tables-read : {parts d : DomainValue} {k router : ℕ} {t : TablesValue} → parts ≡ d → k ≡ router
-    → t ≡ get_or parts.tables k t → t ≡ get_or d.tables router t
-tables-read {parts} {d} {k} {router} {t} seen at read =
-    read ∙ ap (λ (j : ℕ). get_or parts.tables j t) at
-    ∙ ap (λ (e : DomainValue). get_or e.tables router t) seen
+-- whether a cache has a row for every source that takes the flow
+abbrev is_wild : CacheText → Flow → Bool
+is_wild cache f = set.contains cache.wildcards f.group || set.contains cache.wildcards 0
 
--- the tables that were read are those of the router
-same-tables : (d : DomainValue) (flow router : ℕ) (held : RowNo) (t : TablesValue)
-    (kept : IsKeptRow d flow router held) → t ≡ get_or d.tables router t → t ≡ kept.tables
-same-tables d flow router held t kept read =
-    read ∙ get_or_from_slice_get d.tables router kept.tables t kept.at_tables
+-- the entry with the flow's number is the flow's
+entry-of_number : (cache : CacheText) (f : Flow) (number : ℕ) (entry : EntryText)
+    → IsRowNo cache f (Exact number) → slice_get cache.numbered number ≡ Some entry
+    → finite.get cache.entries (f.source, f.group) ≡ Some entry
+entry-of_number cache f number entry is at = is.found ∙ sym is.numbered ∙ at
 
--- what was read behind a reference to these tables
-pub read-behind : {b t : TablesValue} (number : ℕ) {entry : EntryText} → b ≡ t
-    → slice_get b.cache.numbered number ≡ Some entry
-    → slice_get t.cache.numbered number ≡ Some entry
-read-behind {b} {t} number {entry} same read =
-    subst (λ (own : TablesValue). slice_get own.cache.numbered number ≡ Some entry) same read
+pub entry-row : (cache : CacheText) (f : Flow) (number : ℕ) (entry : EntryText)
+    → IsRowNo cache f (Exact number) → slice_get cache.numbered number ≡ Some entry
+    → exact entry.iif (pairs_of entry.oifs) ≡ row_in cache f
+entry-row cache f number entry is at =
+    ap (row_by (is_wild cache f)) (sym (entry-of_number cache f number entry is at))
 
--- a number that is kept is of an entry of those tables
-pub number-within : (d : DomainValue) (flow router number : ℕ) (held : RowNo) (t : TablesValue)
-    → IsKeptRow d flow router held → held ≡ Exact number → t ≡ get_or d.tables router t
-    → number < length t.cache.numbered
-number-within d flow router number held t kept is read =
-    let of_entry = subst (IsRowNo kept.tables.cache kept.item) is kept.row in
-    subst (λ (own : TablesValue). number < length own.cache.numbered)
-    (sym (same-tables d flow router held t kept read))
-    (slice_get_within kept.tables.cache.numbered number of_entry.entry of_entry.numbered)
+-- ---- the rows of a domain
 
--- and the entry is that of the flow
-entry-found : (d : DomainValue) (flow router number : ℕ) (held : RowNo) (t : TablesValue)
-    (entry : EntryText) (kept : IsKeptRow d flow router held) → held ≡ Exact number
-    → t ≡ get_or d.tables router t → slice_get t.cache.numbered number ≡ Some entry
-    → finite.get kept.tables.cache.entries (kept.item.source, kept.item.group) ≡ Some entry
-entry-found d flow router number held t entry kept is read at =
-    let of_entry = subst (IsRowNo kept.tables.cache kept.item) is kept.row in
-    of_entry.found ∙ sym of_entry.numbered
-    ∙ ap (λ (own : TablesValue). slice_get own.cache.numbered number)
-    (sym (same-tables d flow router held t kept read))
-    ∙ at
+-- the rows of a router are what its cache has for the flows
+pub record AreOwn (d : DomainValue) (router : ℕ) (own : List Row) : Type 0 where
+  pub tables : TablesValue
+  pub at : slice_get d.tables router ≡ Some tables
+  pub rows : own ≡ map (row_in tables.cache) d.topology.flows
 
--- so it is the row
-pub entry-row : (d : DomainValue) (flow router number : ℕ) (held : RowNo) (t : TablesValue)
-    (entry : EntryText) → IsKeptRow d flow router held → held ≡ Exact number
-    → t ≡ get_or d.tables router t → slice_get t.cache.numbered number ≡ Some entry
-    → exact entry.iif (pairs_of entry.oifs) ≡ row_of d flow router
-entry-row d flow router number held t entry kept is read at =
-    sym (row-of-kept d flow router held kept
-    ∙ ap (row_by (is_wild kept.tables.cache kept.item))
-    (entry-found d flow router number held t entry kept is read at))
+pub own-rows : (d : DomainValue) (rs : List (List Row)) (own : List Row) (router : ℕ)
+    → IsDomain d → rs ≡ rows_by_tables d.topology.flows d.tables
+    → router < length d.topology.routers → own ≡ get_or rs router own → AreOwn d router own
+own-rows d rs own router ok worked in_routers read =
+    let by : TablesValue → List Row = λ t. map (row_in t.cache) d.topology.flows in
+    let routers = ok.routers in
+    let size : length rs ≡ length d.tables = ap length worked ∙ length-map d.tables by in
+    let t = some-at d.tables router (omega (arith, in_routers, routers)) in
+    let here : slice_get rs router ≡ Some own = slice_get_read rs (length rs) router own refl
+    (omega (arith, in_routers, routers, size)) read in
+    let table : slice_get rs router ≡ Some (by t.0) =
+    ap (λ (xs : List (List Row)). slice_get xs router) worked
+    ∙ slice_get-map by d.tables router ∙ ap (option_map by) t.1 in
+    record {
+      tables = t.0;
+      at = t.1;
+      rows = (let q : Some own ≡ Some (by t.0) = sym here ∙ table in cc);
+    }
 
--- and stands as a kernel has it
-pub entry-stands : (d : DomainValue) (flow router number : ℕ) (held : RowNo) (t : TablesValue)
-    (entry : EntryText) → IsDomain d → IsKeptRow d flow router held → held ≡ Exact number
-    → t ≡ get_or d.tables router t → slice_get t.cache.numbered number ≡ Some entry → IsEntry entry
-entry-stands d flow router number held t entry ok kept is read at =
-    subst (λ (o : Option EntryText). IfSome o IsEntry)
-    (entry-found d flow router number held t entry kept is read at)
-    ((ok.tables router kept.tables kept.at_tables).cache.entries
-    (kept.item.source, kept.item.group))
+-- so there is one for each flow
+pub own-count : (d : DomainValue) (router : ℕ) (own : List Row) → AreOwn d router own
+    → length own ≡ length d.topology.flows
+own-count d router own are = ap length are.rows
+    ∙ length-map d.topology.flows (row_in are.tables.cache)
 
--- a row for every source is the row, and so is none
-pub other-row : (d : DomainValue) (flow router : ℕ) (held now : RowNo) (row : Row)
-    → IsKeptRow d flow router held → held ≡ now
-    → ((t : TablesValue) (f : Flow) → IsRowNo t.cache f now → row_in t.cache f ≡ row)
-    → row ≡ row_of d flow router
-other-row d flow router held now row kept is means =
-    sym (row-of-kept d flow router held kept
-    ∙ means kept.tables kept.item (subst (IsRowNo kept.tables.cache kept.item) is kept.row))
+pub own-row : (d : DomainValue) (router flow : ℕ) (own : List Row) (r : Row) → AreOwn d router own
+    → slice_get own flow ≡ Some r → r ≡ row_of d flow router
+own-row d router flow own r are at =
+    by are.tables d.topology.flows (sym (slice_get-map (row_in are.tables.cache) d.topology.flows flow)
+    ∙ ap (λ (xs : List Row). slice_get xs flow) (sym are.rows) ∙ at)
+    ∙ ap (λ (t : Option TablesValue). row_at t (slice_get d.topology.flows flow)) (sym are.at)
+  where
+    by_flow : (t : TablesValue) (o : Option Flow) → option_map (row_in t.cache) o ≡ Some r
+        → r ≡ row_at (Some t) o
+    by_flow t None e = absurd cc
+    by_flow t (Some f) e = cc
+
+    by : (t : TablesValue) (flows : List Flow)
+        → option_map (row_in t.cache) (slice_get flows flow) ≡ Some r
+        → r ≡ row_at (Some t) (slice_get flows flow)
+    by t flows e = by_flow t (slice_get flows flow) e
+
+-- ---- an entry that is a row stands as a kernel has it
+
+pairs-back : (oifs : List Oif) → map to_oif (pairs_of oifs) ≡ oifs
+pairs-back [] = refl
+pairs-back (o ∷ oifs) = ap (λ (os : List Oif). o ∷ os) (pairs-back oifs)
+
+entry_back : Row → EntryText
+entry_back (exact incoming pairs) = record { iif = incoming; oifs = map to_oif pairs }
+entry_back open_row = record { iif = 0; oifs = [] }
+entry_back no_row = record { iif = 0; oifs = [] }
+
+same-entry : (e entry : EntryText)
+    → exact e.iif (pairs_of e.oifs) ≡ exact entry.iif (pairs_of entry.oifs) → e ≡ entry
+unfolding entry_back
+same-entry e entry same =
+    let with : ℕ → List Oif → EntryText = λ iif oifs. record { iif = iif; oifs = oifs } in
+    sym (ap (with e.iif) (pairs-back e.oifs)) ∙ ap entry_back same
+    ∙ ap (with entry.iif) (pairs-back entry.oifs)
+
+entry-by : (wild : Bool) (o : Option EntryText) (entry : EntryText)
+    → row_by wild o ≡ exact entry.iif (pairs_of entry.oifs) → IfSome o IsEntry → IsEntry entry
+entry-by wild (Some e) entry same ok = subst IsEntry (same-entry e entry same) ok
+entry-by true None entry same ok = absurd cc
+entry-by false None entry same ok = absurd cc
+
+pub row-stands : (d : DomainValue) (flow router : ℕ) (r : RowFor) → IsDomain d
+    → row_seen r ≡ row_of d flow router → EntryStands r
+row-stands d flow router row.Open ok same = tt
+row-stands d flow router row.NoRow ok same = tt
+row-stands d flow router (row.Exact entry) ok same =
+    by (slice_get d.tables router) (slice_get d.topology.flows flow) refl (sym same)
+  where
+    by : (t : Option TablesValue) (o : Option Flow) → slice_get d.tables router ≡ t
+        → row_at t o ≡ exact entry.iif (pairs_of entry.oifs) → IsEntry entry
+    by None o at e = absurd cc
+    by (Some t) None at e = absurd cc
+    by (Some t) (Some f) at e =
+        entry-by (is_wild t.cache f) (finite.get t.cache.entries (f.source, f.group)) entry e
+        ((ok.tables router t at).cache.entries (f.source, f.group))

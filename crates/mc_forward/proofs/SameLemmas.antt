@@ -1,11 +1,10 @@
 -- A domain of which each router's cache has the rows of the listed flows alone says of each flow
 -- what the whole one says.
-use Rattle.std.proofs.Common.{◌≡◌, ℕ, zero, suc, Bool, true, List, [], ◌∷◌, ◌++◌, map, length}
+use Rattle.std.proofs.Common.{◌≡◌, ℕ, zero, suc, Bool, true, List, [], ◌∷◌, ◌++◌, length}
 use Rattle.std.proofs.Common.{slice_get, Option, Some, None, refl, ap, sym, subst, arith, ◌||◌}
 use Rattle.std.specs.Prelude.{option_and_then}
 use Rattle.std.specs.FinMap as finite
 use Rattle.std.proofs.lemmas.Bool.{eq-eqb}
-use Rattle.mc_tables.specs.VifTable.{VifText}
 use Rattle.mc_tables.specs.ListedRows.{is_listed}
 use Rattle.mc_topology.specs.declared.flow.Flow.{Flow}
 use Rattle.mc_topology.specs.Topology.{TopologyValue}

@@ -7,10 +7,9 @@ use Rattle.mc_tables.specs.VifTable.{VifText, vif_code}
 use Rattle.mc_tables.specs.CacheTable.{CacheText, cache_code}
 use Rattle.mc_topology.specs.Topology.{TopologyValue, topology_code}
 use Rattle.mc_theory.specs.Lists.{below}
-use Rattle.mc_theory.specs.Nets.{Interface, interfaces}
-use Rattle.mc_forward.specs.declared.row.RowNo.{RowNo}
-use Rattle.mc_forward.specs.Domains.{TablesValue, DomainValue, IsDomain, placed_of, net_of}
-use Rattle.mc_forward.specs.RowNumbers.{AreRowsOf}
+use Rattle.mc_topology.specs.declared.flow.Flow.{Flow}
+use Rattle.mc_theory.specs.Nets.{Interface, Row, interfaces}
+use Rattle.mc_forward.specs.Domains.{TablesValue, DomainValue, IsDomain, placed_of, row_in, net_of}
 
 -- a router's tables, and a domain, are stored as their fields
 abbrev pub tables_code : Coded TablesValue
@@ -38,10 +37,14 @@ places_of d =
 abbrev pub interfaces_of : DomainValue → List (List Interface)
 interfaces_of d = map (interfaces (net_of d 0)) (below (length d.topology.lans))
 
+-- what each router's cache has for the flows
+abbrev pub rows_by_tables : List Flow → List TablesValue → List (List Row)
+rows_by_tables flows tables = map (λ t. map (row_in t.cache) flows) tables
+
 -- what was worked out belongs to the domain
 pub record IsWorkedOut (d : DomainValue) (ps : List (List (Option ℕ)))
-    (is : List (List Interface)) (rs : List (List RowNo)) : Type 0 where
+    (is : List (List Interface)) (rs : List (List Row)) : Type 0 where
   pub domain : IsDomain d
   pub places : ps ≡ places_of d
   pub interfaces : is ≡ interfaces_of d
-  pub rows : AreRowsOf d.topology.flows d.tables rs
+  pub rows : rs ≡ rows_by_tables d.topology.flows d.tables

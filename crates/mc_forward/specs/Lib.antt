@@ -2,6 +2,7 @@ pub mod Domains
 pub mod Assembling
 pub mod ListedTables
 pub mod RowNumbers
+pub mod FlatRows
 pub mod DomainParts
 pub mod Rows
 pub mod Journeys

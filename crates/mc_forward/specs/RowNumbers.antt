@@ -1,5 +1,5 @@
--- The rows of routers, as a domain keeps them: an entry by its number among those of its table.
-use Rattle.std.specs.Prelude.{◌≡◌, ℕ, List, length, Some, slice_get}
+-- The rows of a router, an entry by its number among those of its table.
+use Rattle.std.specs.Prelude.{◌≡◌, ℕ, ◌<◌, List, length, Some, slice_get, ⊤}
 use Rattle.std.specs.FinMap as finite
 use Rattle.mc_tables.specs.CacheTable.{EntryText}
 use Rattle.mc_tables.specs.CacheTable.{CacheText}
@@ -16,6 +16,12 @@ pub record IsNumberOf (cache : CacheText) (f : Flow) (number : ℕ) : Type 0 whe
   pub found : finite.get cache.entries (f.source, f.group) ≡ Some entry
   pub numbered : slice_get cache.numbered number ≡ Some entry
 
+-- a number of an entry is that of one in the cache
+abbrev pub IsNumbered : CacheText → RowNo → Type 0
+IsNumbered cache (Exact number) = number < length cache.numbered
+IsNumbered cache Open = ⊤
+IsNumbered cache NoRow = ⊤
+
 -- what is kept is what a cache has for a flow
 abbrev pub IsRowNo : CacheText → Flow → RowNo → Type 0
 IsRowNo cache f (Exact number) = IsNumberOf cache f number
@@ -26,9 +32,3 @@ IsRowNo cache f NoRow = row_in cache f ≡ no_row
 pub record AreRowNos (flows : List Flow) (t : TablesValue) (rows : List RowNo) : Type 0 where
   pub count : length rows ≡ length flows
   pub each : EachAt (IsRowNo t.cache) flows rows
-
--- the rows of all routers
-pub record AreRowsOf (flows : List Flow) (ts : List TablesValue) (rs : List (List RowNo))
-    : Type 0 where
-  pub count : length rs ≡ length ts
-  pub each : EachAt (AreRowNos flows) ts rs

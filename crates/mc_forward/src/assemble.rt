@@ -7,11 +7,11 @@ ghost use Rattle.mc_forward.specs.Domains.{IsDomain};
 ghost use Rattle.mc_forward.specs.DomainParts.{domain_with, IsWorkedOut};
 
 use crate::domain::{Domain, WorkedOut};
+use crate::flow_rows::rows_of_routers;
 use crate::interfaces::interfaces_of_lans;
 use crate::items::Items;
 use crate::places::places_of_routers;
 use crate::refused::{DomainFault, Refused};
-use crate::row_numbers::rows_of_routers;
 use crate::tables::Tables;
 use crate::wants::wants_of_lans;
 use mc_igmp::ReportList;

@@ -6,10 +6,11 @@ ghost use Rattle.mc_forward.specs.Domains.{IsDomain, net_of, placed_of, row_of, 
 ghost use Rattle.mc_forward.specs.DomainParts.{domain_with, IsWorkedOut};
 ghost use Rattle.mc_forward.specs.Rows.{row_seen, EntryStands};
 
+use crate::flow_rows::FlowRows;
 use crate::interfaces::Interfaces;
 use crate::items::Items;
 use crate::places::Places;
-use crate::row::{RowFor, RowNo};
+use crate::row::RowFor;
 use crate::tables::Tables;
 use mc_topology::{LanNo, RouterNo, Topology};
 use std::marker::Model;
@@ -24,7 +25,7 @@ pub(crate) struct WorkedOut {
     /// For each LAN, the vifs that are placed on it, with the router of each.
     pub(crate) interfaces: Vec<Items<(RouterNo, u8)>>,
     /// For each router, the row of each flow.
-    pub(crate) rows: Vec<Items<RowNo>>,
+    pub(crate) rows: Vec<FlowRows>,
 }
 
 /// A topology with the kernel tables of each router, and which LAN wants which flow.
@@ -111,13 +112,7 @@ impl Domain {
         ensures stands { EntryStands result }
     {
         let rows = &self.worked_out.rows[router.0 as usize];
-        match rows.items[flow as usize] {
-            RowNo::Exact(number) => {
-                RowFor::Exact(self.tables[router.0 as usize].cache.entry_at(number))
-            }
-            RowNo::Open => RowFor::Open,
-            RowNo::NoRow => RowFor::NoRow,
-        }
+        rows.row(flow)
     }
 
     /// Whether a LAN wants a flow: whether some record of its reports for the flow's group admits

@@ -9,6 +9,7 @@ mod domain;
 mod event;
 mod flight;
 mod flow_laws;
+mod flow_rows;
 mod flow_view;
 mod interfaces;
 mod items;

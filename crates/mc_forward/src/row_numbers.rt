@@ -1,7 +1,7 @@
-//! What each router has for each flow, looked up once.
+//! What a router has for each flow, looked up once.
 
 ghost use Rattle.std.specs.Prelude.{◌≡◌, IfOk, OnOk, length};
-ghost use Rattle.mc_forward.specs.RowNumbers.{IsRowNo, AreRowNos, AreRowsOf};
+ghost use Rattle.mc_forward.specs.RowNumbers.{IsRowNo, AreRowNos};
 
 use crate::items::Items;
 use crate::row::RowNo;
@@ -28,7 +28,7 @@ fn row_no(cache: &CacheTable, flow: &Flow, near: &mut usize) -> RowNo
 }
 
 /// What a router has for each flow. At these places other routers had them.
-fn rows_of_router(
+pub(crate) fn rows_of_router(
     alloc: Global,
     topology: &Topology,
     tables: &Tables,
@@ -44,20 +44,4 @@ fn rows_of_router(
         rows.push(row_no(&tables.cache, topology.flow(flow), near))?;
     }
     Ok(Items { items: rows })
-}
-
-/// What each router has for each flow.
-pub(crate) fn rows_of_routers(
-    alloc: Global,
-    topology: &Topology,
-    tables: &[Tables],
-) -> Result<Vec<Items<RowNo>>, Memory>
-    ensures { IfOk result (λ rows. AreRowsOf topology.now.flows tables.now rows.items) }
-{
-    let mut places = vec![in alloc; 0; topology.flows() as usize]?;
-    let mut rows = Vec::with_capacity(alloc, tables.len())?;
-    for own in tables {
-        rows.push(rows_of_router(alloc, topology, own, &mut places)?)?;
-    }
-    Ok(rows)
 }

@@ -1,0 +1,11 @@
+use Rattle.std.proofs.Common.{length, ap, arith}
+use Rattle.mc_tables.specs.CacheTable.{EntryText}
+use Rattle.mc_tables.proofs.EntryLemmas.{few-oifs}
+use Rattle.std.proofs.Common.{subst}
+use Rattle.mc_forward.specs.Rows.{EntryStands}
+use Rattle.mc_forward.proofs.flow_rows.head_of.Goals as goal
+
+pub overflow_cast-result-in-Exact : goal.overflow_cast-result-in-Exact
+overflow_cast-result-in-Exact c =
+    let few = few-oifs c.in-Exact.entry (subst EntryStands c.in-Exact.is c.requires.stands) in
+    omega (arith, few, ap (λ (e : EntryText). length e.oifs) c.entry.view_is)

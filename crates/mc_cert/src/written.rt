@@ -1,15 +1,25 @@
 //! The JSON text of a certificate, in version 2, piece by piece.
 
-ghost use Rattle.std.specs.Prelude.{◌≡◌, ◌++◌, ◌<◌, All, length, map, IfSome, OnOk};
+ghost use Rattle.std.specs.Prelude.{◌≡◌, ◌++◌, ◌<◌, All, length, map, IfSome, OnOk, codes, decimal};
 ghost use Rattle.std.specs.Prelude.{string_bytes};
 ghost use Rattle.mc_cert.specs.Certificate.{IsEntryOf, IsOfBytes};
 ghost use Rattle.mc_cert.specs.CertificateText.{listed, forwarder_text, entry_text, tree_text};
 ghost use Rattle.mc_cert.specs.CertificateText.{flow_text, flow_texts};
 
 use crate::reached::Reached;
+use itoa::Buffer;
 use mc_topology::{Flow, RouterNo, Topology};
 use std::alloc::AllocError;
 use std::rc::Rc;
+
+/// Appends a number. It is written without a formatter, which took most of the time of a large
+/// certificate.
+fn push_number(text: &mut String, number: u8) -> Result<(), AllocError>
+    ensures { OnOk result (string_bytes text.new ≡ string_bytes text.old ++ decimal number) }
+{
+    let mut digits = Buffer::new();
+    text.push_str(digits.format(number))
+}
 
 /// Appends the keys of the interface that sends, if there is one.
 fn push_forwarder(
@@ -24,10 +34,26 @@ fn push_forwarder(
     match forwarder {
         None => Ok(()),
         Some((router, vif)) => {
-            let name = topology.router_name(router);
-            write!(text, r#","router":"{name}","vif":{vif}"#)
+            text.push_str(r#","router":""#)?;
+            text.push_str(topology.router_name(router))?;
+            text.push_str(r#"","vif":"#)?;
+            push_number(text, vif)
         }
     }
+}
+
+/// Appends an entry as far as its rank.
+fn push_front(text: &mut String, name: &str, need: u8, rank: u8) -> Result<(), AllocError>
+    ensures { OnOk result (string_bytes text.new ≡
+        string_bytes text.old ++ codes "{\"lan\":\"" ++ name.now ++ codes "\",\"need\":"
+        ++ decimal need ++ codes ",\"rank\":" ++ decimal rank) }
+{
+    text.push_str(r#"{"lan":""#)?;
+    text.push_str(name)?;
+    text.push_str(r#"","need":"#)?;
+    push_number(text, need)?;
+    text.push_str(r#","rank":"#)?;
+    push_number(text, rank)
 }
 
 /// Appends an entry.
@@ -37,9 +63,8 @@ fn push_entry(text: &mut String, topology: &Topology, entry: &Reached) -> Result
         string_bytes text.old ++ entry_text topology.now entry.now) }
     ensures bytes { IsOfBytes entry.now }
 {
-    let name = topology.lan_name(entry.lan);
     let (need, rank) = (entry.need, entry.rank);
-    write!(text, r#"{{"lan":"{name}","need":{need},"rank":{rank}"#)?;
+    push_front(text, topology.lan_name(entry.lan), need, rank)?;
     push_forwarder(text, topology, entry.forwarder)?;
     text.push_str("}")
 }

@@ -82,7 +82,11 @@ fn take_away(waiting: &mut VecDeque<WaitingCopy>, index: usize)
     requires { index < length waiting.old.items }
     ensures { waiting.new.items ≡ remove waiting.old.items index }
 {
-    let _taken = waiting.remove(index);
+    let _taken = if index == 0 {
+        waiting.pop_front()
+    } else {
+        waiting.remove(index)
+    };
 }
 
 impl Copies {

@@ -3,6 +3,7 @@
 ghost use Rattle.std.specs.Prelude.{◌≡◌, Some};
 ghost use Rattle.mc_theory.specs.Reasons.{feeds_from, first_of, is_fed, row_feeds, unless};
 ghost use Rattle.mc_theory.specs.Reasons.Reason.{Unfed};
+ghost use Rattle.mc_tables.specs.CacheTable.{IsEntry};
 ghost use Rattle.mc_forward.specs.Domains.{pairs_of};
 ghost use Rattle.mc_forward.specs.Journeys.{net_in};
 ghost use Rattle.mc_check.specs.Reasons.{reason_seen};
@@ -10,15 +11,16 @@ ghost use Rattle.mc_check.specs.Reasons.{reason_seen};
 use crate::firsts::Named;
 use crate::verdict::Reason;
 use mc_cert::Reached;
-use mc_forward::{FlowView, RowFor};
-use mc_tables::Oif;
+use mc_forward::{FlowView, RowFor, outgoing_from};
+use mc_tables::Entry;
 use mc_topology::RouterNo;
 
-/// Whether one of the pairs sends by a vif what comes from `base`'s LAN.
-fn feeds(base: &Reached, vif: u8, oifs: &[Oif]) -> bool
-    ensures { result ≡ feeds_from vif (pairs_of oifs.now) (Some base.now) }
+/// Whether one of an entry's pairs sends by a vif what comes from `base`'s LAN.
+fn feeds(base: &Reached, vif: u8, entry: &Entry<'_>) -> bool
+    requires { IsEntry entry.now }
+    ensures { result ≡ feeds_from vif (pairs_of entry.now.oifs) (Some base.now) }
 {
-    for oif in oifs {
+    for oif in outgoing_from(entry, vif) {
         if oif.vif == vif && u16::from(base.rank) + u16::from(oif.threshold) < 255 {
             return true;
         }
@@ -33,7 +35,7 @@ fn row_feeds(view: &FlowView<'_>, named: &Named<'_>, router: RouterNo, vif: u8) 
 {
     match view.row(router) {
         RowFor::Exact(entry) => match named.at(view.placed(router, entry.iif)) {
-            Some(base) => feeds(&base, vif, entry.oifs),
+            Some(base) => feeds(&base, vif, &entry),
             None => false,
         },
         RowFor::Open | RowFor::NoRow => false,

@@ -12,3 +12,4 @@ pub mod FirstLemmas
 pub mod RowNoLemmas
 pub mod SameLemmas
 pub mod FlatRowLemmas
+pub mod OutgoingLemmas

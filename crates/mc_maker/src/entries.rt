@@ -3,13 +3,14 @@
 
 ghost use Rattle.std.specs.Prelude.{◌≡◌, ◌<◌, ◌≤◌, All, IfOk, IfSome, Some, [], length};
 ghost use Rattle.mc_theory.specs.Made.{entries_of, need_over, threshold_of};
+ghost use Rattle.mc_tables.specs.CacheTable.{IsEntry};
 ghost use Rattle.mc_forward.specs.Domains.{pairs_of};
 ghost use Rattle.mc_maker.specs.ByLan.{IsByLan, entry_by, entry_held, held_entries, need_held};
 ghost use Rattle.mc_forward.specs.Journeys.{net_in};
 
 use mc_cert::Reached;
-use mc_forward::{Carried, FlowView, PerLan, RowFor};
-use mc_tables::Oif;
+use mc_forward::{Carried, FlowView, PerLan, RowFor, outgoing_from};
+use mc_tables::Entry;
 use mc_text::Memory;
 use mc_topology::{LanNo, RouterNo};
 use std::alloc::Global;
@@ -25,10 +26,11 @@ pub(crate) fn entry_at(by_lan: &PerLan<Reached>, place: Option<LanNo>) -> Option
 }
 
 /// The threshold of a vif's pair, 0 where it has none.
-fn threshold_of(vif: u8, oifs: &[Oif]) -> u8
-    ensures { result ≡ threshold_of vif (pairs_of oifs.now) }
+fn threshold_of(vif: u8, entry: &Entry<'_>) -> u8
+    requires { IsEntry entry.now }
+    ensures { result ≡ threshold_of vif (pairs_of entry.now.oifs) }
 {
-    for oif in oifs {
+    for oif in outgoing_from(entry, vif) {
         if oif.vif == vif {
             return oif.threshold;
         }
@@ -55,7 +57,7 @@ fn need_by(view: &FlowView<'_>, by_lan: &PerLan<Reached>, router: RouterNo, vif:
 {
     match view.row(router) {
         RowFor::Exact(entry) => {
-            let threshold = threshold_of(vif, entry.oifs);
+            let threshold = threshold_of(vif, &entry);
             need_over(threshold, entry_at(by_lan, view.placed(router, entry.iif)))
         }
         RowFor::Open | RowFor::NoRow => 1,

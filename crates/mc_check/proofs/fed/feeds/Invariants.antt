@@ -4,5 +4,5 @@ use Rattle.mc_forward.specs.Domains.{pairs_of}
 use Rattle.mc_check.proofs.fed.feeds.Given as goal
 
 abbrev pub invariant-loop-oif : goal.invariant-loop-oif
-invariant-loop-oif l = feeds_from l.fn.vif (pairs_of (drop l.oif-index l.fn.oifs)) (Some l.fn.base)
-    ≡ feeds_from l.fn.vif (pairs_of l.fn.oifs) (Some l.fn.base)
+invariant-loop-oif l = feeds_from l.fn.vif (pairs_of (drop l.oif-index l.oif-items)) (Some l.fn.base)
+    ≡ feeds_from l.fn.vif (pairs_of l.fn.entry.oifs) (Some l.fn.base)

@@ -24,8 +24,14 @@ push_row-requires-clause-count c =
     let numbers = c.in_ok-numbers.ensures.count in
     let seen = ap (λ (xs : List RowNo). length xs)
     (c.deref-number-items.ensures.value ∙ c.numbers.view_is) in
-    omega (arith, numbers, seen, c.loop-number.invariant.count, c.loop-number-test.true,
-    c.flows.ensures.rules.few_flows)
+    omega (
+      arith,
+      numbers,
+      seen,
+      c.loop-number.invariant.count,
+      c.loop-number-test.true,
+      c.flows.ensures.rules.few_flows,
+    )
 
 pub push_row-requires-clause-stands : goal.push_row-requires-clause-stands
 push_row-requires-clause-stands c =

@@ -4,5 +4,5 @@ use Rattle.mc_forward.specs.Domains.{pairs_of}
 use Rattle.mc_maker.proofs.entries.threshold_of.Given as goal
 
 abbrev pub invariant-loop-oif : goal.invariant-loop-oif
-invariant-loop-oif l = threshold_of l.fn.vif (pairs_of (drop l.oif-index l.fn.oifs))
-    ≡ threshold_of l.fn.vif (pairs_of l.fn.oifs)
+invariant-loop-oif l = threshold_of l.fn.vif (pairs_of (drop l.oif-index l.oif-items))
+    ≡ threshold_of l.fn.vif (pairs_of l.fn.entry.oifs)

@@ -1,0 +1,21 @@
+//! Where an entry's outgoing vifs stand.
+
+ghost use Rattle.std.specs.Prelude.{◌≡◌, ◌<◌, ◌++◌, List};
+ghost use Rattle.std.specs.List.{AllByRecursion};
+ghost use Rattle.mc_tables.specs.CacheTable.{IsEntry};
+ghost use Rattle.mc_tables.specs.declared.entry.Oif.{Oif as OifValue};
+
+use mc_tables::{Entry, Oif};
+
+/// An entry's outgoing vifs without those at the front that are lower than this one, as their
+/// places tell: vifs ascend, and none is higher than 31. Where an entry sends by all vifs but one,
+/// as many routers' do, the vif itself is one of the first two that are left.
+pub fn outgoing_from<'a>(entry: &Entry<'a>, vif: u8) -> &'a [Oif]
+    requires { IsEntry entry.now }
+    ensures { (lower : List OifValue) × (lower ++ result.now ≡ entry.now.oifs)
+        × AllByRecursion (λ o. o.vif < vif) lower }
+{
+    let oifs = entry.oifs;
+    let lower = (usize::from(vif) + oifs.len()).saturating_sub(32);
+    &oifs[lower.min(oifs.len())..]
+}

@@ -1,6 +1,6 @@
 -- The lowest LAN that was missed, in a loop over the LANs.
 use Rattle.std.proofs.Common.{◌≡◌, ℕ, zero, suc, ◌+◌, ◌-◌, ◌<◌, Bool, true, false, cond, List, []}
-use Rattle.std.proofs.Common.{◌∷◌, ◌++◌, Some, None, is_some, refl, ap, ◌∙◌, subst, arith, add-one}
+use Rattle.std.proofs.Common.{◌∷◌, ◌++◌, Some, None, Option, ◌||◌, ◌&&◌, not, is_some, refl, ap, ◌∙◌, subst, arith, add-one}
 use Rattle.mc_theory.specs.Lists.{below}
 use Rattle.mc_theory.specs.Nets.{Net}
 use Rattle.mc_theory.specs.Flights.{Copy}
@@ -72,3 +72,21 @@ missed-found n cs k m h w b lt =
     let q : k + 1 + (m - (k + 1)) ≡ m = omega arith in
     subst (λ x. missed n cs (below x) ≡ Some k) q
     (stays n cs k (m - (k + 1)) k (missed-next n cs k h ∙ one-missed n cs k w b))
+
+-- whether one was missed, by the numbers before and by the next
+some-later : (a b : Option ℕ) → is_some (or_later a b) ≡ (is_some a || is_some b)
+some-later None b = refl
+some-later (Some x) b = refl
+
+some-one : (k : ℕ) (w b : Bool) → is_some (cond w (cond b None (Some k)) None) ≡ (w && not b)
+some-one k true true = refl
+some-one k true false = refl
+some-one k false b = refl
+
+pub some-more : (n : Net) (cs : List Copy) (k : ℕ) → is_some (missed n cs (below (k + 1)))
+    ≡ (is_some (missed n cs (below k)) || (n.wants k && not (is_some (copy_on cs k))))
+unfolding below
+some-more n cs k = ap (λ m. is_some (missed n cs (below m))) (add-one k)
+    ∙ ap is_some (missed-push n cs (below k) k)
+    ∙ some-later (missed n cs (below k)) (missed n cs (k ∷ []))
+    ∙ ap (λ s. is_some (missed n cs (below k)) || s) (some-one k (n.wants k) (is_some (copy_on cs k)))

@@ -1,6 +1,6 @@
 //! What a flight shows, if it shows something.
 
-ghost use Rattle.std.specs.Prelude.{◌≡◌, ◌<◌, All, IfSome, List, [], length};
+ghost use Rattle.std.specs.Prelude.{◌≡◌, ◌<◌, All, IfSome, List, [], is_some, length};
 ghost use Rattle.mc_theory.specs.Lists.{below};
 ghost use Rattle.mc_theory.specs.Flights.{Copy};
 ghost use Rattle.mc_theory.specs.Findings.{double, finding, meets, missed};
@@ -39,12 +39,30 @@ fn comes_by_its_lan(
     false
 }
 
+/// Whether some LAN wants the flow and carried no copy. All LANs are asked, without a branch for
+/// each, since a processor doesn't foresee which of them want a flow.
+fn misses_some(view: &FlowView<'_>, firsts: &PerLan<Carried>) -> bool
+    ensures { (copies : List Copy) → IsFirstBy (λ c. c.lan) firsts.now copies → result ≡
+        is_some (missed (net_in view.now) copies
+        (below (length view.now.domain.topology.lans))) }
+{
+    let mut some = false;
+    for number in 0..view.lans() {
+        let lan = LanNo(number);
+        some |= view.wants(lan) & firsts.on(lan).is_none();
+    }
+    some
+}
+
 /// The lowest LAN that wants the flow and carried no copy.
 fn missed(view: &FlowView<'_>, firsts: &PerLan<Carried>) -> Option<LanNo>
     ensures { (copies : List Copy) → IsFirstBy (λ c. c.lan) firsts.now copies → result ≡
         missed (net_in view.now) copies
         (below (length view.now.domain.topology.lans)) }
 {
+    if !misses_some(view, firsts) {
+        return None;
+    }
     for number in 0..view.lans() {
         let lan = LanNo(number);
         if view.wants(lan) && firsts.on(lan).is_none() {

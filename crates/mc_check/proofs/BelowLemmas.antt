@@ -1,5 +1,7 @@
 -- The first reason over the numbers below n, as a loop comes to it.
 use Rattle.std.proofs.Common.{◌≡◌, ℕ, zero, suc, ◌+◌, ◌-◌, ◌<◌, List, [], ◌∷◌, ◌++◌, Option, Some}
+use Rattle.std.specs.Prelude.{IsTrue}
+use Rattle.std.proofs.Common.{Bool, true, false, ◌&&◌}
 use Rattle.std.proofs.Common.{None, refl, ap, ◌∙◌, subst, arith, add-one}
 use Rattle.mc_theory.specs.Lists.{below}
 use Rattle.mc_theory.specs.Reasons.{Reason, ◌then◌, first_of}
@@ -49,3 +51,11 @@ some-found f k n x h e lt =
     let q : k + 1 + (n - (k + 1)) ≡ n = omega arith in
     subst (λ m. first_of f (below m) ≡ Some x) q
     (some-stays f k (n - (k + 1)) x (first-next f k h ∙ e))
+
+-- the same, told by two answers
+pub none-more-of : (f : ℕ → Option Reason) (k : ℕ) (all one : Bool)
+    → (all ≡ true → first_of f (below k) ≡ None) → (IsTrue one → f k ≡ None)
+    → (all && one) ≡ true → first_of f (below (k + 1)) ≡ None
+none-more-of f k true true before here e = none-more f k (before refl) (here refl)
+none-more-of f k true false before here e = absurd cc
+none-more-of f k false one before here e = absurd cc

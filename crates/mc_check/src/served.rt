@@ -1,6 +1,6 @@
 //! The source's LAN, and the LANs that want the flow.
 
-ghost use Rattle.std.specs.Prelude.{◌≡◌, ◌==◌, ◌||◌, ◌<◌, is_some, length};
+ghost use Rattle.std.specs.Prelude.{◌≡◌, ◌==◌, ◌||◌, ◌<◌, IsTrue, None, is_some, length};
 ghost use Rattle.std.specs.List.{list_all};
 ghost use Rattle.mc_theory.specs.Lists.{below};
 ghost use Rattle.mc_theory.specs.Reasons.{entry_on, first_of, has_source};
@@ -60,11 +60,39 @@ fn lan_reason(view: &FlowView<'_>, named: &Named<'_>, lan: LanNo) -> Option<Reas
     }
 }
 
+/// Whether a LAN that wants the flow has it.
+fn is_served(view: &FlowView<'_>, named: &Named<'_>, lan: LanNo) -> bool
+    requires { lan < length view.now.domain.topology.lans }
+    ensures { IsTrue result → lan_reason (net_in view.now) named.now lan ≡ None }
+{
+    let reaches = match named.on(lan) {
+        Some(entry) => entry.need <= view.ttl(),
+        None => false,
+    };
+    !view.wants(lan) | reaches
+}
+
+/// Whether all LANs that want the flow have it. All LANs are asked, without a branch for each,
+/// since a processor doesn't foresee which of them want a flow.
+fn all_are_served(view: &FlowView<'_>, named: &Named<'_>) -> bool
+    ensures { IsTrue result → first_of (lan_reason (net_in view.now) named.now)
+        (below (length view.now.domain.topology.lans)) ≡ None }
+{
+    let mut all = true;
+    for number in 0..view.lans() {
+        all &= is_served(view, named, LanNo(number));
+    }
+    all
+}
+
 /// The first LAN that wants the flow and goes without it.
 pub(crate) fn lans_reason(view: &FlowView<'_>, named: &Named<'_>) -> Option<Reason>
     ensures { reason_seen result ≡ first_of (lan_reason (net_in view.now) named.now)
         (below (length view.now.domain.topology.lans)) }
 {
+    if all_are_served(view, named) {
+        return None;
+    }
     for number in 0..view.lans() {
         if let Some(reason) = lan_reason(view, named, LanNo(number)) {
             return Some(reason);

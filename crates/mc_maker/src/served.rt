@@ -14,16 +14,15 @@ fn serves(view: &FlowView<'_>, by_lan: &PerLan<Reached>, lan: LanNo) -> bool
     requires { lan < length view.now.domain.topology.lans }
     ensures { result ≡ serves (net_in view.now) by_lan.now lan }
 {
-    if !view.wants(lan) {
-        return true;
-    }
-    match entry_at(by_lan, Some(lan)) {
+    let reaches = match entry_at(by_lan, Some(lan)) {
         Some(entry) => entry.need <= view.ttl(),
         None => false,
-    }
+    };
+    !view.wants(lan) | reaches
 }
 
-/// Whether each LAN that wants the flow is.
+/// Whether each LAN that wants the flow is. All LANs are asked, without a branch for each, since a
+/// processor doesn't foresee which of them want a flow.
 pub(crate) fn serves_all(view: &FlowView<'_>, by_lan: &PerLan<Reached>) -> bool
     ensures rules { IsFlowIn view.now }
     ensures each { IsTrue result → (lan : ℕ) → lan < length view.now.domain.topology.lans →
@@ -31,10 +30,9 @@ pub(crate) fn serves_all(view: &FlowView<'_>, by_lan: &PerLan<Reached>) -> bool
     ensures some { IsFalse result →
         (lan : ℕ) × (serves (net_in view.now) by_lan.now lan ≡ false) }
 {
+    let mut all = true;
     for number in 0..view.lans() {
-        if !serves(view, by_lan, LanNo(number)) {
-            return false;
-        }
+        all &= serves(view, by_lan, LanNo(number));
     }
-    true
+    all
 }

@@ -90,15 +90,17 @@ fn take_away(waiting: &mut VecDeque<WaitingCopy>, index: usize)
 }
 
 impl Copies {
-    /// No copy yet.
-    pub(crate) fn new(alloc: Global) -> Copies
-        ensures { result ≡ record { carried = []; waiting = []; strays = [] } }
+    /// No copy yet, with room for one on each of so many LANs, and for one at each of so many
+    /// routers that waits. Few packets of a right flow need more.
+    pub(crate) fn new(alloc: Global, lans: u32, routers: u32) -> Result<Copies, Memory>
+        ensures { IfOk result (λ copies.
+            copies ≡ record { carried = []; waiting = []; strays = [] }) }
     {
-        Copies {
-            carried: Vec::new(alloc),
-            waiting: VecDeque::new(alloc),
+        Ok(Copies {
+            carried: Vec::with_capacity(alloc, lans as usize)?,
+            waiting: VecDeque::with_capacity(alloc, routers as usize)?,
             strays: Vec::new(alloc),
-        }
+        })
     }
 
     pub(crate) fn carried(&self) -> &[Carried]

@@ -71,7 +71,7 @@ impl<'d> Flight<'d> {
         }) }
     {
         let view = FlowView::new(domain, flow);
-        let mut copies = Copies::new(alloc);
+        let mut copies = Copies::new(alloc, view.lans(), view.routers())?;
         let first = Carried {
             lan: view.source(),
             ttl,

@@ -117,11 +117,15 @@ pub(crate) fn entries_by_lan(
     Ok(by_lan)
 }
 
-/// The entries, by ascending numbers of their LANs.
-pub(crate) fn listed(alloc: Global, by_lan: &PerLan<Reached>) -> Result<Vec<Reached>, Memory>
+/// The entries, by ascending numbers of their LANs. Room is made for so many at once.
+pub(crate) fn listed(
+    alloc: Global,
+    by_lan: &PerLan<Reached>,
+    count: usize,
+) -> Result<Vec<Reached>, Memory>
     ensures { IfOk result (λ entries. entries.items ≡ held_entries by_lan.now) }
 {
-    let mut entries = Vec::new(alloc);
+    let mut entries = Vec::with_capacity(alloc, count)?;
     for place in by_lan.places() {
         if let Some(entry) = place {
             entries.push(*entry)?;

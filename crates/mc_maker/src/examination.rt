@@ -59,7 +59,7 @@ fn certificate_of(
     if !serves_all(view, &by_lan) {
         return Ok(None);
     }
-    let entries = listed(alloc, &by_lan)?;
+    let entries = listed(alloc, &by_lan, copies.len())?;
     Ok(Some(entries))
 }
 

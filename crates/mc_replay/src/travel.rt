@@ -105,7 +105,7 @@ pub fn replay_to_end<'d, P: Picker>(
     let view = FlowView::new(domain, flow);
     let mut firsts = PerLan::new(alloc, view.lans())?;
     let mut flight = Flight::start(alloc, domain, flow, ttl)?;
-    let mut events = Vec::new(alloc);
+    let mut events = Vec::with_capacity(alloc, view.routers() as usize)?;
     let finding = travel_on(&view, &mut flight, &mut firsts, &mut events, picker)?;
     let travel = Travel { events, finding };
     Ok(Ended { travel, flight })

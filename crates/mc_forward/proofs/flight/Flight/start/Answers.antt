@@ -16,10 +16,10 @@ invariant_of-result c =
     record {
       flow = c.new-view.ensures.rules;
       routers = subst (AtRouters routers) (sym c.in_ok-put.ensures.ok)
-          (at-put (net_in n) net first c.new-copies.result
-          (at-none routers c.new-copies.result c.new-copies.ensures));
+          (at-put (net_in n) net first c.in_ok-copies.copies
+          (at-none routers c.in_ok-copies.copies c.in_ok-copies.ensures));
       listed = subst (AreListed lans routers) (sym c.in_ok-put.ensures.ok)
-          (listed-put (net_in n) lans routers first c.new-copies.result
+          (listed-put (net_in n) lans routers first c.in_ok-copies.copies
           (record { lan = c.source.ensures.listed; sender = tt })
-          (listed-none lans routers c.new-copies.result c.new-copies.ensures));
+          (listed-none lans routers c.in_ok-copies.copies c.in_ok-copies.ensures));
     }

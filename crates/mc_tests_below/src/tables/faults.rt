@@ -1,6 +1,6 @@
 //! Texts past the greatest file, faults that no text brings, and vectors that are given back.
 
-use mc_tables::{CacheTable, Oif, Oifs, TableFault, TableFaultKind, VifTable};
+use mc_tables::{CacheTable, TableFault, TableFaultKind, VifTable};
 use mc_text::Order;
 use std::alloc::{AllocError, Global};
 use std::process::Abort;
@@ -36,17 +36,5 @@ fn wants_of_memory_have_no_line(rt: HostRuntime) -> Result<(), Fail> {
     let refused = Vec::<u8>::with_capacity(rt.alloc(), usize::MAX).err();
     let fault = refused.map(TableFault::from).ok_or("a refusal")?;
     check_memory(&rt, rt.alloc(), fault)?;
-    Ok(())
-}
-
-#[test]
-fn gives_vectors_back(rt: HostRuntime) -> Result<(), Fail> {
-    let oif = Oif {
-        vif: 2,
-        threshold: 9,
-    };
-    let oifs = Oifs::from_vec(vec![in rt.alloc(); oif]?);
-    assert_eq!(rt; oifs.as_slice(), [oif].as_slice());
-    assert_eq!(rt; oifs.into_vec().as_slice(), [oif].as_slice());
     Ok(())
 }

@@ -149,7 +149,7 @@ pub(super) fn has_entry(
 ) -> bool {
     let source = Addr::from_octets([10, 0, 0, last]);
     match table.exact(source, Addr::from_octets(group)) {
-        Some(entry) => entry.iif == iif && entry.oifs.as_slice() == oifs,
+        Some(entry) => entry.iif == iif && entry.oifs == oifs,
         None => false,
     }
 }

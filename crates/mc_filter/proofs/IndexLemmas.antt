@@ -1,10 +1,10 @@
 -- Numbers and the guesses of their places.
-use Rattle.std.proofs.Common.{◌≡◌, ℕ, ◌+◌, ◌<◌, true, false, eqb, List, length, get_or, set, Option}
-use Rattle.std.proofs.Common.{None, Some, refl, sym, ◌∙◌, inl, inr, arith}
+use Rattle.std.proofs.Common.{◌≡◌, ℕ, ◌<◌, true, false, eqb, List, length, get_or, Option}
+use Rattle.std.proofs.Common.{None, sym, ◌∙◌, inl, inr, arith}
 use Rattle.std.specs.Prelude.{is_some}
 use Rattle.std.proofs.lemmas.Bool.{cases_eq}
 use Rattle.std.proofs.lemmas.Bool.Decides.{nat_tests}
-use Rattle.std.proofs.lemmas.List.{get_or-set_same, get_or-set_other, length-set, get_or_default}
+use Rattle.std.proofs.lemmas.List.{get_or_default}
 use Rattle.std.proofs.lemmas.List.Folds.{list_any_none}
 use Rattle.mc_filter.specs.SourceFilter.{has}
 use Rattle.mc_filter.specs.Slots.{HaveGuesses, slot_in}
@@ -24,24 +24,6 @@ unguessed numbers guesses number guessed none =
 abbrev pub FirstHaveGuesses : ℕ → List ℕ → List (Option ℕ) → Type 0
 FirstHaveGuesses count numbers guesses = (i : ℕ) → i < count →
     is_some (get_or guesses (slot_in (length guesses) (get_or numbers i 0)) None) ≡ true
-
--- one more number has a guess
-pub one_guess_more : (numbers : List ℕ) (guesses : List (Option ℕ)) (place slot guess : ℕ)
-    → slot < length guesses → slot ≡ slot_in (length guesses) (get_or numbers place 0)
-    → FirstHaveGuesses place numbers guesses
-    → FirstHaveGuesses (place + 1) numbers (set guesses slot (Some guess))
-one_guess_more numbers guesses place slot guess within is before i below =
-    let same = length-set guesses slot (Some guess) in
-    rw same (elim (cases_eq (slot_in (length guesses) (get_or numbers i 0)) slot) [
-      | inl here ↦ rw (here, get_or-set_same guesses slot (Some guess) None within) refl
-      | inr there ↦
-          rw (get_or-set_other guesses slot (slot_in (length guesses) (get_or numbers i 0))
-          (Some guess) None there)
-          (elim (cases_eq i place) [
-            | inl last ↦ absurd (there (rw last (let e = is in cc)))
-            | inr earlier ↦ before i (grind (arith, below, earlier))
-          ])
-    ])
 
 -- a slot that was read as empty is empty
 pub default_none : (guesses : List (Option ℕ)) (slot : ℕ) (read : Option ℕ)

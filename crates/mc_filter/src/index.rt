@@ -20,6 +20,9 @@ const SLOTS_EACH: usize = 32;
 /// How many slots there are at most: as many as 16 bits tell apart.
 const MAX_SLOTS: usize = 65_536;
 
+/// The place of a number of a slot, if there is such a number.
+type Guess = Option<u16>;
+
 /// The slot of a number, of so many.
 fn slot_of(number: u64, slots: usize) -> usize
     requires { 0 < slots }
@@ -40,7 +43,7 @@ fn slots_for(count: usize) -> usize
 }
 
 /// Slots without a guess.
-fn no_guesses(alloc: Global, slots: usize) -> Result<Vec<Option<u16>>, Memory>
+fn no_guesses(alloc: Global, slots: usize) -> Result<Vec<Guess>, Memory>
     ensures { IfOk result (λ guesses. vec_len guesses ≡ slots) }
 {
     let mut guesses = Vec::new(alloc);
@@ -49,7 +52,7 @@ fn no_guesses(alloc: Global, slots: usize) -> Result<Vec<Option<u16>>, Memory>
 }
 
 /// A guess of each number's place, in its slot. Of two numbers of one slot the later is guessed.
-fn guesses_of(alloc: Global, numbers: &[u64]) -> Result<Vec<Option<u16>>, Memory>
+fn guesses_of(alloc: Global, numbers: &[u64]) -> Result<Vec<Guess>, Memory>
     ensures some { IfOk result (λ guesses. 0 < length guesses.items) }
     ensures each { IfOk result (λ guesses. HaveGuesses numbers.now guesses.items) }
 {
@@ -69,7 +72,7 @@ fn guesses_of(alloc: Global, numbers: &[u64]) -> Result<Vec<Option<u16>>, Memory
 pub(crate) struct Index {
     numbers: Vec<u64>,
     /// In each slot the place of a number of the slot, if there is such a number.
-    guesses: Vec<Option<u16>>,
+    guesses: Vec<Guess>,
 }
 
 impl Model for Index {

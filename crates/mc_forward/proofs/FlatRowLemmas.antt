@@ -1,8 +1,6 @@
 -- Rows whose outgoing vifs stand one after another, and one row more behind them.
-use Rattle.std.proofs.Common.{◌≡◌, ℕ, zero, suc, ◌≤◌, List, [], ◌∷◌, ◌++◌, length, take}
-use Rattle.std.proofs.Common.{drop, refl, ap, sym, subst, Some, ◌∙◌, arith}
-use Rattle.std.specs.Prelude.{slice_get}
-use Rattle.std.specs.Option.{option_map}
+use Rattle.std.proofs.Common.{◌≡◌, ℕ, ◌≤◌, List, [], ◌∷◌, ◌++◌, length, take}
+use Rattle.std.proofs.Common.{drop, refl, ap, sym, subst, ◌∙◌, arith}
 use Rattle.std.specs.List.{AllByRecursion}
 use Rattle.std.proofs.lemmas.List.{take-append-le, drop-append-le, length_push, map-append}
 use Rattle.std.proofs.lemmas.List.{take_all, length-drop, length-append}
@@ -126,25 +124,3 @@ flat-grown heads heads' oifs oifs' r flat stands grown =
     subst (λ hs. AreFlat hs oifs') (sym grown.heads_are)
     (subst (λ os. AreFlat (heads ++ head_behind oifs r ∷ []) os) (sym grown.oifs_are)
     (flat_pushed heads oifs r flat stands))
-
--- the head's row is the one with its number
-pub row_found : (heads : List RowHead) (oifs : List Oif) (number : ℕ) (h : RowHead)
-    → slice_get heads number ≡ Some h → slice_get (rows_by heads oifs) number
-    ≡ Some (row_by_head oifs h)
-row_found [] oifs number h e = absurd cc
-row_found (x ∷ heads) oifs zero h e = ap (λ o. option_map (row_by_head oifs) o) e
-row_found (x ∷ heads) oifs (suc number) h e = row_found heads oifs number h e
-
--- a number is of a row where it is of a head
-pub length_rows : (heads : List RowHead) (oifs : List Oif)
-    → length (rows_by heads oifs) ≡ length heads
-length_rows [] oifs = refl
-length_rows (h ∷ heads) oifs = let e = length_rows heads oifs in omega (arith, e)
-
--- and its outgoing vifs are among those of all
-pub within_found : (heads : List RowHead) (n number : ℕ) (h : RowHead)
-    → slice_get heads number ≡ Some h → AllByRecursion (IsWithin n) heads → IsWithin n h
-within_found [] n number h e within = absurd cc
-within_found (x ∷ heads) n zero h e within =
-    (let same : x ≡ h = cc in subst (IsWithin n) same within.0)
-within_found (x ∷ heads) n (suc number) h e within = within_found heads n number h e within.1

@@ -78,18 +78,6 @@ rows-taken cache flows i f r at same =
 abbrev is_wild : CacheText → Flow → Bool
 is_wild cache f = set.contains cache.wildcards f.group || set.contains cache.wildcards 0
 
--- the entry with the flow's number is the flow's
-entry-of_number : (cache : CacheText) (f : Flow) (number : ℕ) (entry : EntryText)
-    → IsRowNo cache f (Exact number) → slice_get cache.numbered number ≡ Some entry
-    → finite.get cache.entries (f.source, f.group) ≡ Some entry
-entry-of_number cache f number entry is at = is.found ∙ sym is.numbered ∙ at
-
-pub entry-row : (cache : CacheText) (f : Flow) (number : ℕ) (entry : EntryText)
-    → IsRowNo cache f (Exact number) → slice_get cache.numbered number ≡ Some entry
-    → exact entry.iif (pairs_of entry.oifs) ≡ row_in cache f
-entry-row cache f number entry is at =
-    ap (row_by (is_wild cache f)) (sym (entry-of_number cache f number entry is at))
-
 -- ---- the rows of a domain
 
 -- the rows of a router are what its cache has for the flows

@@ -6,7 +6,7 @@ ghost use Rattle.mc_forward.specs.Domains.{IsDomain, net_of, placed_of, row_of, 
 ghost use Rattle.mc_forward.specs.DomainParts.{domain_with, IsWorkedOut};
 ghost use Rattle.mc_forward.specs.Rows.{row_seen, EntryStands};
 
-use crate::flow_rows::FlowRows;
+use crate::flow_rows::RouterRows;
 use crate::interfaces::Interfaces;
 use crate::items::Items;
 use crate::places::Places;
@@ -25,7 +25,7 @@ pub(crate) struct WorkedOut {
     /// For each LAN, the vifs that are placed on it, with the router of each.
     pub(crate) interfaces: Vec<Items<(RouterNo, u8)>>,
     /// For each router, the row of each flow.
-    pub(crate) rows: Vec<FlowRows>,
+    pub(crate) rows: Vec<RouterRows>,
 }
 
 /// A topology with the kernel tables of each router, and which LAN wants which flow.

@@ -39,13 +39,13 @@ pub(crate) enum RowHead {
 
 /// A router's rows for the flows, in their order. Its value in contracts is the list of the rows.
 #[derive(Drop)]
-pub(crate) struct FlowRows {
+pub(crate) struct RouterRows {
     heads: Vec<RowHead>,
     // those of all rows, one after another
     oifs: Vec<Oif>,
 }
 
-impl Model for FlowRows {
+impl Model for RouterRows {
     ghost use Rattle.std.specs.Prelude.{List};
     ghost use Rattle.mc_theory.specs.Nets.{Row};
 
@@ -58,7 +58,7 @@ impl Model for FlowRows {
     ghost invariant = { λ rows. AreFlat rows.heads.items rows.oifs.items };
 }
 
-impl FlowRows {
+impl RouterRows {
     /// The row of the flow with this number.
     pub(crate) fn row(&self, flow: u32) -> RowFor<'_>
         requires { flow < length self.now }
@@ -128,17 +128,24 @@ fn row_for(cache: &CacheTable, number: RowNo) -> RowFor<'_>
     }
 }
 
-/// A router's rows for the flows.
-fn flow_rows_of(alloc: Global, topology: &Topology, tables: &Tables) -> Result<FlowRows, Memory>
-    ensures { IfOk result (λ rows. rows ≡ map (row_in tables.now.cache) topology.now.flows) }
+/// A router's rows for the flows, of which other routers had those of entries at these places.
+fn flow_rows_of(
+    alloc: Global,
+    topology: &Topology,
+    tables: &Tables,
+    places: &mut Vec<usize>,
+) -> Result<RouterRows, Memory>
+    requires { length places.old.items ≡ length topology.now.flows }
+    ensures rows { IfOk result (λ rows. rows ≡ map (row_in tables.now.cache) topology.now.flows) }
+    ensures places { OnOk result (length places.new.items ≡ length topology.now.flows) }
 {
-    let numbers = rows_of_router(alloc, topology, tables)?;
+    let numbers = rows_of_router(alloc, topology, tables, places)?;
     let mut heads = Vec::with_capacity(alloc, topology.flows() as usize)?;
     let mut oifs = Vec::new(alloc);
     for number in &numbers.items {
         push_row(&mut heads, &mut oifs, &row_for(&tables.cache, *number))?;
     }
-    Ok(FlowRows { heads, oifs })
+    Ok(RouterRows { heads, oifs })
 }
 
 /// Each router's rows for the flows.
@@ -146,12 +153,13 @@ pub(crate) fn rows_of_routers(
     alloc: Global,
     topology: &Topology,
     tables: &[Tables],
-) -> Result<Vec<FlowRows>, Memory>
+) -> Result<Vec<RouterRows>, Memory>
     ensures { IfOk result (λ rows. rows.items ≡ rows_by_tables topology.now.flows tables.now) }
 {
+    let mut places = vec![in alloc; 0; topology.flows() as usize]?;
     let mut rows = Vec::with_capacity(alloc, tables.len())?;
     for own in tables {
-        rows.push(flow_rows_of(alloc, topology, own)?)?;
+        rows.push(flow_rows_of(alloc, topology, own, &mut places)?)?;
     }
     Ok(rows)
 }

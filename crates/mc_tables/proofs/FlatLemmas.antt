@@ -1,8 +1,6 @@
 -- Entries whose outgoing vifs stand one after another, and one entry more behind them.
-use Rattle.std.proofs.Common.{◌≡◌, ℕ, ◌+◌, ◌*◌, ◌≤◌, List, [], ◌∷◌, ◌++◌, length, take, drop, refl, ap}
-use Rattle.std.proofs.Common.{zero, suc, Some, ◌∙◌, arith}
-use Rattle.std.specs.Prelude.{map, slice_get}
-use Rattle.std.specs.Option.{option_map}
+use Rattle.std.proofs.Common.{◌≡◌, ℕ, ◌+◌, ◌≤◌, List, [], ◌∷◌, ◌++◌, length, take, drop, refl, ap}
+use Rattle.std.proofs.Common.{◌∙◌, arith}
 use Rattle.std.specs.List.{AllByRecursion}
 use Rattle.std.proofs.lemmas.List.{take-append-le, drop-append-le, length_push, map-append}
 use Rattle.std.proofs.lemmas.List.{take_all, length-drop, length-append}
@@ -72,11 +70,3 @@ pub length_entries : (heads : List EntryHead) (oifs : List Oif)
     → length (entries_of heads oifs) ≡ length heads
 length_entries [] oifs = refl
 length_entries (h ∷ heads) oifs = let e = length_entries heads oifs in omega (arith, e)
-
--- the head's entry is the one with its number
-pub entry_found : (heads : List EntryHead) (oifs : List Oif) (number : ℕ) (h : EntryHead)
-    → slice_get heads number ≡ Some h → slice_get (entries_of heads oifs) number
-    ≡ Some (entry_of oifs h)
-entry_found [] oifs number h e = absurd cc
-entry_found (x ∷ heads) oifs zero h e = ap (λ o. option_map (entry_of oifs) o) e
-entry_found (x ∷ heads) oifs (suc number) h e = entry_found heads oifs number h e

@@ -2,7 +2,7 @@
 use Rattle.std.proofs.Common.{◌≡◌, ℕ, zero, suc, ◌+◌, ◌<◌, Bool, true, false, cond, List, [], ◌∷◌}
 use Rattle.std.proofs.Common.{◌++◌, length, get_or, Option, Some, None, Result, Ok, Err, refl, sym}
 use Rattle.std.proofs.Common.{add-one, ap, subst, ◌∙◌, inl, inr, arith}
-use Rattle.std.specs.Prelude.{◌≢◌, ◌-◌, ◌==◌, ◌&&◌, ◌||◌, IfErr, IfNone, OnErr, is_some, nat_lt, replicate, slice_set}
+use Rattle.std.specs.Prelude.{◌≢◌, ◌==◌, ◌&&◌, ◌||◌, IfErr, IfNone, OnErr, is_some, nat_lt, replicate, slice_set}
 use Rattle.std.specs.Result.{result_ok}
 use Rattle.std.specs.FinSet as set
 use Rattle.std.specs.List.{AllByRecursion, IsDistinct, dedup, dedup_from, list_any}
@@ -169,11 +169,6 @@ if_none P (Ok i) o is none = rw is tt
 if_none P (Err i) o is none = rw is none
 
 -- ---- what is kept of a pair
-
--- what a place says is one more than the number
-pub one_less : (n : ℕ) → n ≢ 0 → Some (n - 1) ≡ number_of_next n
-one_less zero some = absurd (some refl)
-one_less (suc n) some = ap (λ m. Some m) (omega arith)
 
 pub is_there : (n : ℕ) → n ≢ 0 → is_some (number_of_next n) ≡ true
 is_there zero some = absurd (some refl)

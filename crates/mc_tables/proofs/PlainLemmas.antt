@@ -2,7 +2,7 @@
 use Rattle.std.proofs.Common.{◌≡◌, ℕ, zero, suc, ◌+◌, ◌-◌, ◌<◌, ◌≤◌, true, false, List, [], ◌∷◌, ◌++◌, length, take}
 use Rattle.std.proofs.Common.{drop, get_or, Option, Some, None, Ok, refl, sym, ap, subst, ◌∙◌, arith}
 use Rattle.std.specs.Prelude.{◌==◌, ◌&&◌, Bool, nat_le, nat_lt, not, position, filter, unwrap_or, IfSome}
-use Rattle.std.specs.List.{All, list_all, slice_split}
+use Rattle.std.specs.List.{list_all, slice_split}
 use Rattle.std.specs.Char.{is_ascii_digit}
 use Rattle.std.proofs.lemmas.Bool.{ne_eqb, not-true, not-false, not_from_false, and_parts, and_from}
 use Rattle.std.proofs.lemmas.Bool.{leb-true, le-leb, ltb-true, lt-ltb}
@@ -13,7 +13,7 @@ use Rattle.std.proofs.lemmas.List.{length-drop, take_all, length-take-le, take-a
 use Rattle.std.proofs.lemmas.List.{get_or-take}
 use Rattle.std.proofs.lemmas.List.Folds.{list_all-append}
 use Rattle.std.proofs.lemmas.List.Elements.{All-from_get_or}
-use Rattle.mc_text.specs.Hex.{is_hex_digit, decode_of}
+use Rattle.mc_text.specs.Hex.{is_hex_digit}
 use Rattle.mc_text.specs.Lines.{words_of}
 use Rattle.mc_text.specs.declared.text.addr.Order.{Order}
 use Rattle.mc_text.specs.AddressWord.{printed_octets}

@@ -1,4 +1,4 @@
-use Rattle.std.proofs.Common.{ℕ, ◌∙◌, ap, length, arith}
+use Rattle.std.proofs.Common.{◌∙◌, ap, arith}
 use Rattle.std.proofs.lemmas.List.{length-set}
 use Rattle.mc_tables.specs.CacheNumbers.{slot_of}
 use Rattle.mc_tables.proofs.SlotLemmas.{all_marked, one_marked}

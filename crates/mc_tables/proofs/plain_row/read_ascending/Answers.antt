@@ -1,4 +1,4 @@
-use Rattle.std.proofs.Common.{ℕ, List, ◌∙◌, sym, ap, arith}
+use Rattle.std.proofs.Common.{◌∙◌, sym, ap, arith}
 use Rattle.mc_text.specs.Lines.{words_of}
 use Rattle.mc_tables.specs.OutgoingSteps.{oifs_after}
 use Rattle.mc_tables.proofs.PlainLemmas.{one_ascends}

@@ -1,4 +1,4 @@
-use Rattle.std.proofs.Common.{ℕ, ◌≡◌, length, true}
+use Rattle.std.proofs.Common.{◌≡◌, length, true}
 use Rattle.std.specs.Prelude.{nat_lt}
 use Rattle.std.specs.List.{list_all}
 use Rattle.mc_text.specs.Lines.{words_of}

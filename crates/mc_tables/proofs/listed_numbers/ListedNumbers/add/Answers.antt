@@ -1,11 +1,10 @@
-use Rattle.std.proofs.Common.{◌≡◌, ◌<◌, ℕ, List, Some, cond, false, get_or, ap, length, sym, subst, ◌∙◌, refl, arith}
-use Rattle.std.specs.List.{list_any}
+use Rattle.std.proofs.Common.{◌≡◌, ◌<◌, Some, cond, get_or, ap, length, sym, ◌∙◌, arith}
 use Rattle.std.specs.Prelude.{is_some}
 use Rattle.std.specs.BTreeMap.{is_at}
 use Rattle.std.proofs.lemmas.List.{get_or_default}
 use Rattle.std.proofs.lemmas.Map.Keys.{IsDistinct-from_sorted}
 use Rattle.mc_tables.specs.CacheNumbers.{KeysText, number_in, number_of_next}
-use Rattle.mc_tables.specs.CacheTable.{key_cmp, same_key}
+use Rattle.mc_tables.specs.CacheTable.{key_cmp}
 use Rattle.mc_tables.specs.ListedRows.{is_in}
 use Rattle.mc_tables.proofs.NumberLemmas.{grown, if_refused, is_there, kept_as, listed_here, number_here}
 use Rattle.mc_tables.proofs.NumberLemmas.{one_more, unlisted}

@@ -1,8 +1,6 @@
-use Rattle.std.proofs.Common.{◌≡◌, ℕ, List, get_or, length, ◌<◌, ap, subst, sym, ◌∙◌, arith, false}
+use Rattle.std.proofs.Common.{◌≡◌, ℕ, List, get_or, ap, subst, sym, ◌∙◌, false}
 use Rattle.std.specs.List.{list_any}
-use Rattle.mc_tables.specs.CacheNumbers.{slot_of}
 use Rattle.mc_tables.specs.CacheTable.{same_key}
-use Rattle.mc_tables.proofs.NumberLemmas.{said_at}
 use Rattle.mc_tables.proofs.SlotLemmas.{empty_slot}
 use Rattle.mc_tables.proofs.listed_pairs.ListedPairs.place_of.Goals as goal
 

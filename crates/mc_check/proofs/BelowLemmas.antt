@@ -1,8 +1,7 @@
 -- The first reason over the numbers below n, as a loop comes to it.
 use Rattle.std.proofs.Common.{◌≡◌, ℕ, zero, suc, ◌+◌, ◌-◌, ◌<◌, List, [], ◌∷◌, ◌++◌, Option, Some}
 use Rattle.std.specs.Prelude.{IsTrue}
-use Rattle.std.proofs.Common.{Bool, true, false, ◌&&◌}
-use Rattle.std.proofs.Common.{None, refl, ap, ◌∙◌, subst, arith, add-one}
+use Rattle.std.proofs.Common.{Bool, true, false, ◌&&◌, None, refl, ap, ◌∙◌, subst, arith, add-one}
 use Rattle.mc_theory.specs.Lists.{below}
 use Rattle.mc_theory.specs.Reasons.{Reason, ◌then◌, first_of}
 

@@ -1,15 +1,13 @@
 -- Channels and their places, and what is answered of them.
 use Rattle.std.proofs.Common.{◌≡◌, ℕ, zero, suc, ◌+◌, ◌<◌, ◌%◌, Bool, true, false, not, ◌||◌, eqb}
 use Rattle.std.proofs.Common.{List, [], ◌∷◌, ◌++◌, length, get_or, map, slice_get, Some, refl, sym}
-use Rattle.std.proofs.Common.{ap, subst, ◌∙◌, arith}
+use Rattle.std.proofs.Common.{ap, subst, ◌∙◌, arith, inl, inr, length-append, take}
 use Rattle.std.specs.Prelude.{◌↔◌, IfOk, IsTrue, Result, Ok, Err}
 use Rattle.std.proofs.Math.Bool.{or-true}
 use Rattle.std.proofs.lemmas.Bool.{cases_eq, eq-eqb}
 use Rattle.std.proofs.lemmas.Grind.{elements}
-use Rattle.std.proofs.Common.{inl, inr, length-append}
 use Rattle.std.proofs.Math.Nat.{mod-lt}
 use Rattle.std.specs.Bool.{Decides}
-use Rattle.std.proofs.Common.{take}
 use Rattle.mc_filter.specs.Gathering.{wanted}
 use Rattle.std.proofs.lemmas.List.{get_or-map, map-append, take_more, get_or_default}
 use Rattle.std.proofs.lemmas.Option.{slice_get_within, get_or_from_slice_get}

@@ -13,8 +13,7 @@ use Rattle.mc_igmp.specs.declared.record.Kind.TheVariants as kind
 use Rattle.mc_igmp.specs.Wants.{Admits, Wants}
 use Rattle.mc_filter.specs.declared.filter.Mode.{Mode}
 use Rattle.mc_filter.specs.declared.filter.Mode.TheVariants.{Include, Exclude}
-use Rattle.mc_filter.specs.SourceFilter.{has}
-use Rattle.mc_filter.specs.SourceFilter.{SourceFilter, FilterAdmits, admits_by}
+use Rattle.mc_filter.specs.SourceFilter.{has, SourceFilter, FilterAdmits, admits_by}
 use Rattle.mc_filter.specs.Gathering.{is_exclude_mode, wanted_by, excludes_by, wanted, excluding}
 use Rattle.mc_filter.specs.Merged.{IsFor, HasExclude, InSomeInclude, InEachExclude, IsMergedIn}
 use Rattle.mc_filter.specs.Merged.{IsMergedValue}

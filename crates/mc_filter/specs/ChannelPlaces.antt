@@ -1,6 +1,5 @@
 -- Where channels are kept. Only the contracts of private functions speak of it.
-use Rattle.std.specs.Prelude.{◌≡◌, ◌↔◌, ℕ, ◌<◌, ◌%◌, Bool, false, IsTrue}
-use Rattle.std.specs.Prelude.{List, length, get_or}
+use Rattle.std.specs.Prelude.{◌≡◌, ◌↔◌, ℕ, ◌<◌, ◌%◌, Bool, false, IsTrue, List, length, get_or}
 use Rattle.mc_igmp.specs.declared.record.Record.{Record}
 use Rattle.mc_igmp.specs.Wants.{Wants}
 use Rattle.mc_filter.specs.declared.channels.Place.{Place}

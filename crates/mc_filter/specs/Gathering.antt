@@ -7,8 +7,7 @@ use Rattle.mc_igmp.specs.declared.record.Kind.TheVariants as kind
 use Rattle.mc_filter.specs.declared.filter.Mode.{Mode}
 use Rattle.mc_filter.specs.declared.filter.Mode.TheVariants.{Include, Exclude}
 use Rattle.mc_filter.specs.declared.gathered.Gathered.{Gathered}
-use Rattle.mc_filter.specs.SourceFilter.{has}
-use Rattle.mc_filter.specs.SourceFilter.{admits}
+use Rattle.mc_filter.specs.SourceFilter.{has, admits}
 
 -- what a record of a kind admits, by whether its list has the source
 abbrev pub kind_admits : Kind → Bool → Bool

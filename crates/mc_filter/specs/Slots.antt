@@ -1,7 +1,6 @@
 -- Where a number is looked for first. Only the contracts of private functions speak of it.
 use Rattle.std.specs.Prelude.{◌≡◌, true, is_some, ℕ, ◌<◌, ◌-◌, ◌*◌, ◌/◌, ◌%◌, List, length}
-use Rattle.std.specs.Prelude.{get_or, bit_and}
-use Rattle.std.specs.Prelude.{Option, None}
+use Rattle.std.specs.Prelude.{get_or, bit_and, Option, None}
 use Rattle.std.specs.List.Sorted.{IsStrictlyIncreasing}
 
 -- the slot of a number among so many, a power of two: of the upper 16 bits of its product with a

@@ -11,9 +11,8 @@ use Rattle.std.specs.List.Sorted.{IsStrictlyIncreasing}
 use Rattle.std.proofs.lemmas.List.{length-map}
 use Rattle.std.proofs.lemmas.Option.{slice_get_within, slice_get_read, slice_get_past}
 use Rattle.mc_tables.proofs.EntryLemmas.{tail-ascends}
-use Rattle.mc_tables.specs.CacheTable.{EntryText}
+use Rattle.mc_tables.specs.CacheTable.{EntryText, IsEntry}
 use Rattle.mc_tables.specs.declared.entry.Oif.{Oif}
-use Rattle.mc_tables.specs.CacheTable.{IsEntry}
 use Rattle.mc_tables.specs.VifTable.{VifText, no_device}
 use Rattle.mc_topology.specs.declared.flow.Flow.{Flow}
 use Rattle.mc_topology.specs.Topology.{TopologyValue, lan_of_interface}

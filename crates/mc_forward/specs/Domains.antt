@@ -8,10 +8,9 @@ use Rattle.std.specs.Str.{bytes_eq}
 use Rattle.std.specs.FinMap as finite
 use Rattle.std.specs.FinSet as set
 use Rattle.mc_tables.specs.declared.entry.Oif.{Oif}
-use Rattle.mc_tables.specs.CacheTable.{EntryText}
+use Rattle.mc_tables.specs.CacheTable.{EntryText, CacheText, IsCache}
 use Rattle.mc_tables.specs.VifTable.{VifText, no_device}
 use Rattle.mc_tables.specs.VifLookups.{IsVifTable}
-use Rattle.mc_tables.specs.CacheTable.{CacheText, IsCache}
 use Rattle.mc_topology.specs.declared.flow.Flow.{Flow}
 use Rattle.mc_topology.specs.Topology.{TopologyValue, IsTopology, lan_of_interface}
 use Rattle.mc_theory.specs.Nets.{Net, Row}

@@ -1,8 +1,7 @@
 -- The rows of a router, an entry by its number among those of its table.
 use Rattle.std.specs.Prelude.{◌≡◌, ℕ, ◌<◌, List, length, Some, slice_get, ⊤}
 use Rattle.std.specs.FinMap as finite
-use Rattle.mc_tables.specs.CacheTable.{EntryText}
-use Rattle.mc_tables.specs.CacheTable.{CacheText}
+use Rattle.mc_tables.specs.CacheTable.{EntryText, CacheText}
 use Rattle.mc_topology.specs.declared.flow.Flow.{Flow}
 use Rattle.mc_theory.specs.Nets.Row.{Open as open_row, NoRow as no_row}
 use Rattle.mc_forward.specs.declared.row.RowNo.{RowNo}

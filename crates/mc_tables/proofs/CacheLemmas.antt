@@ -14,8 +14,7 @@ use Rattle.std.proofs.lemmas.List.{length-append}
 use Rattle.std.proofs.lemmas.List.Elements.{filter_map-append}
 use Rattle.std.proofs.lemmas.Slice.Eq.{bytes_eq-Decides}
 use Rattle.mc_text.specs.declared.text.addr.Order.{Order}
-use Rattle.mc_text.specs.Lines.{LineText}
-use Rattle.mc_text.specs.Lines.{words_of}
+use Rattle.mc_text.specs.Lines.{LineText, words_of}
 use Rattle.mc_tables.specs.CacheTable.{EntryText}
 use Rattle.mc_tables.specs.declared.fault.TableFault.{TableFault}
 use Rattle.mc_tables.specs.declared.fault.TableFaultKind.TheVariants.{Unended, BadCounter}

@@ -6,8 +6,7 @@ use Rattle.std.specs.Option.{option_map}
 use Rattle.std.specs.List.{filter_map, cons_option, list_any}
 use Rattle.std.specs.FinMap as map
 use Rattle.std.proofs.lemmas.Bool.{cases_Bool, lt-ltb, eqb-false}
-use Rattle.mc_tables.specs.CacheTable.{EntryText}
-use Rattle.mc_tables.specs.CacheTable.{RowText, key_cmp, same_key, exact_entry, key_of}
+use Rattle.mc_tables.specs.CacheTable.{EntryText, RowText, key_cmp, same_key, exact_entry, key_of}
 
 -- the entry, if it is this key's
 abbrev entry_of_key : ℕ × ℕ → Option ((ℕ × ℕ) × EntryText) → Option EntryText

@@ -14,8 +14,7 @@ use Rattle.std.proofs.lemmas.Bool.{cases_Bool}
 use Rattle.std.proofs.lemmas.List.{length_push}
 use Rattle.std.specs.BTreeMap.{is_at}
 use Rattle.std.specs.Map.{lookup}
-use Rattle.mc_tables.specs.CacheTable.{EntryText}
-use Rattle.mc_tables.specs.CacheTable.{CacheText, key_cmp}
+use Rattle.mc_tables.specs.CacheTable.{EntryText, CacheText, key_cmp}
 use Rattle.mc_tables.specs.CacheNumbers.{entries_by, number_in, AreNumbers, MoreNumbers}
 use Rattle.mc_tables.proofs.CacheLemmas.{key_total, key_laws}
 

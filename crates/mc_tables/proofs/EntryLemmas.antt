@@ -1,7 +1,6 @@
 -- The entries of rows that were read are as a line writes them.
 use Rattle.std.proofs.Common.{◌≡◌, ℕ, suc, ◌+◌, ◌<◌, ◌≤◌, Bool, true, false, cond, T, List, []}
-use Rattle.std.proofs.Common.{◌∷◌, length, Ok}
-use Rattle.std.proofs.Common.{Option, Some, None, refl, sym, subst, ◌∙◌, arith}
+use Rattle.std.proofs.Common.{◌∷◌, length, Ok, Option, Some, None, refl, sym, subst, ◌∙◌, arith}
 use Rattle.std.specs.Prelude.{map, IfSome, ◌==◌, ◌&&◌, slice_index}
 use Rattle.std.specs.List.{AllByRecursion, filter_map, cons_option}
 use Rattle.std.specs.List.Sorted.{IsStrictlyIncreasing, IsStrictlySortedBy}
@@ -14,8 +13,7 @@ use Rattle.std.specs.FinMap.Entries.{below_all, is_sorted, by_order}
 use Rattle.std.proofs.lemmas.Cmp.{nat_cmp_total}
 use Rattle.std.proofs.lemmas.Map.Keys.{IsStrictlyIncreasing-from_sorted}
 use Rattle.mc_text.specs.declared.text.addr.Order.{Order}
-use Rattle.mc_text.specs.Lines.{LineText}
-use Rattle.mc_text.specs.Lines.{words_of}
+use Rattle.mc_text.specs.Lines.{LineText, words_of}
 use Rattle.mc_tables.specs.declared.entry.Oif.{Oif}
 use Rattle.mc_tables.specs.CacheTable.{EntryText}
 use Rattle.mc_tables.specs.TableLines.{EachTells}

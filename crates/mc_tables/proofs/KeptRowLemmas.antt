@@ -1,15 +1,12 @@
 -- The rows of a cache that are kept whole, and the others.
 use Rattle.std.proofs.Common.{◌≡◌, ℕ, Bool, true, false, cond, List, [], ◌∷◌}
-use Rattle.std.proofs.Common.{Option, Some, None, refl, sym, ap}
-use Rattle.std.proofs.Common.{◌∙◌, inl, inr}
+use Rattle.std.proofs.Common.{Option, Some, None, refl, sym, ap, ◌∙◌, inl, inr}
 use Rattle.std.specs.Prelude.{not, filter}
 use Rattle.std.specs.List.{filter_map, cons_option, list_any}
 use Rattle.std.specs.Option.{option_map}
 use Rattle.std.proofs.lemmas.Bool.{cases_Bool}
-use Rattle.mc_tables.specs.CacheTable.{EntryText}
+use Rattle.mc_tables.specs.CacheTable.{EntryText, RowText, same_key, key_of}
 use Rattle.mc_tables.specs.TableLines.{is_among}
-use Rattle.mc_tables.specs.CacheTable.{RowText, same_key}
-use Rattle.mc_tables.specs.CacheTable.{key_of}
 use Rattle.mc_tables.specs.ListedRows.{Listed, is_listed, is_kept_key, is_kept, kept_rows}
 use Rattle.mc_tables.proofs.OtherRowLemmas.{same_is}
 

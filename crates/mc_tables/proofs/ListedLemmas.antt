@@ -14,8 +14,7 @@ use Rattle.std.proofs.lemmas.Bool.Decides.{nat_tests}
 use Rattle.std.proofs.lemmas.Cmp.{eq_by_cmp_equiv}
 use Rattle.std.proofs.lemmas.List.Folds.{list_any_at, list_any_none}
 use Rattle.std.proofs.lemmas.List.Sorted.{list_any-IsPermutation, searchable_from_sorted}
-use Rattle.mc_tables.specs.CacheTable.{key_cmp, same_key, key_of}
-use Rattle.mc_tables.specs.CacheTable.{RowText}
+use Rattle.mc_tables.specs.CacheTable.{key_cmp, same_key, key_of, RowText}
 use Rattle.mc_tables.specs.ListedRows.{Listed, is_listed, is_kept_key, is_kept, listed_set, is_in}
 use Rattle.mc_tables.specs.ListedRows.{is_kept_key_by, is_kept_by}
 use Rattle.mc_tables.proofs.CacheLemmas.{key_total}

@@ -9,10 +9,9 @@ use Rattle.std.specs.FinMap as map
 use Rattle.std.specs.FinSet as set
 use Rattle.std.proofs.lemmas.Bool.{cases_Bool}
 use Rattle.mc_text.specs.declared.text.addr.Order.{Order}
-use Rattle.mc_tables.specs.CacheTable.{EntryText}
+use Rattle.mc_tables.specs.CacheTable.{EntryText, RowText, CacheText, key_cmp, exact_entry}
 use Rattle.mc_tables.specs.declared.fault.TableFault.{TableFault}
 use Rattle.mc_text.specs.Steps.{◌>>=◌}
-use Rattle.mc_tables.specs.CacheTable.{RowText, CacheText, key_cmp, exact_entry}
 use Rattle.mc_tables.specs.CacheTable.{wildcard_of, table_of}
 use Rattle.mc_tables.specs.CacheReading.{cache_rows_in, cache_in}
 use Rattle.mc_tables.specs.ListedRows.{Listed, is_listed, is_kept_key, is_kept, kept_rows, listed_in}

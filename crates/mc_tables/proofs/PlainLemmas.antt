@@ -130,10 +130,12 @@ address_no_space : (order : Order) (word : List ℕ) (a : ℕ) → address_in or
     → (length word ≡ 8) × HasNoSpace word
 address_no_space order word a e =
     let printed = address_found order word a e in
-    let digits = eight_digits word (printed_octets order a) (length-printed_octets order a) printed.1 in
-    (digits.0, passes_no_space is_hex_digit word refl
-    (All-from_get_or (λ c. is_hex_digit c ≡ true) word 0 (λ k within.
-    digit_at word digits.1 k (omega (arith, within, digits.0)))))
+    let digits = eight_digits word (printed_octets order a) (length-printed_octets order a) printed.1 in (
+      digits.0,
+      passes_no_space is_hex_digit word refl
+          (All-from_get_or (λ c. is_hex_digit c ≡ true) word 0 (λ k within.
+          digit_at word digits.1 k (omega (arith, within, digits.0)))),
+    )
 
 -- so they and a space behind them are the first word
 pub address_first : (order : Order) (line : List ℕ) (a : ℕ) → 9 ≤ length line
@@ -178,12 +180,11 @@ oif_first line vif rest threshold after v t line_is rest_is of_vif of_threshold 
     let second = digits_no_space threshold (and_parts (nat_le 1 (length threshold)) _ of_threshold).1 in
     let none : HasNoSpace word =
     list_all-append (λ b. not (b == 32)) vif (58 ∷ threshold) ∙ rw (first, second) refl in
-    let size = length-append vif (58 ∷ threshold) in
-    (
+    let size = length-append vif (58 ∷ threshold) in (
       word,
       ap words_of (line_is ∙ ap (λ r. vif ++ 58 ∷ r) rest_is
-      ∙ sym (append_assoc vif (58 ∷ threshold) (32 ∷ after)))
-      ∙ first_word word after none (omega (arith, size)),
+          ∙ sym (append_assoc vif (58 ∷ threshold) (32 ∷ after)))
+          ∙ first_word word after none (omega (arith, size)),
       oif_only word (v, t) writes,
     )
 
@@ -209,8 +210,7 @@ pub one_ascends : (oifs : List Oif) (oif : Oif) (next : ℕ) (word : List ℕ) (
     → (oifs_after oifs (word ∷ words) ≡ oifs_after (oifs ++ oif ∷ []) words)
     × (list_all (λ other. nat_lt other.vif (oif.vif + 1)) (oifs ++ oif ∷ []) ≡ true)
 one_ascends oifs oif next word words is below up =
-    let all = below_greater oifs next oif.vif below up in
-    (
+    let all = below_greater oifs next oif.vif below up in (
       ap (λ r. r >>= λ more. oifs_after more words)
           (added_last oifs word oif.vif oif.threshold is all),
       list_all-append (λ other. nat_lt other.vif (oif.vif + 1)) oifs (oif ∷ [])

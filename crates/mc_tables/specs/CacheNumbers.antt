@@ -5,10 +5,9 @@ use Rattle.std.specs.Option.{option_map}
 use Rattle.std.specs.List.{All, filter_map}
 use Rattle.std.specs.BTreeMap.{is_at}
 use Rattle.std.specs.Map.{lookup}
-use Rattle.mc_tables.specs.CacheTable.{EntryText}
+use Rattle.mc_tables.specs.CacheTable.{EntryText, CacheText, key_cmp}
 use Rattle.mc_tables.specs.declared.listed_numbers.Numbered.{Numbered}
 use Rattle.mc_tables.specs.declared.listed_numbers.Numbered.TheVariants.{New, Repeated, Unlisted}
-use Rattle.mc_tables.specs.CacheTable.{CacheText, key_cmp}
 use Rattle.mc_tables.specs.ListedRows.{ListedSet, is_in}
 
 -- the entry of a number, with the source and the group that have the number

@@ -6,8 +6,7 @@ use Rattle.std.specs.List.{list_any, filter_map, slice_split}
 use Rattle.std.specs.FinMap.{from_entries}
 use Rattle.std.specs.Str.{bytes_eq}
 use Rattle.mc_text.specs.declared.text.addr.Order.{Order}
-use Rattle.mc_text.specs.Lines.{LineText}
-use Rattle.mc_text.specs.Lines.{words_of}
+use Rattle.mc_text.specs.Lines.{LineText, words_of}
 use Rattle.mc_tables.specs.declared.entry.Oif.{Oif}
 use Rattle.mc_tables.specs.CacheTable.{EntryText}
 use Rattle.mc_tables.specs.declared.fault.TableFault.{TableFault}

@@ -12,8 +12,7 @@ use Rattle.std.specs.Coded.{Coded, code_by, coded×, coded_list, coded_ℕ}
 use Rattle.std.specs.FinMap as map
 use Rattle.std.specs.FinSet as set
 use Rattle.mc_text.specs.declared.text.addr.Order.{Order}
-use Rattle.mc_text.specs.Lines.{LineText}
-use Rattle.mc_text.specs.Lines.{words_of}
+use Rattle.mc_text.specs.Lines.{LineText, words_of}
 use Rattle.mc_tables.specs.declared.entry.Oif.{Oif}
 use Rattle.mc_tables.specs.TableWords.{is_counter, WritesNumber, WritesAddress}
 use Rattle.mc_tables.specs.TableLines.{HasHeader, EachTells}

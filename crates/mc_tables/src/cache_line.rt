@@ -33,11 +33,7 @@ pub struct CacheWords<'a> {
 
 /// Reads a row, and puts its outgoing vifs by ascending vif in the place of those that were there.
 #[tactic(auto, using(crate::proofs::EntryLemmas::few_read))]
-pub fn read_row(
-    line: &[u8],
-    order: Order,
-    oifs: &mut Vec<Oif>,
-) -> Result<CacheRow, TableFaultKind>
+pub fn read_row(line: &[u8], order: Order, oifs: &mut Vec<Oif>) -> Result<CacheRow, TableFaultKind>
     ensures few { OnOk result (length oifs.new.items ≤ 32) }
     ensures read { IfOk result (λ row.
         row_in_words order (words_of line.now) ≡ Ok (row_with row oifs.new.items)) }
@@ -56,11 +52,7 @@ pub fn read_row(
 
 /// Reads a row word by word.
 #[tactic(auto, using(crate::proofs::RowWordLemmas::few_words))]
-fn read_words_of(
-    line: &[u8],
-    order: Order,
-    oifs: &mut Vec<Oif>,
-) -> Result<CacheRow, TableFaultKind>
+fn read_words_of(line: &[u8], order: Order, oifs: &mut Vec<Oif>) -> Result<CacheRow, TableFaultKind>
     requires { oifs.old.items ≡ [] }
     ensures few { OnOk result (length oifs.new.items ≤ 32) }
     ensures read { IfOk result (λ row.

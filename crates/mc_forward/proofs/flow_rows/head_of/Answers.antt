@@ -1,7 +1,6 @@
-use Rattle.std.proofs.Common.{length, ap, arith}
+use Rattle.std.proofs.Common.{length, ap, arith, subst}
 use Rattle.mc_tables.specs.CacheTable.{EntryText}
 use Rattle.mc_tables.proofs.EntryLemmas.{few-oifs}
-use Rattle.std.proofs.Common.{subst}
 use Rattle.mc_forward.specs.Rows.{EntryStands}
 use Rattle.mc_forward.proofs.flow_rows.head_of.Goals as goal
 

@@ -2,7 +2,7 @@
 use Rattle.std.proofs.Common.{◌≡◌, ℕ, zero, suc, ◌+◌, ◌<◌, Bool, true, false, cond, List, [], ◌∷◌}
 use Rattle.std.proofs.Common.{◌++◌, length, get_or, Option, Some, None, Result, Ok, Err, refl, sym}
 use Rattle.std.proofs.Common.{add-one, ap, subst, ◌∙◌, inl, inr, arith}
-use Rattle.std.specs.Prelude.{◌≢◌, ◌==◌, ◌&&◌, ◌||◌, IfErr, IfNone, OnErr, is_some, nat_lt, replicate, slice_set}
+use Rattle.std.specs.Prelude.{◌≢◌, ◌==◌, ◌&&◌, ◌||◌, IfErr, IfNone, OnErr, is_some, replicate, slice_set}
 use Rattle.std.specs.Result.{result_ok}
 use Rattle.std.specs.FinSet as set
 use Rattle.std.specs.List.{AllByRecursion, IsDistinct, dedup, dedup_from, list_any}
@@ -10,9 +10,9 @@ use Rattle.std.specs.List.Sorted.{IsBinarySearchResult, IsPermutation, IsSearchI
 use Rattle.std.specs.List.Sorted.{IsStrictlySortedBy}
 use Rattle.std.specs.Ordering.{is_lt, ordering_reverse}
 use Rattle.std.specs.declared.cmp.Ordering.TheVariants.{Less}
-use Rattle.std.proofs.lemmas.Bool.{cases_Bool, ltb-true}
+use Rattle.std.proofs.lemmas.Bool.{cases_Bool}
 use Rattle.std.proofs.lemmas.Bool.Decides.{nat_tests}
-use Rattle.std.proofs.lemmas.List.{get_or-set_same, get_or_default}
+use Rattle.std.proofs.lemmas.List.{get_or-set_same}
 use Rattle.std.proofs.lemmas.List.Folds.{list_any_at}
 use Rattle.std.proofs.lemmas.List.Kept.{IsStrictlySortedBy-dedup}
 use Rattle.std.proofs.lemmas.Map.Keys.{IsDistinct-from_sorted, IsDistinct-head, IsDistinct-tail}
@@ -217,14 +217,6 @@ grown keys ns more zeros s is kept =
       numbers = l;
     } in t) (ap (filled keys) is ∙ zeros_more keys ns zeros)
     ∙ kept
-
--- what a list says that is lent
-pub said_at : (ns lent : List ℕ) (i n : ℕ) → lent ≡ ns → true ≡ nat_lt i (length lent)
-    → n ≡ get_or lent i n → get_or ns i 0 ≡ n
-said_at ns lent i n is within said =
-    let lt : i < length ns =
-    omega (arith, ltb-true i (length lent) (sym within), ap length is) in
-    get_or_default ns i 0 n lt ∙ ap (λ l. get_or l i n) (sym is) ∙ sym said
 
 -- a refusal leaves what holds
 pub if_refused : {A E : Type 0} (P : Type 0) (r : Result A E) → P → OnErr r P

@@ -1,9 +1,10 @@
 -- A line whose words are read from its front.
-use Rattle.std.proofs.Common.{◌≡◌, ℕ, zero, suc, ◌+◌, ◌-◌, ◌<◌, ◌≤◌, true, false, List, [], ◌∷◌, ◌++◌, length, take}
+use Rattle.std.proofs.Common.{◌≡◌, ℕ, zero, suc, ◌+◌, ◌-◌, ◌*◌, ◌<◌, ◌≤◌, true, false, List, [], ◌∷◌, ◌++◌, length, take}
 use Rattle.std.proofs.Common.{drop, get_or, Option, Some, None, Ok, refl, sym, ap, subst, ◌∙◌, arith}
 use Rattle.std.specs.Prelude.{◌==◌, ◌&&◌, Bool, nat_le, nat_lt, not, position, filter, unwrap_or, IfSome}
 use Rattle.std.specs.List.{list_all, slice_split}
-use Rattle.std.specs.Char.{is_ascii_digit}
+use Rattle.std.specs.Char.{digit_value, is_ascii_digit}
+use Rattle.std.proofs.lemmas.Str.{digit_value_digit}
 use Rattle.std.proofs.lemmas.Bool.{ne_eqb, not-true, not-false, not_from_false, and_parts, and_from}
 use Rattle.std.proofs.lemmas.Bool.{leb-true, le-leb, ltb-true, lt-ltb}
 use Rattle.std.proofs.lemmas.List.Splits.{slice_split_at}
@@ -187,6 +188,98 @@ oif_first line vif rest threshold after v t line_is rest_is of_vif of_threshold 
           ∙ first_word word after none (omega (arith, size)),
       oif_only word (v, t) writes,
     )
+
+zero_plus : (n : ℕ) → 0 + n ≡ n
+zero_plus n = omega arith
+
+-- one digit is a number
+one_digit : (least most c : ℕ) → is_ascii_digit c ≡ true → least ≤ c - 48 → c - 48 ≤ most
+    → number_in least most (c ∷ []) ≡ Some (c - 48)
+one_digit least most c digit low high =
+    let range = and_parts (nat_le 48 c) (nat_le c 57) digit in
+    let value : digit_value c ≡ c - 48 =
+    (let e = digit_value_digit c (leb-true 48 c range.0, leb-true c 57 range.1) in omega (arith, e)) in
+    rw (digit, value, zero_plus (c - 48), le-leb least (c - 48) low, le-leb (c - 48) most high) refl
+
+-- a digit, a colon, a digit but 0 and a space are a first word that writes an outgoing vif
+pub digit_first : (vif threshold : ℕ) (after : List ℕ) → is_ascii_digit vif ≡ true
+    → (nat_le 49 threshold && nat_le threshold 57) ≡ true → (word : List ℕ)
+    × (words_of (vif ∷ 58 ∷ threshold ∷ 32 ∷ after) ≡ word ∷ words_of after)
+    × (oif_in word ≡ Ok (vif - 48, threshold - 48))
+digit_first vif threshold after of_vif of_threshold =
+    let v = and_parts (nat_le 48 vif) (nat_le vif 57) of_vif in
+    let t = and_parts (nat_le 49 threshold) (nat_le threshold 57) of_threshold in
+    let low = leb-true 49 threshold t.0 in
+    let high = leb-true threshold 57 t.1 in
+    let digit : is_ascii_digit threshold ≡ true =
+    and_from (nat_le 48 threshold) (nat_le threshold 57) (le-leb 48 threshold (omega (arith, low))) t.1 in
+    let top = leb-true vif 57 v.1 in
+    oif_first (vif ∷ 58 ∷ threshold ∷ 32 ∷ after) (vif ∷ []) (threshold ∷ 32 ∷ after) (threshold ∷ [])
+    after (vif - 48) (threshold - 48) refl refl (rw of_vif refl) (rw digit refl)
+    (one_digit 0 31 vif of_vif (omega arith) (omega (arith, top)))
+    (one_digit 1 254 threshold digit (omega (arith, low)) (omega (arith, high)))
+
+pub short_first : (line : List ℕ) → 4 ≤ length line → is_ascii_digit (get_or line 0 0) ≡ true
+    → (nat_le 49 (get_or line 2 0) && nat_le (get_or line 2 0) 57) ≡ true → get_or line 1 0 ≡ 58
+    → get_or line 3 0 ≡ 32 → (word : List ℕ)
+    × (words_of line ≡ word ∷ words_of (take (length line - 4) (drop 4 line)))
+    × (oif_in word ≡ Ok (get_or line 0 0 - 48, get_or line 2 0 - 48))
+short_first (a ∷ b ∷ c ∷ d ∷ rest) long of_vif of_threshold colon space =
+    let first = digit_first a c rest of_vif of_threshold in (
+      first.0,
+      ap (λ x. words_of (a ∷ x ∷ c ∷ d ∷ rest)) colon
+          ∙ ap (λ x. words_of (a ∷ 58 ∷ c ∷ x ∷ rest)) space ∙ first.1
+          ∙ ap (λ (r : List ℕ). first.0 ∷ words_of r) (sym (rest_of (a ∷ b ∷ c ∷ d ∷ rest) 4)),
+      first.2,
+    )
+short_first line long of_vif of_threshold colon space = grind arith
+
+-- two digits are a number
+two_digits : (most c d : ℕ) → is_ascii_digit c ≡ true → is_ascii_digit d ≡ true
+    → (c - 48) * 10 + (d - 48) ≤ most
+    → number_in 0 most (c ∷ d ∷ []) ≡ Some ((c - 48) * 10 + (d - 48))
+two_digits most c d first second high =
+    let tens = and_parts (nat_le 48 c) (nat_le c 57) first in
+    let units = and_parts (nat_le 48 d) (nat_le d 57) second in
+    let of_tens : digit_value c ≡ c - 48 =
+    (let e = digit_value_digit c (leb-true 48 c tens.0, leb-true c 57 tens.1) in omega (arith, e)) in
+    let of_units : digit_value d ≡ d - 48 =
+    (let e = digit_value_digit d (leb-true 48 d units.0, leb-true d 57 units.1) in omega (arith, e)) in
+    rw (
+      first,
+      second,
+      of_tens,
+      of_units,
+      zero_plus (c - 48),
+      le-leb 0 ((c - 48) * 10 + (d - 48)) (omega arith),
+      le-leb ((c - 48) * 10 + (d - 48)) most high,
+    ) refl
+
+-- and they, a colon, a digit but 0 and a space are a first word that writes an outgoing vif
+pub two_first : (line : List ℕ) → 5 ≤ length line → is_ascii_digit (get_or line 0 0) ≡ true
+    → is_ascii_digit (get_or line 1 0) ≡ true
+    → (get_or line 0 0 - 48) * 10 + (get_or line 1 0 - 48) ≤ 31
+    → (nat_le 49 (get_or line 3 0) && nat_le (get_or line 3 0) 57) ≡ true → get_or line 2 0 ≡ 58
+    → get_or line 4 0 ≡ 32 → (word : List ℕ)
+    × (words_of line ≡ word ∷ words_of (take (length line - 5) (drop 5 line)))
+    × (oif_in word ≡ Ok ((get_or line 0 0 - 48) * 10 + (get_or line 1 0 - 48), get_or line 3 0 - 48))
+two_first (a ∷ b ∷ c ∷ d ∷ e ∷ rest) long tens units top of_threshold colon space =
+    let t = and_parts (nat_le 49 d) (nat_le d 57) of_threshold in
+    let low = leb-true 49 d t.0 in
+    let high = leb-true d 57 t.1 in
+    let digit : is_ascii_digit d ≡ true =
+    and_from (nat_le 48 d) (nat_le d 57) (le-leb 48 d (omega (arith, low))) t.1 in
+    let first = oif_first (a ∷ b ∷ 58 ∷ d ∷ 32 ∷ rest) (a ∷ b ∷ []) (d ∷ 32 ∷ rest) (d ∷ []) rest
+    ((a - 48) * 10 + (b - 48)) (d - 48) refl refl (rw (tens, units) refl) (rw digit refl)
+    (two_digits 31 a b tens units top)
+    (one_digit 1 254 d digit (omega (arith, low)) (omega (arith, high))) in (
+      first.0,
+      ap (λ x. words_of (a ∷ b ∷ x ∷ d ∷ e ∷ rest)) colon
+          ∙ ap (λ x. words_of (a ∷ b ∷ 58 ∷ d ∷ x ∷ rest)) space ∙ first.1
+          ∙ ap (λ (r : List ℕ). first.0 ∷ words_of r) (sym (rest_of (a ∷ b ∷ c ∷ d ∷ e ∷ rest) 5)),
+      first.2,
+    )
+two_first line long tens units top of_threshold colon space = grind arith
 
 -- a number for a vif is at most 31
 pub vif_in_range : (word : List ℕ) (v : ℕ) → number_in 0 31 word ≡ Some v → v ≤ 31

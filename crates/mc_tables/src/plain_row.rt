@@ -1,7 +1,7 @@
 //! A row as kernels print it, read in one pass. Whatever else a line may be is left to who reads its
 //! words one after the other.
 
-ghost use Rattle.std.specs.Prelude.{◌≡◌, ℕ, [], ◌∷◌, ◌++◌, ◌==◌, not, List, IfOk, IfSome, Ok, Some, take};
+ghost use Rattle.std.specs.Prelude.{◌≡◌, ℕ, [], ◌∷◌, ◌++◌, ◌==◌, ◌&&◌, nat_le, not, List, IfOk, IfSome, Ok, Some, take};
 ghost use Rattle.std.specs.Prelude.{drop, length, ◌<◌, ◌≤◌};
 ghost use Rattle.std.specs.Prelude.{position, true};
 ghost use Rattle.std.specs.Char.{is_ascii_digit};
@@ -122,7 +122,60 @@ pub fn row_at_front(line: &[u8], order: Order) -> Option<(CacheRow, &[u8])>
     Some((row, rest))
 }
 
-/// The outgoing vif that a line begins with, and what stands behind it.
+/// Whether a byte is a decimal digit but 0.
+fn is_from_1_to_9(byte: u8) -> bool
+    ensures { result ≡ (nat_le 49 byte && nat_le byte 57) }
+{
+    (b'1'..=b'9').contains(&byte)
+}
+
+/// An outgoing vif of one digit with a threshold of one, with which a line begins, and what stands
+/// behind it.
+#[tactic(auto, using(crate::proofs::PlainLemmas::short_first))]
+fn one_digit_oif_at_front(line: &[u8]) -> Option<(Oif, &[u8])>
+    ensures word { IfSome result (λ found. (word : List ℕ)
+        × (words_of line.now ≡ word ∷ words_of found.1.now)
+        × (oif_in word ≡ Ok (found.0.vif, found.0.threshold))) }
+    ensures vif { IfSome result (λ found. found.0.vif ≤ 31) }
+    ensures shorter { IfSome result (λ found. length found.1.now < length line.now) }
+{
+    if line.len() < 4 || !line[0].is_ascii_digit() || !is_from_1_to_9(line[2]) {
+        return None;
+    }
+    if line[1] == b':' && line[3] == b' ' {
+        let vif = line[0] - b'0';
+        let threshold = line[2] - b'0';
+        return Some((Oif { vif, threshold }, &line[4..]));
+    }
+    None
+}
+
+/// An outgoing vif of two digits with a threshold of one, with which a line begins, and what stands
+/// behind it.
+#[tactic(auto, using(crate::proofs::PlainLemmas::two_first))]
+fn two_digit_oif_at_front(line: &[u8]) -> Option<(Oif, &[u8])>
+    ensures word { IfSome result (λ found. (word : List ℕ)
+        × (words_of line.now ≡ word ∷ words_of found.1.now)
+        × (oif_in word ≡ Ok (found.0.vif, found.0.threshold))) }
+    ensures vif { IfSome result (λ found. found.0.vif ≤ 31) }
+    ensures shorter { IfSome result (λ found. length found.1.now < length line.now) }
+{
+    if line.len() < 5 || !line[0].is_ascii_digit() || !line[1].is_ascii_digit() {
+        return None;
+    }
+    let vif = (line[0] - b'0') * 10 + (line[1] - b'0');
+    if vif > MAX_VIF || !is_from_1_to_9(line[3]) {
+        return None;
+    }
+    if line[2] == b':' && line[4] == b' ' {
+        let threshold = line[3] - b'0';
+        return Some((Oif { vif, threshold }, &line[5..]));
+    }
+    None
+}
+
+/// The outgoing vif that a line begins with, and what stands behind it. Most are written with one
+/// digit or two, and a threshold of one.
 #[tactic(auto, using(crate::proofs::PlainLemmas::vif_in_range))]
 fn oif_at_front(line: &[u8]) -> Option<(Oif, &[u8])>
     ensures word { IfSome result (λ found. (word : List ℕ)
@@ -131,6 +184,12 @@ fn oif_at_front(line: &[u8]) -> Option<(Oif, &[u8])>
     ensures vif { IfSome result (λ found. found.0.vif ≤ 31) }
     ensures shorter { IfSome result (λ found. length found.1.now < length line.now) }
 {
+    if let Some(found) = one_digit_oif_at_front(line) {
+        return Some(found);
+    }
+    if let Some(found) = two_digit_oif_at_front(line) {
+        return Some(found);
+    }
     let (vif, rest) = digits_before(line, b':')?;
     let (threshold, rest) = digits_before(rest, b' ')?;
     let vif = number(vif, 0, MAX_VIF)?;

@@ -1,6 +1,6 @@
 //! The lines of a text that comes in pieces.
 
-ghost use Rattle.std.specs.Prelude.{◌≡◌, ◌+◌, ◌<◌, ◌≤◌, ◌==◌, length, take, IfOk, MatchOption};
+ghost use Rattle.std.specs.Prelude.{◌≡◌, ◌+◌, ◌<◌, ◌≤◌, ◌==◌, [], length, take, IfOk, IfSome, MatchOption};
 ghost use Rattle.std.specs.Prelude.{position, Some};
 ghost use Rattle.mc_text.specs.LineView.{line_text};
 ghost use Rattle.mc_text.specs.Lines.{max_text};
@@ -95,6 +95,43 @@ impl PieceLines {
                 Ok(None)
             }
         }
+    }
+
+    /// Where the first line feed stands, if the bytes are the first of a line.
+    pub fn end_of_whole(&self, rest: &[u8]) -> Option<usize>
+        ensures begun { IfSome result (λ end. self.now.begun ≡ []) }
+        ensures end { IfSome result (λ end. position (λ b. b == 10) rest.now ≡ Some end) }
+        ensures rules { AreLinesSoFar self.now }
+    {
+        if self.begun.is_empty() {
+            first_place_of(b'\n', rest)
+        } else {
+            None
+        }
+    }
+
+    /// The line of these bytes, whose line feed comes next.
+    pub fn line_of<'a>(&self, bytes: &'a [u8]) -> Line<'a>
+        requires few { self.now.ended < max_text }
+        requires begun { self.now.begun ≡ [] }
+        ensures { line_text result ≡
+            line_begun (with_begun self.now (length bytes.now + 1) bytes.now) }
+    {
+        Line {
+            number: self.ended + 1,
+            bytes,
+            ended: true,
+        }
+    }
+
+    /// A line of so many bytes has passed, and the next one begins.
+    pub fn pass_line(&mut self, len: usize)
+        requires room { self.old.size + (len + 1) ≤ max_text }
+        requires begun { self.old.begun ≡ [] }
+        ensures { self.new ≡ with_ended (with_begun self.old (len + 1) []) }
+    {
+        self.size += len + 1;
+        self.ended += 1;
     }
 
     /// The line that has begun, whose line feed has come.

@@ -91,6 +91,11 @@ fn read_up_to_end<R: Rows>(
         read_after R.header (R.table rows.old) lines.old (rest.now ++ more) ≡ Err fault) }
     ensures stand { OnOk result (R.stand rows.old → R.stand rows.new) }
 {
+    if let Some(end) = lines.end_of_whole(rest) {
+        rows.add_line(lines.ended(), &lines.line_of(&rest[..end]))?;
+        lines.pass_line(end);
+        return Ok(Some(end));
+    }
     let Some(end) = lines.take_up_to_end(rest)? else {
         return Ok(None);
     };

@@ -76,8 +76,7 @@ impl ListedRows {
     pub fn into_kept(self) -> CacheRows
         ensures { result.table ≡ self.rows.table }
     {
-        let ListedRows { mut kept, .. } = self;
-        kept.settle();
+        let ListedRows { kept, .. } = self;
         kept
     }
 

@@ -13,7 +13,7 @@ row_for-requires c =
     let own : TablesValue = record { vifs = c.tables.inside.vifs; cache = c.tables.inside.cache } in
     let flows = c.args.topology.now.flows in
     let rows = subst (λ (t : TablesValue). AreRowNos flows t c.in_ok-numbers.numbers)
-    (sym c.tables.view_is) c.in_ok-numbers.ensures in
+    (sym c.tables.view_is) c.in_ok-numbers.ensures.rows in
     let found = numbered-at flows own c.in_ok-numbers.numbers c.deref-number-items.result.now
     c.loop-number.number-index (Exact 0) rows
     (c.deref-number-items.ensures.value ∙ c.numbers.view_is) c.loop-number-test.true in
@@ -21,7 +21,7 @@ row_for-requires c =
 
 pub push_row-requires-clause-count : goal.push_row-requires-clause-count
 push_row-requires-clause-count c =
-    let numbers = c.in_ok-numbers.ensures.count in
+    let numbers = c.in_ok-numbers.ensures.rows.count in
     let seen = ap (λ (xs : List RowNo). length xs)
     (c.deref-number-items.ensures.value ∙ c.numbers.view_is) in
     omega (
@@ -38,7 +38,7 @@ push_row-requires-clause-stands c =
     let own : TablesValue = record { vifs = c.tables.inside.vifs; cache = c.tables.inside.cache } in
     let flows = c.args.topology.now.flows in
     let rows = subst (λ (t : TablesValue). AreRowNos flows t c.in_ok-numbers.numbers)
-    (sym c.tables.view_is) c.in_ok-numbers.ensures in
+    (sym c.tables.view_is) c.in_ok-numbers.ensures.rows in
     let found = numbered-at flows own c.in_ok-numbers.numbers c.deref-number-items.result.now
     c.loop-number.number-index (Exact 0) rows
     (c.deref-number-items.ensures.value ∙ c.numbers.view_is) c.loop-number-test.true in
@@ -49,7 +49,7 @@ loop-number-preserved c =
     let own : TablesValue = record { vifs = c.tables.inside.vifs; cache = c.tables.inside.cache } in
     let flows = c.args.topology.now.flows in
     let rows = subst (λ (t : TablesValue). AreRowNos flows t c.in_ok-numbers.numbers)
-    (sym c.tables.view_is) c.in_ok-numbers.ensures in
+    (sym c.tables.view_is) c.in_ok-numbers.ensures.rows in
     let found = numbered-at flows own c.in_ok-numbers.numbers c.deref-number-items.result.now
     c.loop-number.number-index (Exact 0) rows
     (c.deref-number-items.ensures.value ∙ c.numbers.view_is) c.loop-number-test.true in

@@ -1,6 +1,7 @@
 //! One line of `/proc/net/ip_mr_cache`.
 
-ghost use Rattle.std.specs.Prelude.{◌≡◌, ◌≢◌, [], ◌<◌, ◌≤◌, length, OnOk, IfOk, IfErr, IfSome, IfNone, None, Ok, Err};
+ghost use Rattle.std.specs.Prelude.{◌≡◌, ◌≢◌, [], ◌<◌, ◌≤◌, length, OnOk, IfOk, IfErr, IfSome};
+ghost use Rattle.std.specs.Prelude.{IfNone, None, Ok, Err};
 ghost use Rattle.std.specs.Option.{ok_or};
 ghost use Rattle.mc_text.specs.Lines.{words_of};
 ghost use Rattle.mc_tables.specs.declared.fault.TableFaultKind.TheVariants.{Memory, BadAddress};

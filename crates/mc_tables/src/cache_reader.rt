@@ -20,9 +20,9 @@ use std::alloc::Global;
 use std::marker::Model;
 
 /// A reader of `/proc/net/ip_mr_cache` that is fed the text in pieces of any size. It keeps the
-/// rows of listed sources and groups, the groups of rows for every source, and the source, the group
-/// and the line of each other resolved row, among which it looks for a repeated one once: before it
-/// answers another fault, or where the text ends.
+/// rows of listed sources and groups, the groups of rows for every source, and the source, the
+/// group and the line of each other resolved row, among which it looks for a repeated one once:
+/// before it answers another fault, or where the text ends.
 #[derive(Debug, Drop)]
 pub struct CacheReader {
     lines: PieceLines,

@@ -100,8 +100,8 @@ impl CacheTable {
     }
 
     /// The same, for whoever asks for the same source and group of many tables of which the rows of
-    /// the same sources and groups are kept: `near` is where they were found in the last one, or any
-    /// number at first. A right one saves a search.
+    /// the same sources and groups are kept: `near` is where they were found in the last one, or
+    /// any number at first. A right one saves a search.
     pub fn number_near(&self, source: Addr, group: Addr, near: &mut usize) -> Option<u32>
         ensures within { IfSome result (λ number. number < length self.now.numbered) }
         ensures entry { option_and_then (slice_get self.now.numbered) result

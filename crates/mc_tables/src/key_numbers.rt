@@ -51,8 +51,8 @@ impl KeyNumbers {
         }
     }
 
-    /// The number of a source and a group, whose place may be known already. It is known afterwards,
-    /// for a table of which the same are kept.
+    /// The number of a source and a group, whose place may be known already. It is known
+    /// afterwards, for a table of which the same are kept.
     pub fn number_near(&self, key: &(Addr, Addr), near: &mut usize) -> Option<u32>
         ensures { result ≡ number_in self.now.numbers key.now }
     {

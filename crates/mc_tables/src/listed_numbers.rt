@@ -1,6 +1,7 @@
 //! The numbers of the sources and groups that are listed.
 
-ghost use Rattle.std.specs.Prelude.{◌≡◌, ℕ, [], ◌<◌, ◌≤◌, ◌++◌, IfNone, IfOk, IfSome, OnErr, OnOk, Some, false};
+ghost use Rattle.std.specs.Prelude.{◌≡◌, ℕ, [], ◌<◌, ◌≤◌, ◌++◌, IfNone, IfOk, IfSome, OnErr, OnOk};
+ghost use Rattle.std.specs.Prelude.{Some, false};
 ghost use Rattle.std.specs.Prelude.{get_or, length, replicate};
 ghost use Rattle.std.specs.FinSet as set;
 ghost use Rattle.std.specs.List.{list_any};
@@ -62,7 +63,8 @@ impl ListedNumbers {
         }
     }
 
-    /// The number of a source and a group, whose place may be known already. It is known afterwards.
+    /// The number of a source and a group, whose place may be known already. It is known
+    /// afterwards.
     pub fn number_near(&self, key: &(Addr, Addr), near: &mut usize) -> Option<u32>
         ensures { result ≡ number_in self.now.numbers key.now }
     {

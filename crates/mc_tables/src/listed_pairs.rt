@@ -19,8 +19,8 @@ const SLOTS: usize = 16_384;
 #[derive(Debug, Drop)]
 pub struct ListedPairs {
     pairs: Vec<(Addr, Addr)>,
-    // at the slot of a pair one more than the place where one of this slot stands, and 0 at a slot of
-    // none; a pair whose slot is past the end is looked for by halves
+    // at the slot of a pair one more than the place where one of this slot stands, and 0 at a slot
+    // of none; a pair whose slot is past the end is looked for by halves
     slots: Vec<u32>,
 }
 

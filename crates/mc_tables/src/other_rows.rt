@@ -3,7 +3,8 @@
 ghost use Rattle.std.specs.Prelude.{◌≡◌, [], ◌∷◌, ◌++◌, true, OnOk, OnErr, IfErr};
 ghost use Rattle.std.specs.List.Sorted.{IsSorted, IsStrictlyIncreasing};
 ghost use Rattle.mc_tables.specs.declared.fault.TableFaultKind.TheVariants.{Memory};
-ghost use Rattle.mc_tables.specs.OtherRows.{key_number, row_cmp, repeats, lesser, first_repeat, without_repeat};
+ghost use Rattle.mc_tables.specs.OtherRows.{key_number, row_cmp, repeats, lesser, first_repeat};
+ghost use Rattle.mc_tables.specs.OtherRows.{without_repeat};
 
 use crate::fault::{TableFault, TableFaultKind};
 use mc_text::Addr;

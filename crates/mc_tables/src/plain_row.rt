@@ -1,7 +1,8 @@
-//! A row as kernels print it, read in one pass. Whatever else a line may be is left to who reads its
-//! words one after the other.
+//! A row as kernels print it, read in one pass. Whatever else a line may be is left to who reads
+//! its words one after the other.
 
-ghost use Rattle.std.specs.Prelude.{◌≡◌, ℕ, [], ◌∷◌, ◌++◌, ◌==◌, ◌&&◌, nat_le, not, List, IfOk, IfSome, Ok, Some, take};
+ghost use Rattle.std.specs.Prelude.{◌≡◌, ℕ, [], ◌∷◌, ◌++◌, ◌==◌, ◌&&◌, nat_le, not, List, IfOk};
+ghost use Rattle.std.specs.Prelude.{IfSome, Ok, Some, take};
 ghost use Rattle.std.specs.Prelude.{drop, length, ◌<◌, ◌≤◌};
 ghost use Rattle.std.specs.Prelude.{position, true};
 ghost use Rattle.std.specs.Char.{is_ascii_digit};

@@ -28,7 +28,7 @@ not-own n t out f c r v pairs i c_in row on e =
     omega (arith, s.ttl, ap (λ (x : Copy). x.ttl) copy)
 
 -- entries of one LAN are one
-one-entry : (n : Net) (es : List Entry) (d e : Entry) → IsTree n es → In d es → In e es →
+pub one-entry : (n : Net) (es : List Entry) (d e : Entry) → IsTree n es → In d es → In e es →
     d.lan ≡ e.lan → d ≡ e
 one-entry n es d e tree h k q = same-by_image (λ (e : Entry). e.lan) d e es tree.one_entry h k q
 

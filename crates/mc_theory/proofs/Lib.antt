@@ -17,6 +17,8 @@ pub mod Travels
 pub mod Walks
 pub mod Shown
 pub mod Told
+pub mod Ways
+pub mod Came
 pub mod WorkedNetworks
 pub mod WorkedReasons
 pub mod WorkedTravels

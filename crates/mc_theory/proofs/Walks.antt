@@ -35,7 +35,7 @@ first-stays_step : (c : Copy) (cs ds : List Copy) (l : ℕ) (b : Copy) (test : B
 first-stays_step c cs ds l b true e ih = e
 first-stays_step c cs ds l b false e ih = ih e
 
-first-stays : (cs ds : List Copy) (l : ℕ) (b : Copy) → copy_on cs l ≡ Some b →
+pub first-stays : (cs ds : List Copy) (l : ℕ) (b : Copy) → copy_on cs l ≡ Some b →
     copy_on (cs ++ ds) l ≡ Some b
 first-stays [] ds l b e = absurd cc
 first-stays (c ∷ cs) ds l b e = first-stays_step c cs ds l b (c.lan == l) e (first-stays cs ds l b)
@@ -45,7 +45,7 @@ first-in_step : (c : Copy) (cs : List Copy) (l : ℕ) (b : Copy) (test : Bool) �
 first-in_step c cs l b true e ih = inl cc
 first-in_step c cs l b false e ih = inr (ih e)
 
-first-in : (cs : List Copy) (l : ℕ) (b : Copy) → copy_on cs l ≡ Some b → In b cs
+pub first-in : (cs : List Copy) (l : ℕ) (b : Copy) → copy_on cs l ≡ Some b → In b cs
 first-in [] l b e = absurd cc
 first-in (c ∷ cs) l b e = first-in_step c cs l b (c.lan == l) e (first-in cs l b)
 
@@ -72,7 +72,7 @@ rooted-step n t f g clean (inl s) r = subst (IsRooted n t) (sym s.2.1) (record {
   ];
 })
 
-rooted : (n : Net) (count t : ℕ) (numbers : List ℕ) (last : Bool) (is : List ℕ) (f : Flight)
+pub rooted : (n : Net) (count t : ℕ) (numbers : List ℕ) (last : Bool) (is : List ℕ) (f : Flight)
     (x : Finding) → AllHeard n f → IsRooted n t f.carried → IsTravel n count numbers last is f x →
     IsRooted n t (run n (handles is) f).carried
 rooted n count t numbers last [] f x heard r travel = r
@@ -81,7 +81,7 @@ rooted n count t numbers last (i ∷ is) f x heard r travel =
     rooted n count t (rest numbers) last is (step n i f) x g.1
     (rooted-step n t f (step n i f) (finding-none n count f travel.0).0 g.0 r) travel.2
 
-rooted-start : (n : Net) (t : ℕ) → IsRooted n t (start n t).carried
+pub rooted-start : (n : Net) (t : ℕ) → IsRooted n t (start n t).carried
 rooted-start n t = record {
   base = λ c h i q. elim h [
     | inl e ↦ absurd (let z : ◌≡◌ {A = Option Interface} None (Some i) =

@@ -10,3 +10,4 @@ pub mod Origins
 pub mod Made
 pub mod Shown
 pub mod Worked
+pub mod Ways

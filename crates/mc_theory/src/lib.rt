@@ -2,14 +2,15 @@
 //! flow, and why a certificate covers every order in which routers handle copies.
 //!
 //! The definitions stand in `specs/`, to be read in this order: `Nets`, `Flights`, `Headline`,
-//! `Certificates`, `Reasons`, `Events`, `Findings`, `Shown`, `Origins`, `Made`; `Worked` has small
-//! networks to try them on. Nothing here runs: each function below is a law about them.
+//! `Certificates`, `Reasons`, `Events`, `Findings`, `Shown`, `Origins`, `Made`, `Ways`; `Worked`
+//! has small networks to try them on. Nothing here runs: each function below is a law about them.
 
 #![tactic(auto)]
 
 mod certificate_laws;
 mod headline_laws;
 mod travel_laws;
+mod way_laws;
 
 pub use certificate_laws::{
     a_flow_has_a_certificate_exactly_if_it_is_right, a_right_flow_is_accepted,
@@ -26,4 +27,7 @@ pub use travel_laws::{
     a_travel_ends, a_travel_under_way_is_bounded, an_event_tells_what_its_step_did,
     clean_travels_certify, each_copy_comes_of_an_earlier_one, needs_tell_the_second_travel,
     the_walk_back_ends,
+};
+pub use way_laws::{
+    a_carried_copy_came_by_a_way, the_least_ttl_reaches, what_passes_is_a_matter_of_need,
 };

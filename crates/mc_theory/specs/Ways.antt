@@ -1,0 +1,93 @@
+-- Ways of a flow's packets over the rows of the domain: which LANs they lead to, and which packets
+-- get through. A way is told backwards, its last hop first.
+use Rattle.std.specs.Prelude.{◌≡◌, ℕ, ◌+◌, ◌<◌, max, not, ◌==◌, if◌then◌else◌, List, [], ◌∷◌, filter}
+use Rattle.std.specs.Prelude.{length, Some, None, ⊤}
+use Rattle.mc_theory.specs.Lists.{In}
+use Rattle.mc_theory.specs.Nets.{Net, Row, Interface}
+use Rattle.mc_theory.specs.Nets.Row.{Exact, Open, NoRow}
+use Rattle.mc_theory.specs.Flights.{Copy, Flight}
+use Rattle.mc_theory.specs.Findings.{copy_on}
+use Rattle.mc_theory.specs.Shown.{IsFirstDouble}
+
+-- ---- ways
+
+-- A router takes a copy from a LAN and sends it onto another by a vif, above a threshold.
+pub record Hop : Type 0 where
+  pub from : ℕ
+  pub router : ℕ
+  pub vif : ℕ
+  pub threshold : ℕ
+  pub onto : ℕ
+
+-- Its exact row takes from the one LAN, and has a pair of the vif, which is placed on the other.
+pub record IsHop (n : Net) (h : Hop) : Type 0 where
+  pub incoming : ℕ
+  pub pairs : List (ℕ × ℕ)
+  pub row : n.row h.router ≡ Exact incoming pairs
+  pub takes : n.placed h.router incoming ≡ Some h.from
+  pub pair : In (h.vif, h.threshold) pairs
+  pub sends : n.placed h.router h.vif ≡ Some h.onto
+
+-- These hops lead from LAN a to LAN b.
+abbrev pub IsWay : Net → ℕ → List Hop → ℕ → Type 0
+IsWay n a [] b = a ≡ b
+IsWay n a (h ∷ hs) b = (h.onto ≡ b) × IsHop n h × IsWay n a hs h.from
+
+-- ---- who gets through
+
+-- A packet sent with TTL t gets through: at each hop its TTL, which is less by the hops before, is
+-- greater than the threshold.
+abbrev pub Passes : ℕ → List Hop → Type 0
+Passes t [] = ⊤
+Passes t (h ∷ hs) = (length hs + h.threshold < t) × Passes t hs
+
+-- the least TTL with which one gets through
+abbrev pub need : List Hop → ℕ
+need [] = 1
+need (h ∷ hs) = max (need hs) (length hs + h.threshold + 1)
+
+-- Some way leads from the source's LAN to LAN l, the time to live aside;
+abbrev pub IsReached : Net → ℕ → Type 0
+IsReached n l = (hs : List Hop) × IsWay n n.source hs l
+
+-- and one by which packets sent with TTL t get through.
+abbrev pub IsReachedWith : Net → ℕ → ℕ → Type 0
+IsReachedWith n t l = (hs : List Hop) × IsWay n n.source hs l × Passes t hs
+
+-- ---- the way of a copy
+
+-- Copy c came by these hops from the source's LAN: the first is its own sender's, from a LAN whose
+-- first copy came by the rest.
+abbrev pub CameBy : Net → List Copy → Copy → List Hop → Type 0
+CameBy n cs c [] = c.sender ≡ None
+CameBy n cs c (h ∷ hs) =
+    (c.sender ≡ Some (h.router, h.vif)) × (h.onto ≡ c.lan) × IsHop n h
+    × ((b : Copy) × (copy_on cs h.from ≡ Some b) × CameBy n cs b hs)
+
+-- ---- a remedy
+
+-- a row without the pairs of vif v
+abbrev pub row_without : ℕ → Row → Row
+row_without v (Exact incoming pairs) = Exact incoming (filter (λ p. not (p.0 == v)) pairs)
+row_without v Open = Open
+row_without v NoRow = NoRow
+
+-- The domain where interface i is taken out of its router's row; all else is the same.
+abbrev pub take_out : Interface → Net → Net
+take_out i n = record {
+  routers = n.routers;
+  placed = n.placed;
+  row = λ r. if r == i.0 then row_without i.1 (n.row r) else n.row r;
+  wants = n.wants;
+  source = n.source;
+  ttl = n.ttl;
+}
+
+-- Interface i sent the flight's first double copy c, and the first copy of its LAN came by these
+-- hops.
+pub record IsSpare (n : Net) (f : Flight) (c : Copy) (i : Interface) (hs : List Hop) : Type 0 where
+  pub double : IsFirstDouble f.carried c
+  pub sender : c.sender ≡ Some i
+  pub first : Copy
+  pub first_on : copy_on f.carried c.lan ≡ Some first
+  pub came : CameBy n f.carried first hs

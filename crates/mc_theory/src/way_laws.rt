@@ -1,0 +1,39 @@
+//! Over which rows a flow's packets reach a LAN, and what a double copy's sender may be spared for.
+
+ghost use Rattle.std.specs.Prelude.{◌≡◌, ◌↔◌, ◌≤◌, ◌+◌, ℕ, Bool, List, length};
+ghost use Rattle.mc_theory.specs.Lists.{In};
+ghost use Rattle.mc_theory.specs.Nets.{Net, IsNet};
+ghost use Rattle.mc_theory.specs.Flights.{Copy, Pick, start, run};
+ghost use Rattle.mc_theory.specs.Certificates.{Entry, IsTree, lans};
+ghost use Rattle.mc_theory.specs.Findings.{Finding, IsTravel, handles};
+ghost use Rattle.mc_theory.specs.Ways.{Hop, IsWay, Passes, need, IsReachedWith, CameBy};
+
+/// A packet gets through by a way exactly if its TTL is at least the way's need.
+pub fn what_passes_is_a_matter_of_need()
+    ensures { (t : ℕ) (hs : List Hop) → 1 ≤ t → Passes t hs ↔ (need hs ≤ t) }
+{}
+
+/// Where a list of entries meets all conditions but the last, an entry's need is the least TTL
+/// that reaches its LAN.
+pub fn the_least_ttl_reaches()
+    ensures { (n : Net) (es : List Entry) (e : Entry) (t : ℕ) → IsTree n es → In e es →
+        1 ≤ t → t ≤ 255 → IsReachedWith n t e.lan ↔ (e.need ≤ t) }
+{}
+
+/// In every run each LAN that carried a copy is reached by a way that such a packet gets through.
+/// In the flight that a travel ends with each copy came by hops, and these are such a way, at
+/// each of which it lost one TTL.
+pub fn a_carried_copy_came_by_a_way()
+    ensures reached { (n : Net) (t : ℕ) (ps : List Pick) (l : ℕ) →
+        In l (lans (run n ps (start n t)).carried) → IsReachedWith n t l }
+    ensures came { (n : Net) (count t : ℕ) (numbers : List ℕ) (last : Bool) (is : List ℕ)
+        (x : Finding) (c : Copy) → IsTravel n count numbers last is (start n t) x →
+        In c (run n (handles is) (start n t)).carried →
+        (hs : List Hop) × CameBy n (run n (handles is) (start n t)).carried c hs }
+    ensures way { (n : Net) (count t : ℕ) (numbers : List ℕ) (last : Bool) (is : List ℕ)
+        (x : Finding) (c : Copy) (hs : List Hop) →
+        IsNet n → IsTravel n count numbers last is (start n t) x →
+        In c (run n (handles is) (start n t)).carried →
+        CameBy n (run n (handles is) (start n t)).carried c hs →
+        IsWay n n.source hs c.lan × Passes t hs × (c.ttl + length hs ≡ t) }
+{}

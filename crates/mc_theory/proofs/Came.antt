@@ -53,10 +53,10 @@ headed-only n t cs c h c_in e = elim (subst (λ xs. In c xs) h.head c_in) [
 
 -- ---- copies came by ways
 
-same-copy : (o : Option Copy) (b d : Copy) → o ≡ Some b → o ≡ Some d → b ≡ d
+pub same-copy : (o : Option Copy) (b d : Copy) → o ≡ Some b → o ≡ Some d → b ≡ d
 same-copy o b d p q = let both : Some b ≡ Some d = sym p ∙ q in cc
 
-same-lan : (o : Option ℕ) (k l : ℕ) → o ≡ Some k → o ≡ Some l → k ≡ l
+pub same-lan : (o : Option ℕ) (k l : ℕ) → o ≡ Some k → o ≡ Some l → k ≡ l
 same-lan o k l p q = let both : Some k ≡ Some l = sym p ∙ q in cc
 
 -- a copy came by the hops of its walk back

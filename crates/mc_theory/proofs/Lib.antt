@@ -19,6 +19,7 @@ pub mod Shown
 pub mod Told
 pub mod Ways
 pub mod Came
+pub mod Ranks
 pub mod WorkedNetworks
 pub mod WorkedReasons
 pub mod WorkedTravels

@@ -29,5 +29,6 @@ pub use travel_laws::{
     the_walk_back_ends,
 };
 pub use way_laws::{
-    a_carried_copy_came_by_a_way, the_least_ttl_reaches, what_passes_is_a_matter_of_need,
+    a_carried_copy_came_by_a_way, the_first_copy_has_the_least_rank, the_least_ttl_reaches,
+    what_passes_is_a_matter_of_need,
 };

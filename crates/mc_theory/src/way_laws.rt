@@ -1,11 +1,12 @@
 //! Over which rows a flow's packets reach a LAN, and what a double copy's sender may be spared for.
 
-ghost use Rattle.std.specs.Prelude.{◌≡◌, ◌↔◌, ◌≤◌, ◌+◌, ℕ, Bool, List, length};
+ghost use Rattle.std.specs.Prelude.{◌≡◌, ◌↔◌, ◌≤◌, ◌+◌, ℕ, Bool, false, List, []};
+ghost use Rattle.std.specs.Prelude.{length, Some};
 ghost use Rattle.mc_theory.specs.Lists.{In};
 ghost use Rattle.mc_theory.specs.Nets.{Net, IsNet};
 ghost use Rattle.mc_theory.specs.Flights.{Copy, Pick, start, run};
 ghost use Rattle.mc_theory.specs.Certificates.{Entry, IsTree, lans};
-ghost use Rattle.mc_theory.specs.Findings.{Finding, IsTravel, handles};
+ghost use Rattle.mc_theory.specs.Findings.{Finding, copy_on, IsTravel, handles};
 ghost use Rattle.mc_theory.specs.Ways.{Hop, IsWay, Passes, need, IsReachedWith, CameBy};
 
 /// A packet gets through by a way exactly if its TTL is at least the way's need.
@@ -36,4 +37,13 @@ pub fn a_carried_copy_came_by_a_way()
         In c (run n (handles is) (start n t)).carried →
         CameBy n (run n (handles is) (start n t)).carried c hs →
         IsWay n n.source hs c.lan × Passes t hs × (c.ttl + length hs ≡ t) }
+{}
+
+/// In a travel of the first waiting copy each time a LAN's first copy has the least rank: it lost
+/// no more TTL than there are hops in any way that such a packet gets through.
+pub fn the_first_copy_has_the_least_rank()
+    ensures { (n : Net) (count t : ℕ) (is : List ℕ) (x : Finding) (l : ℕ) (c : Copy)
+        (hs : List Hop) → IsNet n → IsTravel n count [] false is (start n t) x →
+        copy_on (run n (handles is) (start n t)).carried l ≡ Some c → IsWay n n.source hs l →
+        Passes t hs → t ≤ c.ttl + length hs }
 {}

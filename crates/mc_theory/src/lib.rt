@@ -30,5 +30,5 @@ pub use travel_laws::{
 };
 pub use way_laws::{
     a_carried_copy_came_by_a_way, the_first_copy_has_the_least_rank, the_least_ttl_reaches,
-    what_passes_is_a_matter_of_need,
+    the_remedy_keeps_what_is_reached, what_passes_is_a_matter_of_need,
 };

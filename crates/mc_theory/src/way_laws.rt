@@ -1,13 +1,14 @@
 //! Over which rows a flow's packets reach a LAN, and what a double copy's sender may be spared for.
 
-ghost use Rattle.std.specs.Prelude.{◌≡◌, ◌↔◌, ◌≤◌, ◌+◌, ℕ, Bool, false, List, []};
-ghost use Rattle.std.specs.Prelude.{length, Some};
+ghost use Rattle.std.specs.Prelude.{◌≡◌, ◌↔◌, ◌≤◌, ◌+◌, ℕ, Bool, false, List, [], length, Some};
 ghost use Rattle.mc_theory.specs.Lists.{In};
-ghost use Rattle.mc_theory.specs.Nets.{Net, IsNet};
+ghost use Rattle.mc_theory.specs.Nets.{Net, IsNet, Interface};
 ghost use Rattle.mc_theory.specs.Flights.{Copy, Pick, start, run};
 ghost use Rattle.mc_theory.specs.Certificates.{Entry, IsTree, lans};
 ghost use Rattle.mc_theory.specs.Findings.{Finding, copy_on, IsTravel, handles};
-ghost use Rattle.mc_theory.specs.Ways.{Hop, IsWay, Passes, need, IsReachedWith, CameBy};
+ghost use Rattle.mc_theory.specs.Shown.{IsFirstDouble};
+ghost use Rattle.mc_theory.specs.Ways.{Hop, IsWay, Passes, need, IsReached, IsReachedWith, CameBy};
+ghost use Rattle.mc_theory.specs.Ways.{take_out, IsSpare};
 
 /// A packet gets through by a way exactly if its TTL is at least the way's need.
 pub fn what_passes_is_a_matter_of_need()
@@ -46,4 +47,33 @@ pub fn the_first_copy_has_the_least_rank()
         (hs : List Hop) → IsNet n → IsTravel n count [] false is (start n t) x →
         copy_on (run n (handles is) (start n t)).carried l ≡ Some c → IsWay n n.source hs l →
         Passes t hs → t ≤ c.ttl + length hs }
+{}
+
+/// A travel of the first waiting copy each time, of a packet with TTL 255, whose flight has a
+/// second copy on a LAN shows a remedy: the interface that sent it can be taken out of its router's
+/// row.
+pub fn the_remedy_keeps_what_is_reached()
+    // There is one, whatever the picker,
+    ensures there_is_one { (n : Net) (count t : ℕ) (numbers : List ℕ) (last : Bool) (is : List ℕ)
+        (x : Finding) (c : Copy) → IsTravel n count numbers last is (start n t) x →
+        IsFirstDouble (run n (handles is) (start n t)).carried c →
+        (i : Interface) × (hs : List Hop) × IsSpare n (run n (handles is) (start n t)) c i hs }
+    // and the LAN of the second copy is reached without it, by the first copy's way.
+    ensures the_way_stands { (n : Net) (count t : ℕ) (numbers : List ℕ) (last : Bool)
+        (is : List ℕ) (x : Finding) (c : Copy) (i : Interface) (hs : List Hop) →
+        IsNet n → IsTravel n count numbers last is (start n t) x →
+        IsSpare n (run n (handles is) (start n t)) c i hs →
+        IsWay (take_out i n) n.source hs c.lan }
+    // Each LAN that is reached is reached without it,
+    ensures reached { (n : Net) (count : ℕ) (is : List ℕ) (x : Finding)
+        (c : Copy) (i : Interface) (hs : List Hop) (m : ℕ) →
+        IsNet n → IsTravel n count [] false is (start n 255) x →
+        IsSpare n (run n (handles is) (start n 255)) c i hs →
+        IsReached n m → IsReached (take_out i n) m }
+    // and by packets with the same TTL, if it is one that the first copy's way needs.
+    ensures reached_with { (n : Net) (count : ℕ) (is : List ℕ) (x : Finding)
+        (c : Copy) (i : Interface) (hs : List Hop) (t m : ℕ) →
+        IsNet n → IsTravel n count [] false is (start n 255) x →
+        IsSpare n (run n (handles is) (start n 255)) c i hs → need hs ≤ t → t ≤ 255 →
+        IsReachedWith n t m → IsReachedWith (take_out i n) t m }
 {}

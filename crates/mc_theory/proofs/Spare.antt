@@ -11,18 +11,19 @@ use Rattle.mc_theory.specs.Flights.{Copy, Waiting, Flight, is_sender, leave, sen
 use Rattle.mc_theory.specs.Flights.{handle_by, handle, without, first_copy, start, run}
 use Rattle.mc_theory.specs.Certificates.{lans}
 use Rattle.mc_theory.specs.Findings.{Finding, copy_on, IsTravel, handles}
-use Rattle.mc_theory.specs.Shown.{IsFirstDouble}
+use Rattle.mc_theory.specs.Findings.Finding.{Duplicate}
+use Rattle.mc_theory.specs.Shown.{IsFirstDouble, Shows}
 use Rattle.mc_theory.specs.Ways.{Hop, IsHop, IsWay, Passes, need, IsReached, IsReachedWith}
-use Rattle.mc_theory.specs.Ways.{CameBy, row_without, take_out, IsSpare}
+use Rattle.mc_theory.specs.Ways.{CameBy, row_without, take_out, IsSpare, CameTwice}
 use Rattle.mc_theory.proofs.InLists.{in-append_right, in-push_cases, in-map, in-map_cases}
-use Rattle.mc_theory.proofs.InLists.{in-filter, distinct-append, distinct-apart}
+use Rattle.mc_theory.proofs.InLists.{in-filter, in-filter_cases, distinct-append, distinct-apart}
 use Rattle.mc_theory.proofs.Invariant.{Inv, same_pair, is_sender-true, is_sender-from, map-append'}
 use Rattle.mc_theory.proofs.Steps.{mid-begin}
 use Rattle.mc_theory.proofs.Complete.{copy-found}
 use Rattle.mc_theory.proofs.Walks.{first-in, first-stays}
 use Rattle.mc_theory.proofs.Ways.{passes-need, need-passes, need-low}
 use Rattle.mc_theory.proofs.Came.{Headed, headed, same-copy, same-lan, first-lan, first-double_in}
-use Rattle.mc_theory.proofs.Came.{travel-rooted, came, came-by_way}
+use Rattle.mc_theory.proofs.Came.{travel-rooted, walk-came, came, came-by_way}
 use Rattle.mc_theory.proofs.Ranks.{StepKeeps, travel-keeps, least-ranks}
 
 -- ---- no interface sent two of a travel's copies
@@ -329,3 +330,75 @@ kept n count is x c i hs m net travel s reached =
     let j = another n i 255 c.lan hs on.0 on.1 (good n count is x c i hs 255 net travel s least
     (omega arith)) reached.0 m reached.1 in
     (j.0, j.1)
+
+-- ---- the domain without it
+
+distinct-left_step : (p : ℕ × ℕ → Bool) (q : ℕ × ℕ) (ps : List (ℕ × ℕ)) (test : Bool) →
+    (In q.0 (vifs ps) → ⊥) → Distinct (vifs (filter p ps)) →
+    Distinct (vifs (cond test (q ∷ filter p ps) (filter p ps)))
+distinct-left_step p q ps true new d = (
+  (λ h. (let x = in-map_cases (λ (p : ℕ × ℕ). p.0) q.0 (filter p ps) h in
+      new (subst (λ v. In v (vifs ps)) x.2 (in-map (λ (p : ℕ × ℕ). p.0) x.0 ps
+      (in-filter_cases p x.0 ps x.1).0)))),
+  d,
+)
+distinct-left_step p q ps false new d = d
+
+vifs-left : (p : ℕ × ℕ → Bool) (ps : List (ℕ × ℕ)) → Distinct (vifs ps) →
+    Distinct (vifs (filter p ps))
+vifs-left p [] d = tt
+vifs-left p (q ∷ ps) d = distinct-left_step p q ps (p q) d.0 (vifs-left p ps d.1)
+
+row-left : (w v : ℕ) (row : Row) (pairs : List (ℕ × ℕ)) (test : Bool) →
+    ((ps : List (ℕ × ℕ)) → row ≡ Exact v ps → Distinct (vifs ps)) →
+    cond test (row_without w row) row ≡ Exact v pairs → Distinct (vifs pairs)
+row-left w v row pairs false d e = d pairs e
+row-left w v (Exact incoming ps) pairs true d e =
+    let vif : incoming ≡ v = cc in
+    let same : filter (λ p. not (p.0 == w)) ps ≡ pairs = cc in
+    subst (λ qs. Distinct (vifs qs)) same (vifs-left (λ p. not (p.0 == w)) ps
+    (d ps (ap (λ (x : ℕ). Exact x ps) vif)))
+row-left w v Open pairs true d e = absurd cc
+row-left w v NoRow pairs true d e = absurd cc
+
+pub still-net : (n : Net) (i : Interface) → IsNet n → IsNet (take_out i n)
+still-net n i net = record {
+  router = net.router;
+  vif = net.vif;
+  vifs = λ r v pairs e. row-left i.1 v (n.row r) pairs (r == i.0) (net.vifs r v) e;
+}
+
+-- ---- the two ways of a duplicate
+
+pub twice : (n : Net) (count t : ℕ) (numbers : List ℕ) (last : Bool) (is : List ℕ) (x : Finding)
+    (l : ℕ) → IsNet n → IsTravel n count numbers last is (start n t) x →
+    Shows n (run n (handles is) (start n t)) (Duplicate l) →
+    CameTwice n (run n (handles is) (start n t)).carried l
+twice n count t numbers last is x l net travel shows =
+    let cs = (run n (handles is) (start n t)).carried in
+    let d = shows.0 in
+    let r = travel-rooted n count t numbers last is x travel in
+    let c_in = first-double_in cs d.copy d.first in
+    let over = walk-came n t cs d.copy d.walk r c_in d.back in
+    let leads = (came-by_way n count t numbers last is x d.copy over.0 net travel c_in over.1).0 in
+    let a = first-of_double cs d.copy d.first in
+    let a_in = first-in cs d.copy.lan a.0 a.1 in
+    let way = came n count t numbers last is x a.0 travel a_in in
+    let first = (came-by_way n count t numbers last is x a.0 way.0 net travel a_in way.1).0 in
+    let lan : a.0.lan ≡ l = first-lan cs d.copy.lan a.0 a.1 ∙ d.lan in
+    record {
+      first = a.0;
+      second = d.copy;
+      first_on = subst (λ k. copy_on cs k ≡ Some a.0) d.lan a.1;
+      double = d.first;
+      lan = d.lan;
+      senders = other-sender cs d.copy a.0 (senders-once n count t numbers last is x net travel)
+          d.first a.1;
+      first_way = way.0;
+      first_came = way.1;
+      first_leads = subst (IsWay n n.source way.0) lan first;
+      second_way = over.0;
+      second_came = over.1;
+      second_leads = subst (IsWay n n.source over.0) d.lan leads;
+      not_before = λ h. shows.1 (subst (λ ls. In l ls) over.2 h);
+    }

@@ -1,7 +1,7 @@
 -- Ways of a flow's packets over the rows of the domain: which LANs they lead to, and which packets
 -- get through. A way is told backwards, its last hop first.
-use Rattle.std.specs.Prelude.{◌≡◌, ℕ, ◌+◌, ◌<◌, max, not, ◌==◌, if◌then◌else◌, List, [], ◌∷◌, filter}
-use Rattle.std.specs.Prelude.{length, Some, None, ⊤}
+use Rattle.std.specs.Prelude.{◌≡◌, ◌≢◌, ℕ, ◌+◌, ◌<◌, max, not, ◌==◌, if◌then◌else◌, List, [], ◌∷◌, filter}
+use Rattle.std.specs.Prelude.{length, map, Some, None, ⊤}
 use Rattle.mc_theory.specs.Lists.{In}
 use Rattle.mc_theory.specs.Nets.{Net, Row, Interface}
 use Rattle.mc_theory.specs.Nets.Row.{Exact, Open, NoRow}
@@ -91,3 +91,22 @@ pub record IsSpare (n : Net) (f : Flight) (c : Copy) (i : Interface) (hs : List 
   pub first : Copy
   pub first_on : copy_on f.carried c.lan ≡ Some first
   pub came : CameBy n f.carried first hs
+
+-- ---- two copies of a LAN
+
+-- The LAN's first copy and its second, which is the flight's first double one, came by two ways:
+-- the last hops are by two senders, and the second way doesn't come by the LAN before its end.
+pub record CameTwice (n : Net) (cs : List Copy) (l : ℕ) : Type 0 where
+  pub first : Copy
+  pub second : Copy
+  pub first_on : copy_on cs l ≡ Some first
+  pub double : IsFirstDouble cs second
+  pub lan : second.lan ≡ l
+  pub senders : first.sender ≢ second.sender
+  pub first_way : List Hop
+  pub first_came : CameBy n cs first first_way
+  pub first_leads : IsWay n n.source first_way l
+  pub second_way : List Hop
+  pub second_came : CameBy n cs second second_way
+  pub second_leads : IsWay n n.source second_way l
+  pub not_before : In l (map (λ h. h.from) second_way) → ⊥

@@ -1,14 +1,16 @@
 //! Over which rows a flow's packets reach a LAN, and what a double copy's sender may be spared for.
 
-ghost use Rattle.std.specs.Prelude.{◌≡◌, ◌↔◌, ◌≤◌, ◌+◌, ℕ, Bool, false, List, [], length, Some};
+ghost use Rattle.std.specs.Prelude.{◌≡◌, ◌↔◌, ◌≤◌, ◌+◌, ℕ, Bool, false, List, [], ◌∷◌};
+ghost use Rattle.std.specs.Prelude.{length, Some};
 ghost use Rattle.mc_theory.specs.Lists.{In};
 ghost use Rattle.mc_theory.specs.Nets.{Net, IsNet, Interface};
 ghost use Rattle.mc_theory.specs.Flights.{Copy, Pick, start, run};
 ghost use Rattle.mc_theory.specs.Certificates.{Entry, IsTree, lans};
 ghost use Rattle.mc_theory.specs.Findings.{Finding, copy_on, IsTravel, handles};
-ghost use Rattle.mc_theory.specs.Shown.{IsFirstDouble};
+ghost use Rattle.mc_theory.specs.Findings.Finding.{Duplicate, Loop};
+ghost use Rattle.mc_theory.specs.Shown.{IsFirstDouble, Shows};
 ghost use Rattle.mc_theory.specs.Ways.{Hop, IsWay, Passes, need, IsReached, IsReachedWith, CameBy};
-ghost use Rattle.mc_theory.specs.Ways.{take_out, IsSpare};
+ghost use Rattle.mc_theory.specs.Ways.{take_out, IsSpare, CameTwice};
 
 /// A packet gets through by a way exactly if its TTL is at least the way's need.
 pub fn what_passes_is_a_matter_of_need()
@@ -76,4 +78,22 @@ pub fn the_remedy_keeps_what_is_reached()
         IsNet n → IsTravel n count [] false is (start n 255) x →
         IsSpare n (run n (handles is) (start n 255)) c i hs → need hs ≤ t → t ≤ 255 →
         IsReachedWith n t m → IsReachedWith (take_out i n) t m }
+    // What is left is a domain, of which all laws hold.
+    ensures net { (n : Net) (i : Interface) → IsNet n → IsNet (take_out i n) }
+{}
+
+/// A loop is a closed way: hops lead from the LAN back to it, and the last is by the sender of its
+/// second copy. A duplicate is two ways from the source's LAN, whose last hops are by two senders.
+pub fn a_second_copy_came_by_another_way()
+    ensures loop_closes { (n : Net) (count t : ℕ) (numbers : List ℕ) (last : Bool) (is : List ℕ)
+        (x : Finding) (l : ℕ) → IsTravel n count numbers last is (start n t) x →
+        Shows n (run n (handles is) (start n t)) (Loop l) →
+        (c : Copy) × (h : Hop) × (hs : List Hop)
+        × IsFirstDouble (run n (handles is) (start n t)).carried c
+        × (c.sender ≡ Some (h.router, h.vif)) × IsWay n l (h ∷ hs) l }
+    ensures duplicate_came_twice { (n : Net) (count t : ℕ) (numbers : List ℕ) (last : Bool)
+        (is : List ℕ) (x : Finding) (l : ℕ) →
+        IsNet n → IsTravel n count numbers last is (start n t) x →
+        Shows n (run n (handles is) (start n t)) (Duplicate l) →
+        CameTwice n (run n (handles is) (start n t)).carried l }
 {}

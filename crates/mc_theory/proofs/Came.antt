@@ -12,7 +12,7 @@ use Rattle.mc_theory.specs.Findings.{handles}
 use Rattle.mc_theory.specs.Findings.Finding.{Loop}
 use Rattle.mc_theory.specs.Origins.{IsSentOn}
 use Rattle.mc_theory.specs.Shown.{IsFirstDouble, Shows}
-use Rattle.mc_theory.specs.Ways.{Hop, IsHop, IsWay, Passes, CameBy}
+use Rattle.mc_theory.specs.Ways.{Hop, IsHop, IsWay, Passes, CameBy, CameBack}
 use Rattle.mc_theory.proofs.InLists.{in-append_cases, in-append_right, same-by_image}
 use Rattle.mc_theory.proofs.Origins.{StepGrows, heard-start}
 use Rattle.mc_theory.proofs.Walks.{IsRooted, rooted, rooted-start, first-in, walks}
@@ -183,10 +183,8 @@ first-double_in cs c d = subst (λ xs. In c xs) (sym d.split) (in-append_right c
 
 pub closed : (n : Net) (count t : ℕ) (numbers : List ℕ) (last : Bool) (is : List ℕ) (x : Finding)
     (l : ℕ) → IsTravel n count numbers last is (start n t) x →
-    Shows n (run n (handles is) (start n t)) (Loop l)
-    → (c : Copy) × (h : Hop) × (hs : List Hop) ×
-    IsFirstDouble (run n (handles is) (start n t)).carried c ×
-    (c.sender ≡ Some (h.router, h.vif)) × IsWay n l (h ∷ hs) l
+    Shows n (run n (handles is) (start n t)) (Loop l) →
+    CameBack n (run n (handles is) (start n t)).carried l
 closed n count t numbers last is x l travel shows =
     let cs = (run n (handles is) (start n t)).carried in
     let d = shows.0 in
@@ -194,4 +192,12 @@ closed n count t numbers last is x l travel shows =
     (first-double_in cs d.copy d.first) d.back in
     let by = subst (λ ls. In l ls) (sym over.2) shows.1 in
     let on = came-on n cs d.copy over.0 l over.1 by in
-    (d.copy, on.0, on.1, d.first, on.2, subst (IsWay n l (on.0 ∷ on.1)) d.lan on.3)
+    record {
+      second = d.copy;
+      double = d.first;
+      lan = d.lan;
+      last_hop = on.0;
+      sender = on.2;
+      before = on.1;
+      closed = subst (IsWay n l (on.0 ∷ on.1)) d.lan on.3;
+    }

@@ -3,6 +3,7 @@ use Rattle.std.proofs.Common.{◌≡◌, ◌≢◌, ℕ, ◌-◌, ◌≤◌, inl
 use Rattle.std.proofs.Common.{not, ◌==◌, nat_lt, List, [], ◌∷◌, ◌++◌, map, filter, length}
 use Rattle.std.proofs.Common.{slice_get, Option, Some, None, refl, ap, sym, ◌∙◌, subst, arith}
 use Rattle.std.proofs.Common.{eqb-true}
+use Rattle.std.specs.Prelude.{⊤}
 use Rattle.std.proofs.lemmas.Bool.{not_from_false, false_from_ne_true}
 use Rattle.mc_theory.specs.Lists.{In, Distinct}
 use Rattle.mc_theory.specs.Nets.{Net, IsNet, Row, Interface}
@@ -228,46 +229,45 @@ way-kept n i l m cs a b (h ∷ hs) on first other b_on came way =
 
 -- ---- another way
 
--- these hops are as good as any way to LAN l, for packets sent with TTL t
-abbrev AsGood : Net → ℕ → ℕ → List Hop → Type 0
-AsGood n t l hs = (ks : List Hop) → IsWay n n.source ks l → Passes t ks →
-    Passes t hs × (length hs ≤ length ks)
+-- js serves as ks does, to which a hop can be added
+abbrev Serves : (List Hop → List Hop → Type 0) → Type 0
+Serves R = R [] [] × ((k : Hop) (ks js : List Hop) → R ks js → R (k ∷ ks) (k ∷ js))
 
--- a way without i to LAN m that is as good as this one
-abbrev Another : Net → Interface → ℕ → List Hop → ℕ → Type 0
-Another n i t ks m = (js : List Hop) × IsWay (take_out i n) n.source js m ×
-    (Passes t ks → Passes t js × (length js ≤ length ks))
+-- a way without i to LAN m that serves as this one does
+abbrev Another : Net → Interface → (List Hop → List Hop → Type 0) → List Hop → ℕ → Type 0
+Another n i R ks m = (js : List Hop) × IsWay (take_out i n) n.source js m × R ks js
 
-another-hop : (n : Net) (i : Interface) (t l : ℕ) (hs : List Hop) (k : Hop) (ks : List Hop) (m : ℕ)
-    (test : Bool) → is_sender (Some (k.router, k.vif)) i ≡ test → n.placed i.0 i.1 ≡ Some l →
-    IsWay (take_out i n) n.source hs l → AsGood n t l hs → IsWay n n.source (k ∷ ks) m →
-    Another n i t ks k.from → Another n i t (k ∷ ks) m
-another-hop n i t l hs k ks m true q on stands good way up =
+-- a way to LAN l that serves as each other does
+abbrev Best : Net → Interface → (List Hop → List Hop → Type 0) → ℕ → Type 0
+Best n i R l = (n.placed i.0 i.1 ≡ Some l) × ((hs : List Hop) ×
+    IsWay (take_out i n) n.source hs l ×
+    ((ks : List Hop) → IsWay n n.source ks l → R ks hs))
+
+another-hop : (n : Net) (i : Interface) (R : List Hop → List Hop → Type 0) (l : ℕ) (k : Hop)
+    (ks : List Hop) (m : ℕ) (test : Bool) → is_sender (Some (k.router, k.vif)) i ≡ test →
+    Serves R → Best n i R l → IsWay n n.source (k ∷ ks) m → Another n i R ks k.from →
+    Another n i R (k ∷ ks) m
+another-hop n i R l k ks m true q serves best way up =
     let both = is_sender-true (Some (k.router, k.vif)) i q in
     let same : ◌≡◌ {A = Interface} (k.router, k.vif) i = cc in
     let onto : n.placed i.0 i.1 ≡ Some k.onto = ap (λ (x : Interface). n.placed x.0 x.1)
     (sym same) ∙ way.1.sends in
-    let lan : l ≡ m = same-lan (n.placed i.0 i.1) l k.onto on onto ∙ way.0 in (
-      hs,
-      subst (IsWay (take_out i n) n.source hs) lan stands,
-      good (k ∷ ks) (subst (IsWay n n.source (k ∷ ks)) (sym lan) way),
+    let lan : l ≡ m = same-lan (n.placed i.0 i.1) l k.onto best.0 onto ∙ way.0 in (
+      best.1.0,
+      subst (IsWay (take_out i n) n.source best.1.0) lan best.1.1,
+      best.1.2 (k ∷ ks) (subst (IsWay n n.source (k ∷ ks)) (sym lan) way),
     )
-another-hop n i t l hs k ks m false q on stands good way up =
+another-hop n i R l k ks m false q serves best way up =
     let mine : ◌≢◌ {A = Interface} (k.router, k.vif) i = λ e.
-    (let y = is_sender-from (Some (k.router, k.vif)) i (ap Some e) in absurd cc) in (
-      k ∷ up.0,
-      (way.0, hop-kept n i k mine way.1, up.1),
-      λ p. (let j = up.2 p.1 in let le = j.1 in let lt = p.0 in
-          ((omega (arith, le, lt), j.0), omega (arith, le))),
-    )
+    (let y = is_sender-from (Some (k.router, k.vif)) i (ap Some e) in absurd cc) in
+    (k ∷ up.0, (way.0, hop-kept n i k mine way.1, up.1), serves.1 k ks up.0 up.2)
 
-another : (n : Net) (i : Interface) (t l : ℕ) (hs : List Hop) → n.placed i.0 i.1 ≡ Some l →
-    IsWay (take_out i n) n.source hs l → AsGood n t l hs → (ks : List Hop) (m : ℕ) →
-    IsWay n n.source ks m → Another n i t ks m
-another n i t l hs on stands good [] m way = ([], way, λ p. (tt, omega arith))
-another n i t l hs on stands good (k ∷ ks) m way = another-hop n i t l hs k ks m
-    (is_sender (Some (k.router, k.vif)) i) refl on stands good way
-    (another n i t l hs on stands good ks k.from way.2)
+another : (n : Net) (i : Interface) (R : List Hop → List Hop → Type 0) (l : ℕ) → Serves R →
+    Best n i R l → (ks : List Hop) (m : ℕ) → IsWay n n.source ks m → Another n i R ks m
+another n i R l serves best [] m way = ([], way, serves.0)
+another n i R l serves best (k ∷ ks) m way = another-hop n i R l k ks m
+    (is_sender (Some (k.router, k.vif)) i) refl serves best way
+    (another n i R l serves best ks k.from way.2)
 
 -- ---- the remedy
 
@@ -292,44 +292,52 @@ stands n count t numbers last is x c i hs net travel s =
           (subst (IsWay n n.source hs) lan way.0),
     )
 
--- it is as good as any, for packets that it lets through
-good : (n : Net) (count : ℕ) (is : List ℕ) (x : Finding) (c : Copy) (i : Interface)
-    (hs : List Hop) (t : ℕ) → IsNet n → IsTravel n count [] false is (start n 255) x →
-    IsSpare n (run n (handles is) (start n 255)) c i hs → need hs ≤ t → t ≤ 255 →
-    AsGood n t c.lan hs
-good n count is x c i hs t net travel s least high ks way p =
-    let cs = (run n (handles is) (start n 255)).carried in
+pub kept : (n : Net) (count t : ℕ) (numbers : List ℕ) (last : Bool) (is : List ℕ) (x : Finding)
+    (c : Copy) (i : Interface) (hs : List Hop) (m : ℕ) → IsNet n →
+    IsTravel n count numbers last is (start n t) x →
+    IsSpare n (run n (handles is) (start n t)) c i hs → IsReached n m → IsReached (take_out i n) m
+kept n count t numbers last is x c i hs m net travel s reached =
+    let on = stands n count t numbers last is x c i hs net travel s in
+    let j = another n i (λ _ _. ⊤) c.lan (tt, λ k ks js r. tt) (on.0, (hs, on.1, λ ks way. tt))
+    reached.0 m reached.1 in
+    (j.0, j.1)
+
+-- packets sent with TTL t that get through by ks do so by js, which is no longer
+abbrev AsGood : ℕ → List Hop → List Hop → Type 0
+AsGood t ks js = Passes t ks → Passes t js × (length js ≤ length ks)
+
+as-good-on : (t : ℕ) (k : Hop) (ks js : List Hop) → AsGood t ks js → AsGood t (k ∷ ks) (k ∷ js)
+as-good-on t k ks js good p =
+    let j = good p.1 in
+    let le = j.1 in
+    let lt = p.0 in
+    ((omega (arith, le, lt), j.0), omega (arith, le))
+
+-- the first copy's way is as good as any
+first-as-good : (n : Net) (count high : ℕ) (is : List ℕ) (x : Finding) (c : Copy) (i : Interface)
+    (hs : List Hop) (t : ℕ) → IsNet n → IsTravel n count [] false is (start n high) x →
+    IsSpare n (run n (handles is) (start n high)) c i hs → need hs ≤ t → t ≤ high →
+    (ks : List Hop) → IsWay n n.source ks c.lan → AsGood t ks hs
+first-as-good n count high is x c i hs t net travel s least le ks way p =
+    let cs = (run n (handles is) (start n high)).carried in
     let first_in = first-in cs c.lan s.first s.first_on in
-    let ttl = (came-by_way n count 255 [] false is x s.first hs net travel first_in s.came).2 in
+    let ttl = (came-by_way n count high [] false is x s.first hs net travel first_in s.came).2 in
     let low = need-low hs in
     let needed = passes-need t ks (omega (arith, low, least)) p in
-    let rank = least-ranks n count 255 is x c.lan s.first ks net travel s.first_on way
-    (need-passes 255 ks (omega (arith, needed, high))) in
+    let rank = least-ranks n count high is x c.lan s.first ks net travel s.first_on way
+    (need-passes high ks (omega (arith, needed, le))) in
     (need-passes t hs least, omega (arith, ttl, rank))
 
-pub kept-with : (n : Net) (count : ℕ) (is : List ℕ) (x : Finding) (c : Copy) (i : Interface)
-    (hs : List Hop) (t m : ℕ) → IsNet n → IsTravel n count [] false is (start n 255) x →
-    IsSpare n (run n (handles is) (start n 255)) c i hs → need hs ≤ t → t ≤ 255 →
+pub kept-with : (n : Net) (count high : ℕ) (is : List ℕ) (x : Finding) (c : Copy) (i : Interface)
+    (hs : List Hop) (t m : ℕ) → IsNet n → IsTravel n count [] false is (start n high) x →
+    IsSpare n (run n (handles is) (start n high)) c i hs → need hs ≤ t → t ≤ high →
     IsReachedWith n t m → IsReachedWith (take_out i n) t m
-kept-with n count is x c i hs t m net travel s least high reached =
-    let on = stands n count 255 [] false is x c i hs net travel s in
-    let j = another n i t c.lan hs on.0 on.1 (good n count is x c i hs t net travel s least high)
-    reached.0 m reached.1 in
+kept-with n count high is x c i hs t m net travel s least le reached =
+    let on = stands n count high [] false is x c i hs net travel s in
+    let good = first-as-good n count high is x c i hs t net travel s least le in
+    let j = another n i (AsGood t) c.lan ((λ p. (tt, omega arith)), as-good-on t)
+    (on.0, (hs, on.1, good)) reached.0 m reached.1 in
     (j.0, j.1, (j.2 reached.2).0)
-
-pub kept : (n : Net) (count : ℕ) (is : List ℕ) (x : Finding) (c : Copy) (i : Interface)
-    (hs : List Hop) (m : ℕ) → IsNet n → IsTravel n count [] false is (start n 255) x →
-    IsSpare n (run n (handles is) (start n 255)) c i hs → IsReached n m →
-    IsReached (take_out i n) m
-kept n count is x c i hs m net travel s reached =
-    let cs = (run n (handles is) (start n 255)).carried in
-    let on = stands n count 255 [] false is x c i hs net travel s in
-    let first_in = first-in cs c.lan s.first s.first_on in
-    let p = (came-by_way n count 255 [] false is x s.first hs net travel first_in s.came).1 in
-    let least = passes-need 255 hs (omega arith) p in
-    let j = another n i 255 c.lan hs on.0 on.1 (good n count is x c i hs 255 net travel s least
-    (omega arith)) reached.0 m reached.1 in
-    (j.0, j.1)
 
 -- ---- the domain without it
 

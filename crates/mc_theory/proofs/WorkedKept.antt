@@ -1,17 +1,20 @@
 -- The worked networks that keep the headline.
-use Rattle.std.proofs.Common.{◌||◌, ◌==◌, inl, inr, refl, arith, eqb-true}
+use Rattle.std.proofs.Common.{◌||◌, ◌==◌, ◌∷◌, inl, inr, refl, arith, eqb-true}
 use Rattle.std.proofs.lemmas.Bool.{or_cases}
 use Rattle.mc_theory.specs.Lists.{below}
 use Rattle.mc_theory.specs.Nets.{WantsBelow, IsNet}
 use Rattle.mc_theory.specs.Certificates.{IsAccepted, IsRight}
 use Rattle.mc_theory.specs.Headline.{HeadlineHolds}
 use Rattle.mc_theory.specs.Worked.{onward, line, line_places, line_rows, line_entries}
+use Rattle.mc_theory.specs.Ways.{take_out}
 use Rattle.mc_theory.specs.Worked.{diamond, diamond_places, diamond_rows, diamond_entries}
+use Rattle.mc_theory.specs.Worked.{closed_diamond}
 use Rattle.mc_theory.specs.Worked.{fork, fork_places, fork_rows, fork_entries}
 use Rattle.mc_theory.proofs.WorkedTables.{IsApart, table-net}
 use Rattle.mc_theory.proofs.Judged.{judged}
 use Rattle.mc_theory.proofs.Headline.{headline}
 use Rattle.mc_theory.proofs.Delivery.{right}
+use Rattle.mc_theory.proofs.Spare.{still-net}
 
 onward-apart : IsApart onward
 onward-apart = ((λ z. z), tt)
@@ -45,6 +48,20 @@ diamond-accepted = (judged diamond 4 diamond_entries diamond-net diamond-wants).
 
 pub diamond-kept : HeadlineHolds diamond 4
 diamond-kept = headline diamond diamond_entries diamond-net (omega arith) diamond-accepted
+
+closed-net : IsNet closed_diamond
+closed-net = table-net 4 diamond_places ((3, onward) ∷ diamond_rows) (λ l. l == 3) 3 refl
+    (onward-apart, (onward-apart, (onward-apart, (onward-apart, tt))))
+
+-- the closed diamond where r4 doesn't send onto l3
+mended-accepted : IsAccepted (take_out (3, 1) closed_diamond) diamond_entries
+unfolding below
+mended-accepted = (judged (take_out (3, 1) closed_diamond) 4 diamond_entries
+    (still-net closed_diamond (3, 1) closed-net) diamond-wants).0 refl
+
+pub mended-kept : HeadlineHolds (take_out (3, 1) closed_diamond) 4
+mended-kept = headline (take_out (3, 1) closed_diamond) diamond_entries
+    (still-net closed_diamond (3, 1) closed-net) (omega arith) mended-accepted
 
 fork-wants : WantsBelow (fork 65) 3
 fork-wants l h = elim (or_cases (l == 1) (l == 2) h) [

@@ -9,5 +9,5 @@ pub mod Findings
 pub mod Origins
 pub mod Made
 pub mod Shown
-pub mod Worked
 pub mod Ways
+pub mod Worked

@@ -94,8 +94,8 @@ pub record IsSpare (n : Net) (f : Flight) (c : Copy) (i : Interface) (hs : List 
 
 -- ---- two copies of a LAN
 
--- The LAN's first copy and its second, which is the flight's first double one, came by two ways:
--- the last hops are by two senders, and the second way doesn't come by the LAN before its end.
+-- The LAN's first copy and its second, the flight's first double one, came by two ways: the last
+-- hops are by two senders, and the second way doesn't come by the LAN before its end.
 pub record CameTwice (n : Net) (cs : List Copy) (l : ℕ) : Type 0 where
   pub first : Copy
   pub second : Copy
@@ -110,3 +110,13 @@ pub record CameTwice (n : Net) (cs : List Copy) (l : ℕ) : Type 0 where
   pub second_came : CameBy n cs second second_way
   pub second_leads : IsWay n n.source second_way l
   pub not_before : In l (map (λ h. h.from) second_way) → ⊥
+
+-- Hops lead from the LAN back to it, and the last one's interface sent its second copy.
+pub record CameBack (n : Net) (cs : List Copy) (l : ℕ) : Type 0 where
+  pub second : Copy
+  pub double : IsFirstDouble cs second
+  pub lan : second.lan ≡ l
+  pub last_hop : Hop
+  pub sender : second.sender ≡ Some (last_hop.router, last_hop.vif)
+  pub before : List Hop
+  pub closed : IsWay n l (last_hop ∷ before) l

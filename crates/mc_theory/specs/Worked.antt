@@ -6,6 +6,7 @@ use Rattle.mc_theory.specs.Nets.{Net, Row, Interface}
 use Rattle.mc_theory.specs.Nets.Row.{Exact, Open, NoRow}
 use Rattle.mc_theory.specs.Flights.{Copy, Flight}
 use Rattle.mc_theory.specs.Certificates.{Entry}
+use Rattle.mc_theory.specs.Ways.{Hop}
 
 -- ---- networks from tables
 
@@ -118,6 +119,12 @@ closed_diamond = network 4 diamond_places ((3, onward) ∷ diamond_rows) (λ l. 
 abbrev pub closed_end : Flight
 closed_end = ended (copy 0 4 None ∷ copy 1 3 (Some (0, 1)) ∷ copy 2 3 (Some (1, 1))
     ∷ copy 3 2 (Some (2, 1)) ∷ copy 3 2 (Some (3, 1)) ∷ [])
+
+-- the way by r1 and r3, each out by vif 1 with threshold 1
+abbrev pub upper_way : List Hop
+upper_way =
+    record { from = 1; router = 2; vif = 1; threshold = 1; onto = 3 }
+    ∷ record { from = 0; router = 0; vif = 1; threshold = 1; onto = 1 } ∷ []
 
 abbrev pub diamond_entries : List Entry
 diamond_entries = root_entry ∷ first_entry ∷ entry 2 1 2 (Some (1, 1))

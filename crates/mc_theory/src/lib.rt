@@ -30,6 +30,6 @@ pub use travel_laws::{
 };
 pub use way_laws::{
     a_carried_copy_came_by_a_way, a_second_copy_came_by_another_way,
-    the_first_copy_has_the_least_rank, the_least_ttl_reaches, the_remedy_keeps_what_is_reached,
-    what_passes_is_a_matter_of_need,
+    the_closed_diamond_has_a_remedy, the_first_copy_has_the_least_rank, the_least_ttl_reaches,
+    the_remedy_keeps_what_is_reached, what_passes_is_a_matter_of_need,
 };

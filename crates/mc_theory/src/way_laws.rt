@@ -1,4 +1,5 @@
-//! Over which rows a flow's packets reach a LAN, and what a double copy's sender may be spared for.
+//! By which ways a flow's packets reach a LAN, and which interface can be spared where one of its
+//! LANs gets two copies.
 
 ghost use Rattle.std.specs.Prelude.{◌≡◌, ◌↔◌, ◌≤◌, ◌+◌, ℕ, Bool, false, List, [], ◌∷◌};
 ghost use Rattle.std.specs.Prelude.{length, Some};
@@ -9,8 +10,10 @@ ghost use Rattle.mc_theory.specs.Certificates.{Entry, IsTree, lans};
 ghost use Rattle.mc_theory.specs.Findings.{Finding, copy_on, IsTravel, handles};
 ghost use Rattle.mc_theory.specs.Findings.Finding.{Duplicate, Loop};
 ghost use Rattle.mc_theory.specs.Shown.{IsFirstDouble, Shows};
+ghost use Rattle.mc_theory.specs.Headline.{HeadlineHolds};
 ghost use Rattle.mc_theory.specs.Ways.{Hop, IsWay, Passes, need, IsReached, IsReachedWith, CameBy};
-ghost use Rattle.mc_theory.specs.Ways.{take_out, IsSpare, CameTwice};
+ghost use Rattle.mc_theory.specs.Ways.{take_out, IsSpare, CameTwice, CameBack};
+ghost use Rattle.mc_theory.specs.Worked.{closed_diamond, copy, upper_way};
 
 /// A packet gets through by a way exactly if its TTL is at least the way's need.
 pub fn what_passes_is_a_matter_of_need()
@@ -51,49 +54,58 @@ pub fn the_first_copy_has_the_least_rank()
         Passes t hs → t ≤ c.ttl + length hs }
 {}
 
-/// A travel of the first waiting copy each time, of a packet with TTL 255, whose flight has a
-/// second copy on a LAN shows a remedy: the interface that sent it can be taken out of its router's
-/// row.
+/// Where a travel's flight has a second copy on a LAN, the interface that sent it can be taken out
+/// of its router's row: what the flow's packets reach they reach without it.
 pub fn the_remedy_keeps_what_is_reached()
-    // There is one, whatever the picker,
+    // There is such an interface,
     ensures there_is_one { (n : Net) (count t : ℕ) (numbers : List ℕ) (last : Bool) (is : List ℕ)
         (x : Finding) (c : Copy) → IsTravel n count numbers last is (start n t) x →
         IsFirstDouble (run n (handles is) (start n t)).carried c →
         (i : Interface) × (hs : List Hop) × IsSpare n (run n (handles is) (start n t)) c i hs }
-    // and the LAN of the second copy is reached without it, by the first copy's way.
+    // and without it the LAN of the second copy is reached by the first copy's way,
     ensures the_way_stands { (n : Net) (count t : ℕ) (numbers : List ℕ) (last : Bool)
         (is : List ℕ) (x : Finding) (c : Copy) (i : Interface) (hs : List Hop) →
         IsNet n → IsTravel n count numbers last is (start n t) x →
         IsSpare n (run n (handles is) (start n t)) c i hs →
         IsWay (take_out i n) n.source hs c.lan }
-    // Each LAN that is reached is reached without it,
-    ensures reached { (n : Net) (count : ℕ) (is : List ℕ) (x : Finding)
-        (c : Copy) (i : Interface) (hs : List Hop) (m : ℕ) →
-        IsNet n → IsTravel n count [] false is (start n 255) x →
-        IsSpare n (run n (handles is) (start n 255)) c i hs →
+    // and each LAN that was reached is reached.
+    ensures reached { (n : Net) (count t : ℕ) (numbers : List ℕ) (last : Bool) (is : List ℕ)
+        (x : Finding) (c : Copy) (i : Interface) (hs : List Hop) (m : ℕ) →
+        IsNet n → IsTravel n count numbers last is (start n t) x →
+        IsSpare n (run n (handles is) (start n t)) c i hs →
         IsReached n m → IsReached (take_out i n) m }
-    // and by packets with the same TTL, if it is one that the first copy's way needs.
-    ensures reached_with { (n : Net) (count : ℕ) (is : List ℕ) (x : Finding)
+    // If the first waiting copy was handled each time, it is reached with the same TTL, where that
+    // is one that the first copy's way needs, and no greater than the travel's.
+    ensures reached_with { (n : Net) (count high : ℕ) (is : List ℕ) (x : Finding)
         (c : Copy) (i : Interface) (hs : List Hop) (t m : ℕ) →
-        IsNet n → IsTravel n count [] false is (start n 255) x →
-        IsSpare n (run n (handles is) (start n 255)) c i hs → need hs ≤ t → t ≤ 255 →
+        IsNet n → IsTravel n count [] false is (start n high) x →
+        IsSpare n (run n (handles is) (start n high)) c i hs → need hs ≤ t → t ≤ high →
         IsReachedWith n t m → IsReachedWith (take_out i n) t m }
-    // What is left is a domain, of which all laws hold.
+    // What is left is a domain, so that all laws hold of it.
     ensures net { (n : Net) (i : Interface) → IsNet n → IsNet (take_out i n) }
 {}
 
-/// A loop is a closed way: hops lead from the LAN back to it, and the last is by the sender of its
-/// second copy. A duplicate is two ways from the source's LAN, whose last hops are by two senders.
+/// A loop is a closed way, and a duplicate is two ways from the source's LAN.
 pub fn a_second_copy_came_by_another_way()
-    ensures loop_closes { (n : Net) (count t : ℕ) (numbers : List ℕ) (last : Bool) (is : List ℕ)
-        (x : Finding) (l : ℕ) → IsTravel n count numbers last is (start n t) x →
+    ensures loop_came_back { (n : Net) (count t : ℕ) (numbers : List ℕ) (last : Bool)
+        (is : List ℕ) (x : Finding) (l : ℕ) → IsTravel n count numbers last is (start n t) x →
         Shows n (run n (handles is) (start n t)) (Loop l) →
-        (c : Copy) × (h : Hop) × (hs : List Hop)
-        × IsFirstDouble (run n (handles is) (start n t)).carried c
-        × (c.sender ≡ Some (h.router, h.vif)) × IsWay n l (h ∷ hs) l }
+        CameBack n (run n (handles is) (start n t)).carried l }
     ensures duplicate_came_twice { (n : Net) (count t : ℕ) (numbers : List ℕ) (last : Bool)
         (is : List ℕ) (x : Finding) (l : ℕ) →
         IsNet n → IsTravel n count numbers last is (start n t) x →
         Shows n (run n (handles is) (start n t)) (Duplicate l) →
         CameTwice n (run n (handles is) (start n t)).carried l }
+{}
+
+/// In the closed diamond r3 and r4 both send onto l3. What r4 sends is the second copy there, and
+/// without it the diamond is right.
+pub fn the_closed_diamond_has_a_remedy()
+    ensures travel { IsTravel closed_diamond 4 [] false (0 ∷ 0 ∷ 0 ∷ 0 ∷ [])
+        (start closed_diamond 255) (Duplicate 3) }
+    ensures spare { IsSpare closed_diamond
+        (run closed_diamond (handles (0 ∷ 0 ∷ 0 ∷ 0 ∷ [])) (start closed_diamond 255))
+        (copy 3 253 (Some (3, 1))) (3, 1) upper_way }
+    ensures least_ttl { need upper_way ≡ 3 }
+    ensures right { HeadlineHolds (take_out (3, 1) closed_diamond) 4 }
 {}

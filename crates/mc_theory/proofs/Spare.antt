@@ -140,7 +140,8 @@ pub other-sender : (cs : List Copy) (c a : Copy) → Distinct (senders cs) → I
 other-sender cs c a once d on e =
     let b = first-of_double cs c d in
     let same : b.0 ≡ a = same-copy (copy_on cs c.lan) b.0 a b.1 on in
-    let early = in-map (λ (c : Copy). c.sender) a d.earlier (subst (λ x. In x d.earlier) same b.2) in
+    let a_in = subst (λ x. In x d.earlier) same b.2 in
+    let early = in-map (λ (c : Copy). c.sender) a d.earlier a_in in
     let split = ap senders d.split ∙ map-append' (λ (c : Copy). c.sender) d.earlier (c ∷ d.later) in
     distinct-apart (senders d.earlier) (c.sender ∷ senders d.later) (subst Distinct split once)
     a.sender early (inl (sym e))
@@ -284,8 +285,9 @@ stands n count t numbers last is x c i hs net travel s =
     let lan = first-lan cs c.lan s.first s.first_on in
     let first_in = first-in cs c.lan s.first s.first_on in
     let way = came-by_way n count t numbers last is x s.first hs net travel first_in s.came in
-    let other : s.first.sender ≢ Some i = λ e. other-sender cs c s.first
-    (senders-once n count t numbers last is x net travel) s.double s.first_on (e ∙ sym s.sender) in (
+    let once = senders-once n count t numbers last is x net travel in
+    let other : s.first.sender ≢ Some i = λ e. other-sender cs c s.first once s.double s.first_on
+    (e ∙ sym s.sender) in (
       on,
       way-kept n i c.lan c.lan cs s.first s.first hs on s.first_on other
           (subst (λ k. copy_on cs k ≡ Some s.first) (sym lan) s.first_on) s.came

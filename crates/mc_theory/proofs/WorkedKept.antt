@@ -1,14 +1,14 @@
 -- The worked networks that keep the headline.
-use Rattle.std.proofs.Common.{◌||◌, ◌==◌, ◌∷◌, inl, inr, refl, arith, eqb-true}
+use Rattle.std.proofs.Common.{◌≡◌, ℕ, ◌||◌, ◌==◌, [], ◌∷◌, Some, inl, inr, refl, arith, eqb-true}
 use Rattle.std.proofs.lemmas.Bool.{or_cases}
 use Rattle.mc_theory.specs.Lists.{below}
 use Rattle.mc_theory.specs.Nets.{WantsBelow, IsNet}
 use Rattle.mc_theory.specs.Certificates.{IsAccepted, IsRight}
 use Rattle.mc_theory.specs.Headline.{HeadlineHolds}
 use Rattle.mc_theory.specs.Worked.{onward, line, line_places, line_rows, line_entries}
-use Rattle.mc_theory.specs.Ways.{take_out}
+use Rattle.mc_theory.specs.Ways.{IsHop, take_out}
 use Rattle.mc_theory.specs.Worked.{diamond, diamond_places, diamond_rows, diamond_entries}
-use Rattle.mc_theory.specs.Worked.{closed_diamond}
+use Rattle.mc_theory.specs.Worked.{closed_diamond, onward_hop}
 use Rattle.mc_theory.specs.Worked.{fork, fork_places, fork_rows, fork_entries}
 use Rattle.mc_theory.proofs.WorkedTables.{IsApart, table-net}
 use Rattle.mc_theory.proofs.Judged.{judged}
@@ -62,6 +62,19 @@ mended-accepted = (judged (take_out (3, 1) closed_diamond) 4 diamond_entries
 pub mended-kept : HeadlineHolds (take_out (3, 1) closed_diamond) 4
 mended-kept = headline (take_out (3, 1) closed_diamond) diamond_entries
     (still-net closed_diamond (3, 1) closed-net) (omega arith) mended-accepted
+
+-- a hop of the diamond
+pub is-onward : (from router onto : ℕ) → closed_diamond.row router ≡ onward →
+    closed_diamond.placed router 0 ≡ Some from → closed_diamond.placed router 1 ≡ Some onto →
+    IsHop closed_diamond (onward_hop from router onto)
+is-onward from router onto row takes sends = record {
+  incoming = 0;
+  pairs = (1, 1) ∷ [];
+  row = row;
+  takes = takes;
+  pair = inl refl;
+  sends = sends;
+}
 
 fork-wants : WantsBelow (fork 65) 3
 fork-wants l h = elim (or_cases (l == 1) (l == 2) h) [

@@ -1,7 +1,7 @@
 -- Ways of a flow's packets over the rows of the domain: which LANs they lead to, and which packets
 -- get through. A way is told backwards, its last hop first.
-use Rattle.std.specs.Prelude.{◌≡◌, ◌≢◌, ℕ, ◌+◌, ◌<◌, max, not, ◌==◌, if◌then◌else◌, List, [], ◌∷◌, filter}
-use Rattle.std.specs.Prelude.{length, map, Some, None, ⊤}
+use Rattle.std.specs.Prelude.{◌≡◌, ◌≢◌, ℕ, ◌+◌, ◌<◌, max, not, ◌==◌, if◌then◌else◌, List, []}
+use Rattle.std.specs.Prelude.{◌∷◌, filter, length, map, Some, None, ⊤}
 use Rattle.mc_theory.specs.Lists.{In}
 use Rattle.mc_theory.specs.Nets.{Net, Row, Interface}
 use Rattle.mc_theory.specs.Nets.Row.{Exact, Open, NoRow}

@@ -120,11 +120,19 @@ abbrev pub closed_end : Flight
 closed_end = ended (copy 0 4 None ∷ copy 1 3 (Some (0, 1)) ∷ copy 2 3 (Some (1, 1))
     ∷ copy 3 2 (Some (2, 1)) ∷ copy 3 2 (Some (3, 1)) ∷ [])
 
--- the way by r1 and r3, each out by vif 1 with threshold 1
+-- the hop of a router's row from one LAN onto another
+abbrev pub onward_hop : ℕ → ℕ → ℕ → Hop
+onward_hop from router onto = record {
+  from = from;
+  router = router;
+  vif = 1;
+  threshold = 1;
+  onto = onto;
+}
+
+-- the way by r1 and r3
 abbrev pub upper_way : List Hop
-upper_way =
-    record { from = 1; router = 2; vif = 1; threshold = 1; onto = 3 }
-    ∷ record { from = 0; router = 0; vif = 1; threshold = 1; onto = 1 } ∷ []
+upper_way = onward_hop 1 2 3 ∷ onward_hop 0 0 1 ∷ []
 
 abbrev pub diamond_entries : List Entry
 diamond_entries = root_entry ∷ first_entry ∷ entry 2 1 2 (Some (1, 1))

@@ -4,7 +4,7 @@ use Rattle.mc_theory.specs.Lists.{below}
 use Rattle.mc_theory.specs.Nets.{interfaces}
 use Rattle.mc_theory.specs.Worked.{copy}
 use Rattle.mc_theory.proofs.InLists.{distinct-below}
-use Rattle.mc_theory.proofs.WorkedKept.{mended-kept}
+use Rattle.mc_theory.proofs.WorkedKept.{is-onward, mended-kept}
 use Rattle.mc_theory.proofs.way_laws.the_closed_diamond_has_a_remedy.Goals as goal
 
 pub returns-clause-travel : goal.returns-clause-travel
@@ -28,16 +28,11 @@ returns-clause-spare c = record {
   came = (
     refl,
     refl,
-    record { incoming = 0; pairs = (1, 1) ∷ []; row = refl; takes = refl; pair = inl refl; sends = refl },
+    is-onward 1 2 3 refl refl refl,
     (
       copy 1 254 (Some (0, 1)),
       refl,
-      (
-        refl,
-        refl,
-        record { incoming = 0; pairs = (1, 1) ∷ []; row = refl; takes = refl; pair = inl refl; sends = refl },
-        (copy 0 255 None, refl, refl),
-      ),
+      (refl, refl, is-onward 0 0 1 refl refl refl, (copy 0 255 None, refl, refl)),
     ),
   );
 }

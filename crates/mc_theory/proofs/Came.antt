@@ -9,10 +9,9 @@ use Rattle.mc_theory.specs.Flights.{Copy, Flight, Pick, start, run, first_copy}
 use Rattle.mc_theory.specs.Certificates.{lans}
 use Rattle.mc_theory.specs.Findings.{Finding, copy_on, from_lan, taken_from, IsWalkBack, IsTravel}
 use Rattle.mc_theory.specs.Findings.{handles}
-use Rattle.mc_theory.specs.Findings.Finding.{Loop}
 use Rattle.mc_theory.specs.Origins.{IsSentOn}
-use Rattle.mc_theory.specs.Shown.{IsFirstDouble, Shows}
-use Rattle.mc_theory.specs.Ways.{Hop, IsHop, IsWay, Passes, CameBy, CameBack}
+use Rattle.mc_theory.specs.Shown.{IsFirstDouble}
+use Rattle.mc_theory.specs.Ways.{Hop, IsHop, IsWay, Passes, CameBy}
 use Rattle.mc_theory.proofs.InLists.{in-append_cases, in-append_right, same-by_image}
 use Rattle.mc_theory.proofs.Origins.{StepGrows, heard-start}
 use Rattle.mc_theory.proofs.Walks.{IsRooted, rooted, rooted-start, first-in, walks}
@@ -166,7 +165,7 @@ first-lan [] l b e = absurd cc
 first-lan (c ∷ cs) l b e = first-lan_step c cs l b (c.lan == l) refl e (first-lan cs l b)
 
 -- from a LAN that a copy came by, a way leads on to its own; the last hop is by its sender
-came-on : (n : Net) (cs : List Copy) (c : Copy) (hs : List Hop) (l : ℕ) → CameBy n cs c hs →
+pub came-on : (n : Net) (cs : List Copy) (c : Copy) (hs : List Hop) (l : ℕ) → CameBy n cs c hs →
     In l (map (λ (h : Hop). h.from) hs)
     → (h : Hop) × (ks : List Hop) × (c.sender ≡ Some (h.router, h.vif)) × IsWay n l (h ∷ ks) c.lan
 came-on n cs c [] l came k = absurd k
@@ -180,24 +179,3 @@ came-on n cs c (h ∷ hs) l came (inr k) =
 pub first-double_in : (cs : List Copy) (c : Copy) → IsFirstDouble cs c → In c cs
 first-double_in cs c d = subst (λ xs. In c xs) (sym d.split) (in-append_right c d.earlier
     (c ∷ d.later) (inl refl))
-
-pub closed : (n : Net) (count t : ℕ) (numbers : List ℕ) (last : Bool) (is : List ℕ) (x : Finding)
-    (l : ℕ) → IsTravel n count numbers last is (start n t) x →
-    Shows n (run n (handles is) (start n t)) (Loop l) →
-    CameBack n (run n (handles is) (start n t)).carried l
-closed n count t numbers last is x l travel shows =
-    let cs = (run n (handles is) (start n t)).carried in
-    let d = shows.0 in
-    let over = walk-came n t cs d.copy d.walk (travel-rooted n count t numbers last is x travel)
-    (first-double_in cs d.copy d.first) d.back in
-    let by = subst (λ ls. In l ls) (sym over.2) shows.1 in
-    let on = came-on n cs d.copy over.0 l over.1 by in
-    record {
-      second = d.copy;
-      double = d.first;
-      lan = d.lan;
-      last_hop = on.0;
-      sender = on.2;
-      before = on.1;
-      closed = subst (IsWay n l (on.0 ∷ on.1)) d.lan on.3;
-    }

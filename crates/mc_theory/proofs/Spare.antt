@@ -12,10 +12,9 @@ use Rattle.mc_theory.specs.Flights.{Copy, Waiting, Flight, is_sender, leave, sen
 use Rattle.mc_theory.specs.Flights.{handle_by, handle, without, first_copy, start, run}
 use Rattle.mc_theory.specs.Certificates.{lans}
 use Rattle.mc_theory.specs.Findings.{Finding, copy_on, IsTravel, handles}
-use Rattle.mc_theory.specs.Findings.Finding.{Duplicate}
-use Rattle.mc_theory.specs.Shown.{IsFirstDouble, Shows}
-use Rattle.mc_theory.specs.Ways.{Hop, IsHop, IsWay, Passes, need, IsReached, IsReachedWith}
-use Rattle.mc_theory.specs.Ways.{CameBy, row_without, take_out, IsSpare, CameTwice}
+use Rattle.mc_theory.specs.Shown.{IsFirstDouble}
+use Rattle.mc_theory.specs.Ways.{Hop, IsHop, IsWay, Passes, need}
+use Rattle.mc_theory.specs.Ways.{CameBy, row_without, take_out, IsSpare}
 use Rattle.mc_theory.proofs.InLists.{in-append_right, in-push_cases, in-map, in-map_cases}
 use Rattle.mc_theory.proofs.InLists.{in-filter, in-filter_cases, distinct-append, distinct-apart}
 use Rattle.mc_theory.proofs.Invariant.{Inv, same_pair, is_sender-true, is_sender-from, map-append'}
@@ -24,7 +23,7 @@ use Rattle.mc_theory.proofs.Complete.{copy-found}
 use Rattle.mc_theory.proofs.Walks.{first-in, first-stays}
 use Rattle.mc_theory.proofs.Ways.{passes-need, need-passes, need-low}
 use Rattle.mc_theory.proofs.Came.{Headed, headed, same-copy, same-lan, first-lan, first-double_in}
-use Rattle.mc_theory.proofs.Came.{travel-rooted, walk-came, came, came-by_way}
+use Rattle.mc_theory.proofs.Came.{travel-rooted, came, came-by_way}
 use Rattle.mc_theory.proofs.Ranks.{StepKeeps, travel-keeps, least-ranks}
 
 -- ---- no interface sent two of a travel's copies
@@ -125,7 +124,7 @@ senders-once n count t numbers last is x net travel =
 
 -- ---- the first double copy, and the first copy of its LAN
 
-first-of_double : (cs : List Copy) (c : Copy) → (d : IsFirstDouble cs c) →
+pub first-of_double : (cs : List Copy) (c : Copy) → (d : IsFirstDouble cs c) →
     (a : Copy) × (copy_on cs c.lan ≡ Some a) × In a d.earlier
 first-of_double cs c d =
     let a = in-map_cases (λ (c : Copy). c.lan) c.lan d.earlier d.again in
@@ -235,7 +234,7 @@ abbrev Serves : (List Hop → List Hop → Type 0) → Type 0
 Serves R = R [] [] × ((k : Hop) (ks js : List Hop) → R ks js → R (k ∷ ks) (k ∷ js))
 
 -- a way without i to LAN m that serves as this one does
-abbrev Another : Net → Interface → (List Hop → List Hop → Type 0) → List Hop → ℕ → Type 0
+abbrev pub Another : Net → Interface → (List Hop → List Hop → Type 0) → List Hop → ℕ → Type 0
 Another n i R ks m = (js : List Hop) × IsWay (take_out i n) n.source js m × R ks js
 
 -- a way to LAN l that serves as each other does
@@ -294,18 +293,18 @@ stands n count t numbers last is x c i hs net travel s =
           (subst (IsWay n n.source hs) lan way.0),
     )
 
-pub kept : (n : Net) (count t : ℕ) (numbers : List ℕ) (last : Bool) (is : List ℕ) (x : Finding)
-    (c : Copy) (i : Interface) (hs : List Hop) (m : ℕ) → IsNet n →
+-- instead of each way there is one without it
+pub without-it : (n : Net) (count t : ℕ) (numbers : List ℕ) (last : Bool) (is : List ℕ)
+    (x : Finding) (c : Copy) (i : Interface) (hs : List Hop) → IsNet n →
     IsTravel n count numbers last is (start n t) x →
-    IsSpare n (run n (handles is) (start n t)) c i hs → IsReached n m → IsReached (take_out i n) m
-kept n count t numbers last is x c i hs m net travel s reached =
+    IsSpare n (run n (handles is) (start n t)) c i hs → (ks : List Hop) (m : ℕ) →
+    IsWay n n.source ks m → Another n i (λ _ _. ⊤) ks m
+without-it n count t numbers last is x c i hs net travel s =
     let on = stands n count t numbers last is x c i hs net travel s in
-    let j = another n i (λ _ _. ⊤) c.lan (tt, λ k ks js r. tt) (on.0, (hs, on.1, λ ks way. tt))
-    reached.0 m reached.1 in
-    (j.0, j.1)
+    another n i (λ _ _. ⊤) c.lan (tt, λ k ks js r. tt) (on.0, (hs, on.1, λ ks way. tt))
 
 -- packets sent with TTL t that get through by ks do so by js, which is no longer
-abbrev AsGood : ℕ → List Hop → List Hop → Type 0
+abbrev pub AsGood : ℕ → List Hop → List Hop → Type 0
 AsGood t ks js = Passes t ks → Passes t js × (length js ≤ length ks)
 
 as-good-on : (t : ℕ) (k : Hop) (ks js : List Hop) → AsGood t ks js → AsGood t (k ∷ ks) (k ∷ js)
@@ -330,16 +329,16 @@ first-as-good n count high is x c i hs t net travel s least le ks way p =
     (need-passes high ks (omega (arith, needed, le))) in
     (need-passes t hs least, omega (arith, ttl, rank))
 
-pub kept-with : (n : Net) (count high : ℕ) (is : List ℕ) (x : Finding) (c : Copy) (i : Interface)
-    (hs : List Hop) (t m : ℕ) → IsNet n → IsTravel n count [] false is (start n high) x →
+-- and one that is as good, if the first copy was the first by its rank, too
+pub as-good-without : (n : Net) (count high : ℕ) (is : List ℕ) (x : Finding) (c : Copy)
+    (i : Interface) (hs : List Hop) (t : ℕ) → IsNet n →
+    IsTravel n count [] false is (start n high) x →
     IsSpare n (run n (handles is) (start n high)) c i hs → need hs ≤ t → t ≤ high →
-    IsReachedWith n t m → IsReachedWith (take_out i n) t m
-kept-with n count high is x c i hs t m net travel s least le reached =
+    (ks : List Hop) (m : ℕ) → IsWay n n.source ks m → Another n i (AsGood t) ks m
+as-good-without n count high is x c i hs t net travel s least le =
     let on = stands n count high [] false is x c i hs net travel s in
     let good = first-as-good n count high is x c i hs t net travel s least le in
-    let j = another n i (AsGood t) c.lan ((λ p. (tt, omega arith)), as-good-on t)
-    (on.0, (hs, on.1, good)) reached.0 m reached.1 in
-    (j.0, j.1, (j.2 reached.2).0)
+    another n i (AsGood t) c.lan ((λ p. (tt, omega arith)), as-good-on t) (on.0, (hs, on.1, good))
 
 -- ---- the domain without it
 
@@ -377,38 +376,3 @@ still-net n i net = record {
   vif = net.vif;
   vifs = λ r v pairs e. row-left i.1 v (n.row r) pairs (r == i.0) (net.vifs r v) e;
 }
-
--- ---- the two ways of a duplicate
-
-pub twice : (n : Net) (count t : ℕ) (numbers : List ℕ) (last : Bool) (is : List ℕ) (x : Finding)
-    (l : ℕ) → IsNet n → IsTravel n count numbers last is (start n t) x →
-    Shows n (run n (handles is) (start n t)) (Duplicate l) →
-    CameTwice n (run n (handles is) (start n t)).carried l
-twice n count t numbers last is x l net travel shows =
-    let cs = (run n (handles is) (start n t)).carried in
-    let d = shows.0 in
-    let r = travel-rooted n count t numbers last is x travel in
-    let c_in = first-double_in cs d.copy d.first in
-    let over = walk-came n t cs d.copy d.walk r c_in d.back in
-    let leads = (came-by_way n count t numbers last is x d.copy over.0 net travel c_in over.1).0 in
-    let a = first-of_double cs d.copy d.first in
-    let a_in = first-in cs d.copy.lan a.0 a.1 in
-    let way = came n count t numbers last is x a.0 travel a_in in
-    let first = (came-by_way n count t numbers last is x a.0 way.0 net travel a_in way.1).0 in
-    let lan : a.0.lan ≡ l = first-lan cs d.copy.lan a.0 a.1 ∙ d.lan in
-    record {
-      first = a.0;
-      second = d.copy;
-      first_on = subst (λ k. copy_on cs k ≡ Some a.0) d.lan a.1;
-      double = d.first;
-      lan = d.lan;
-      senders = other-sender cs d.copy a.0 (senders-once n count t numbers last is x net travel)
-          d.first a.1;
-      first_way = way.0;
-      first_came = way.1;
-      first_leads = subst (IsWay n n.source way.0) lan first;
-      second_way = over.0;
-      second_came = over.1;
-      second_leads = subst (IsWay n n.source over.0) d.lan leads;
-      not_before = λ h. shows.1 (subst (λ ls. In l ls) over.2 h);
-    }

@@ -6,10 +6,10 @@ use Rattle.mc_theory.specs.Lists.{In}
 use Rattle.mc_theory.specs.Nets.{Net, Interface}
 use Rattle.mc_theory.specs.Flights.{Copy, Flight, Pick, start, step, run, without}
 use Rattle.mc_theory.specs.Flights.Pick.{Handles, Loses}
-use Rattle.mc_theory.specs.Certificates.{Entry, Live, Feeds, IsTree, source_entry_of, lans}
+use Rattle.mc_theory.specs.Certificates.{Entry, Live, Feeds, IsTree, source_entry_of}
 use Rattle.mc_theory.specs.Origins.{IsSentOn}
-use Rattle.mc_theory.specs.Ways.{Hop, IsHop, IsWay, Passes, need, IsReachedWith}
-use Rattle.mc_theory.proofs.InLists.{in-append_cases, in-map_cases, in-remove}
+use Rattle.mc_theory.specs.Ways.{Hop, IsHop, IsWay, Passes, need}
+use Rattle.mc_theory.proofs.InLists.{in-append_cases, in-remove}
 use Rattle.mc_theory.proofs.Origins.{AllHeard, StepGrows, grows-step, heard-start}
 use Rattle.mc_theory.proofs.Delivery.{one-entry}
 
@@ -36,7 +36,7 @@ need-low (h ∷ hs) = let rest = need-low hs in omega (arith, rest)
 -- ---- the ways of a tree
 
 -- a way that gets through leads to a named LAN, as its entry says
-way-entry : (n : Net) (es : List Entry) (t : ℕ) → IsTree n es → t ≤ 255 → (hs : List Hop) (l : ℕ) →
+pub way-entry : (n : Net) (es : List Entry) (t : ℕ) → IsTree n es → t ≤ 255 → (hs : List Hop) (l : ℕ) →
     IsWay n n.source hs l → Passes t hs
     → (e : Entry) × In e es × (e.lan ≡ l) × (e.rank ≡ length hs) × (e.need ≡ need hs)
 way-entry n es t tree high [] l way p = (source_entry_of n, tree.source_entry, way, refl, refl)
@@ -58,7 +58,7 @@ way-entry n es t tree high (h ∷ hs) l way p =
     (e.0, e.1, e.2 ∙ way.0, rank, least)
 
 -- a way to an entry's LAN, as the entry says
-abbrev WayTo : Net → Entry → Type 0
+abbrev pub WayTo : Net → Entry → Type 0
 WayTo n e = (hs : List Hop) × IsWay n n.source hs e.lan × (length hs ≡ e.rank) × (need hs ≡ e.need)
 
 way-by : (n : Net) (es : List Entry) (e : Entry) (o : Option Interface) → e.forwarder ≡ o →
@@ -93,22 +93,12 @@ way-by n es e (Some i) q tree e_in up =
     let w = up fed.0 fed.2 rank in
     (hop ∷ w.0, (refl, is, w.1), omega (arith, rank, w.2), omega (arith, least, w.2, w.3))
 
-way-to : (n : Net) (es : List Entry) (k : ℕ) (e : Entry) → IsTree n es → In e es → e.rank ≡ k →
+pub way-to : (n : Net) (es : List Entry) (k : ℕ) (e : Entry) → IsTree n es → In e es → e.rank ≡ k →
     WayTo n e
 way-to n es zero e tree e_in rank = way-by n es e e.forwarder refl tree e_in
     (λ p p_in q. absurd (omega arith))
 way-to n es (suc k) e tree e_in rank = way-by n es e e.forwarder refl tree e_in
     (λ p p_in q. way-to n es k p tree p_in (omega arith))
-
-pub least-reaches : (n : Net) (es : List Entry) (e : Entry) (t : ℕ) → IsTree n es → In e es →
-    1 ≤ t → t ≤ 255 → IsReachedWith n t e.lan ↔ (e.need ≤ t)
-least-reaches n es e t tree e_in low high = (
-  (λ r. (let d = way-entry n es t tree high r.0 e.lan r.1 r.2 in
-      let same = ap (λ (e : Entry). e.need) (one-entry n es d.0 e tree d.1 e_in d.2) in
-      let least = passes-need t r.0 low r.2 in omega (arith, same, least, d.4))),
-  (λ le. (let w = way-to n es e.rank e tree e_in refl
-      in (w.0, w.1, need-passes t w.0 (omega (arith, le, w.3))))),
-)
 
 -- ---- the ways of copies
 
@@ -145,7 +135,7 @@ run-keeps n P keep (Loses i ∷ ps) f heard p = run-keeps n P keep ps (without i
     (λ w k. heard w (in-remove w f.waiting i k)) p
 
 -- each of these copies has a way to its LAN, by which it got through
-abbrev AllByWays : Net → ℕ → List Copy → Type 0
+abbrev pub AllByWays : Net → ℕ → List Copy → Type 0
 AllByWays n t cs = (c : Copy) → In c cs → (hs : List Hop) × IsWay n n.source hs c.lan ×
     Passes t hs × (c.ttl + length hs ≡ t)
 
@@ -166,14 +156,9 @@ ways-grow n t f g (inl s) all = subst (AllByWays n t) (sym s.2.1) (λ c h. elim
           ))
     ])
 
-pub reached-with : (n : Net) (t : ℕ) (ps : List Pick) (l : ℕ) →
-    In l (lans (run n ps (start n t)).carried) → IsReachedWith n t l
-reached-with n t ps l h =
-    let all = run-keeps n (AllByWays n t) (ways-grow n t) ps (start n t) (heard-start n t)
+pub by-ways : (n : Net) (t : ℕ) (ps : List Pick) → AllByWays n t (run n ps (start n t)).carried
+by-ways n t ps = run-keeps n (AllByWays n t) (ways-grow n t) ps (start n t) (heard-start n t)
     (λ c k. elim k [
       | inl e ↦ ([], ap (λ (x : Copy). x.lan) e, tt, omega (arith, ap (λ (x : Copy). x.ttl) e))
       | inr z ↦ absurd z
-    ]) in
-    let c = in-map_cases (λ (c : Copy). c.lan) l (run n ps (start n t)).carried h in
-    let w = all c.0 c.1 in
-    (w.0, subst (IsWay n n.source w.0) c.2 w.1, w.2)
+    ])

@@ -9,7 +9,9 @@ use Rattle.mc_theory.specs.Reasons.Reason.{TwoEntries, BadSource, Wildcard, Stra
 use Rattle.mc_theory.specs.Reasons.Reason.{WrongNeed, Unfed, Missed, Low}
 use Rattle.mc_theory.specs.Worked.{network, entry, onward, line_places, line_with, line}
 use Rattle.mc_theory.specs.Worked.{root_entry, first_entry, second_entry, line_entries}
-use Rattle.mc_theory.proofs.WorkedNetworks.{second_way, way_back, onto_itself, branching}
+use Rattle.mc_theory.specs.Worked.{second_way, way_back}
+use Rattle.mc_theory.proofs.WorkedNetworks.{onto_itself, branching}
+use Rattle.mc_theory.specs.Worked.{second_way, way_back}
 use Rattle.mc_theory.proofs.WorkedNetworks.{branching_entries}
 
 -- ---- the line

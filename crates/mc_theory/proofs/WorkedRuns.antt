@@ -5,8 +5,8 @@ use Rattle.mc_theory.specs.Nets.{Net, interfaces}
 use Rattle.mc_theory.specs.Flights.{Pick, copies_on, start, run}
 use Rattle.mc_theory.specs.Flights.Pick.{Handles, Loses}
 use Rattle.mc_theory.specs.Findings.{handles}
-use Rattle.mc_theory.specs.Worked.{line}
-use Rattle.mc_theory.proofs.WorkedNetworks.{second_way, branching}
+use Rattle.mc_theory.specs.Worked.{line, second_way}
+use Rattle.mc_theory.proofs.WorkedNetworks.{branching}
 
 -- after these picks nothing waits, and the LANs from l0 on carried so many copies
 abbrev pub EndsWith : Net → ℕ → List Pick → List ℕ → List ℕ → Type 0

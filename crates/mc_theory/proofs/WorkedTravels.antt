@@ -8,8 +8,8 @@ use Rattle.mc_theory.specs.Events.Outcome.{OtherVif, Sent}
 use Rattle.mc_theory.specs.Findings.{IsTravel, handles}
 use Rattle.mc_theory.specs.Findings.Finding.{Clean, Duplicate, Loop, Missed}
 use Rattle.mc_theory.specs.Made.{entries_of}
-use Rattle.mc_theory.specs.Worked.{line, line_entries}
-use Rattle.mc_theory.proofs.WorkedNetworks.{second_way, way_back, onto_itself}
+use Rattle.mc_theory.specs.Worked.{line, line_entries, second_way, way_back}
+use Rattle.mc_theory.proofs.WorkedNetworks.{onto_itself}
 
 -- r's vif took a copy with this TTL, and sent so many on, none astray
 abbrev sent : ℕ → ℕ → ℕ → ℕ → Event

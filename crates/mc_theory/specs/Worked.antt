@@ -1,6 +1,6 @@
 -- Small networks as values, on which the definitions are computed and what they promise is judged
 -- by hand. Routers r1 to r4 are 0 to 3, LANs l0 to l3 are 0 to 3, and the source sends on l0.
-use Rattle.std.specs.Prelude.{ℕ, Bool, cond, ◌&&◌, ◌||◌, ◌==◌, List, [], ◌∷◌, Option}
+use Rattle.std.specs.Prelude.{ℕ, Bool, cond, ◌&&◌, ◌||◌, ◌==◌, List, [], ◌∷◌, ◌++◌, Option}
 use Rattle.std.specs.Prelude.{Some, None}
 use Rattle.mc_theory.specs.Nets.{Net, Row, Interface}
 use Rattle.mc_theory.specs.Nets.Row.{Exact, Open, NoRow}
@@ -52,6 +52,20 @@ ended copies = record { carried = copies; waiting = []; strays = [] }
 abbrev pub onward : Row
 onward = Exact 0 ((1, 1) ∷ [])
 
+-- ---- hops by vif 1: above a threshold, or an onward row's, from one LAN by a router onto another
+
+abbrev pub hop_above : ℕ → ℕ → ℕ → ℕ → Hop
+hop_above threshold from router onto = record {
+  from = from;
+  router = router;
+  vif = 1;
+  threshold = threshold;
+  onto = onto;
+}
+
+abbrev pub onward_hop : ℕ → ℕ → ℕ → Hop
+onward_hop from router onto = hop_above 1 from router onto
+
 -- ---- the line: r1 forwards from l0 to l1, and r2 from l1 to l2, where a host listens
 
 abbrev pub line_places : List Place
@@ -96,6 +110,20 @@ second_entry = entry 2 2 3 (Some (1, 1))
 abbrev pub line_entries : List Entry
 line_entries = root_entry ∷ first_entry ∷ second_entry ∷ []
 
+-- ---- the line and a third router with this row, at these places
+
+abbrev pub line_and : List Place → Row → ℕ → Net
+line_and places row ttl = network 3 (places ++ line_places)
+    ((2, row) ∷ (0, onward) ∷ (1, onward) ∷ []) (λ l. l == 2) ttl
+
+-- r3 forwards from l0 to l2 as well
+abbrev pub second_way : ℕ → Net
+second_way ttl = line_and ((2, 0, 0) ∷ (2, 1, 2) ∷ []) onward ttl
+
+-- r3 forwards from l2 back to l0
+abbrev pub way_back : ℕ → Net
+way_back ttl = line_and ((2, 0, 2) ∷ (2, 1, 0) ∷ []) onward ttl
+
 -- ---- the diamond: r1 and r2 forward from l0 to l1 and l2, and r3 and r4 from there to l3, where a
 -- host listens
 
@@ -119,16 +147,6 @@ closed_diamond = network 4 diamond_places ((3, onward) ∷ diamond_rows) (λ l. 
 abbrev pub closed_end : Flight
 closed_end = ended (copy 0 4 None ∷ copy 1 3 (Some (0, 1)) ∷ copy 2 3 (Some (1, 1))
     ∷ copy 3 2 (Some (2, 1)) ∷ copy 3 2 (Some (3, 1)) ∷ [])
-
--- the hop of a router's row from one LAN onto another
-abbrev pub onward_hop : ℕ → ℕ → ℕ → Hop
-onward_hop from router onto = record {
-  from = from;
-  router = router;
-  vif = 1;
-  threshold = 1;
-  onto = onto;
-}
 
 -- the way by r1 and r3
 abbrev pub upper_way : List Hop
@@ -156,3 +174,13 @@ fork_end = ended (copy 0 65 None ∷ copy 1 64 (Some (0, 1)) ∷ copy 2 64 (Some
 
 abbrev pub fork_entries : List Entry
 fork_entries = root_entry ∷ first_entry ∷ entry 2 1 65 (Some (0, 2)) ∷ []
+
+-- ---- the twins: r1 and r2 both forward from l0 to l1, where a host listens, and r1 with threshold
+-- 64
+
+abbrev pub twins : Net
+twins = network 2 ((0, 0, 0) ∷ (0, 1, 1) ∷ (1, 0, 0) ∷ (1, 1, 1) ∷ [])
+    ((0, Exact 0 ((1, 64) ∷ [])) ∷ (1, onward) ∷ []) (λ l. l == 1) 65
+
+abbrev pub twins_entries : List Entry
+twins_entries = root_entry ∷ entry 1 1 65 (Some (0, 1)) ∷ []

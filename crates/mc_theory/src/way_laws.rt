@@ -97,15 +97,3 @@ pub fn a_second_copy_came_by_another_way()
         Shows n (run n (handles is) (start n t)) (Duplicate l) →
         CameTwice n (run n (handles is) (start n t)).carried l }
 {}
-
-/// In the closed diamond r3 and r4 both send onto l3. What r4 sends is the second copy there, and
-/// without it the diamond is right.
-pub fn the_closed_diamond_has_a_remedy()
-    ensures travel { IsTravel closed_diamond 4 [] false (0 ∷ 0 ∷ 0 ∷ 0 ∷ [])
-        (start closed_diamond 255) (Duplicate 3) }
-    ensures spare { IsSpare closed_diamond
-        (run closed_diamond (handles (0 ∷ 0 ∷ 0 ∷ 0 ∷ [])) (start closed_diamond 255))
-        (copy 3 253 (Some (3, 1))) (3, 1) upper_way }
-    ensures least_ttl { need upper_way ≡ 3 }
-    ensures right { HeadlineHolds (take_out (3, 1) closed_diamond) 4 }
-{}

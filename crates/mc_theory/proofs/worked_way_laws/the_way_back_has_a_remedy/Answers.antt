@@ -1,0 +1,57 @@
+-- Computed, and by the line's certificate.
+use Rattle.std.proofs.Common.{inl, [], ◌∷◌, Some, None, refl}
+use Rattle.mc_theory.specs.Lists.{below}
+use Rattle.mc_theory.specs.Nets.{interfaces}
+use Rattle.mc_theory.specs.Worked.{copy, onward_hop, way_back}
+use Rattle.mc_theory.proofs.InLists.{distinct-below}
+use Rattle.mc_theory.proofs.WorkedKept.{is-onward, no-way-back-kept}
+use Rattle.mc_theory.proofs.worked_way_laws.the_way_back_has_a_remedy.Goals as goal
+
+pub returns-clause-travel : goal.returns-clause-travel
+unfolding below interfaces
+returns-clause-travel c = (refl, refl, (refl, refl, (refl, refl, (refl, refl, refl))))
+
+pub returns-clause-came_back : goal.returns-clause-came_back
+unfolding below interfaces
+returns-clause-came_back c = record {
+  second = copy 0 252 (Some (2, 1));
+  double = record {
+    earlier = copy 0 255 None ∷ copy 1 254 (Some (0, 1)) ∷ copy 2 253 (Some (1, 1)) ∷ [];
+    later = [];
+    split = refl;
+    once = distinct-below 3;
+    again = inl refl;
+  };
+  lan = refl;
+  last_hop = onward_hop 2 2 0;
+  sender = refl;
+  before = onward_hop 1 1 2 ∷ onward_hop 0 0 1 ∷ [];
+  closed = (
+    refl,
+    is-onward (way_back 3) 2 2 0 refl refl refl,
+    (
+      refl,
+      is-onward (way_back 3) 1 1 2 refl refl refl,
+      (refl, is-onward (way_back 3) 0 0 1 refl refl refl, refl),
+    ),
+  );
+}
+
+pub returns-clause-spare : goal.returns-clause-spare
+unfolding below interfaces
+returns-clause-spare c = record {
+  double = record {
+    earlier = copy 0 255 None ∷ copy 1 254 (Some (0, 1)) ∷ copy 2 253 (Some (1, 1)) ∷ [];
+    later = [];
+    split = refl;
+    once = distinct-below 3;
+    again = inl refl;
+  };
+  sender = refl;
+  first = copy 0 255 None;
+  first_on = refl;
+  came = refl;
+}
+
+pub returns-clause-right : goal.returns-clause-right
+returns-clause-right c = no-way-back-kept

@@ -1,0 +1,78 @@
+//! Ways and remedies on small networks that are judged by hand.
+
+ghost use Rattle.std.specs.Prelude.{◌≡◌, ℕ, true, false, List, [], ◌∷◌, Some, None};
+ghost use Rattle.mc_theory.specs.Nets.Row.{Exact};
+ghost use Rattle.mc_theory.specs.Flights.{start, run};
+ghost use Rattle.mc_theory.specs.Headline.{HeadlineHolds};
+ghost use Rattle.mc_theory.specs.Findings.{copy_on, IsTravel, handles};
+ghost use Rattle.mc_theory.specs.Findings.Finding.{Duplicate, Loop};
+ghost use Rattle.mc_theory.specs.Ways.{IsHop, IsWay, Passes, need, IsReachedWith, take_out};
+ghost use Rattle.mc_theory.specs.Ways.{IsSpare, CameTwice, CameBack};
+ghost use Rattle.mc_theory.specs.Worked.{copy, onward, onward_hop, hop_above, way_back, second_way};
+ghost use Rattle.mc_theory.specs.Worked.{diamond, upper_way, closed_diamond, fork, twins};
+
+/// In the diamond a way leads by r1 and r3 to l3. At r3 a packet has lost one TTL, and what is left
+/// has to be greater than 1.
+pub fn the_diamond_has_an_upper_way()
+    ensures way { IsWay diamond 0 upper_way 3 }
+    // r3 takes from l1 alone
+    ensures other_lan { IsHop diamond (onward_hop 2 2 3) → ⊥ }
+    ensures least_ttl { need upper_way ≡ 3 }
+    ensures gets_through { Passes 3 upper_way }
+    ensures too_low { Passes 2 upper_way → ⊥ }
+{}
+
+/// Only the interface is taken out: the fork's other vif stays, and so do the rows of others.
+pub fn an_interface_alone_is_taken_out()
+    ensures row { (take_out (0, 1) (fork 65)).row 0 ≡ Exact 0 ((2, 64) ∷ []) }
+    ensures other_row { (take_out (2, 1) (way_back 3)).row 0 ≡ onward }
+{}
+
+/// In the closed diamond r3 and r4 both send onto l3. What r4 sends is the second copy there, and
+/// without it the diamond is right.
+pub fn the_closed_diamond_has_a_remedy()
+    ensures travel { IsTravel closed_diamond 4 [] false (0 ∷ 0 ∷ 0 ∷ 0 ∷ [])
+        (start closed_diamond 255) (Duplicate 3) }
+    ensures came_twice { CameTwice closed_diamond
+        (run closed_diamond (handles (0 ∷ 0 ∷ 0 ∷ 0 ∷ [])) (start closed_diamond 255)).carried 3 }
+    ensures spare { IsSpare closed_diamond
+        (run closed_diamond (handles (0 ∷ 0 ∷ 0 ∷ 0 ∷ [])) (start closed_diamond 255))
+        (copy 3 253 (Some (3, 1))) (3, 1) upper_way }
+    ensures right { HeadlineHolds (take_out (3, 1) closed_diamond) 4 }
+{}
+
+/// The way back leads by r1, r2 and r3 from l0 to l0. What r3 sends is the second copy there, the
+/// first is the source's, and without it the line is left.
+pub fn the_way_back_has_a_remedy()
+    ensures travel { IsTravel (way_back 3) 3 [] false (0 ∷ 0 ∷ 0 ∷ 0 ∷ [])
+        (start (way_back 3) 255) (Loop 0) }
+    ensures came_back { CameBack (way_back 3)
+        (run (way_back 3) (handles (0 ∷ 0 ∷ 0 ∷ 0 ∷ [])) (start (way_back 3) 255)).carried 0 }
+    ensures spare { IsSpare (way_back 3)
+        (run (way_back 3) (handles (0 ∷ 0 ∷ 0 ∷ 0 ∷ [])) (start (way_back 3) 255))
+        (copy 0 252 (Some (2, 1))) (2, 1) [] }
+    ensures right { HeadlineHolds (take_out (2, 1) (way_back 3)) 3 }
+{}
+
+/// Of the twins r2 sends the second copy onto l1. Without it the flow is right, whose packets have
+/// TTL 65; but one with TTL 2, less than the first copy's way needs, got through by r2 alone.
+pub fn a_packet_below_the_need_may_be_lost()
+    ensures travel { IsTravel twins 2 [] false (0 ∷ 0 ∷ []) (start twins 255) (Duplicate 1) }
+    ensures spare { IsSpare twins (run twins (handles (0 ∷ 0 ∷ [])) (start twins 255))
+        (copy 1 254 (Some (1, 1))) (1, 1) (hop_above 64 0 0 1 ∷ []) }
+    ensures least_ttl { need (hop_above 64 0 0 1 ∷ []) ≡ 65 }
+    ensures right { HeadlineHolds (take_out (1, 1) twins) 2 }
+    ensures before { IsReachedWith twins 2 1 }
+    ensures after { IsReachedWith (take_out (1, 1) twins) 2 1 → ⊥ }
+{}
+
+/// By other choices than the first waiting copy each time a LAN's first copy may have come by a
+/// longer way: where r1 and r2 handle theirs before r3, l2 has its first from r2.
+pub fn by_other_choices_the_first_copy_may_come_late()
+    ensures travel { IsTravel (second_way 3) 3 (0 ∷ []) true (0 ∷ 1 ∷ 1 ∷ 0 ∷ [])
+        (start (second_way 3) 255) (Duplicate 2) }
+    ensures late { copy_on (run (second_way 3) (handles (0 ∷ 1 ∷ 1 ∷ 0 ∷ []))
+        (start (second_way 3) 255)).carried 2 ≡ Some (copy 2 253 (Some (1, 1))) }
+    ensures shorter { IsWay (second_way 3) 0 (onward_hop 0 2 2 ∷ []) 2 }
+    ensures gets_through { Passes 255 (onward_hop 0 2 2 ∷ []) }
+{}

@@ -83,7 +83,7 @@ walk-came n t cs c [] r c_in back = ([], back, refl)
 walk-came n t cs c (d ∷ ds) r c_in back = walk-came_by n t cs c d ds c.sender refl r c_in back.0
     back.1 (walk-came n t cs d ds r (first-in cs d.lan d back.1) back.2)
 
-same-row : (row : Row) (v w : ℕ) (ps qs : List (ℕ × ℕ)) → row ≡ Exact v ps → row ≡ Exact w qs →
+pub same-row : (row : Row) (v w : ℕ) (ps qs : List (ℕ × ℕ)) → row ≡ Exact v ps → row ≡ Exact w qs →
     (v ≡ w) × (ps ≡ qs)
 same-row row v w ps qs p q = let both : Exact v ps ≡ Exact w qs = sym p ∙ q in (cc, cc)
 

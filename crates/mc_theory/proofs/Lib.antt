@@ -20,6 +20,7 @@ pub mod Told
 pub mod Ways
 pub mod Came
 pub mod Ranks
+pub mod Attended
 pub mod Spare
 pub mod WorkedNetworks
 pub mod WorkedReasons

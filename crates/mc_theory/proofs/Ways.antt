@@ -6,10 +6,10 @@ use Rattle.mc_theory.specs.Lists.{In}
 use Rattle.mc_theory.specs.Nets.{Net, Interface}
 use Rattle.mc_theory.specs.Flights.{Copy, Flight, Pick, start, step, run, without}
 use Rattle.mc_theory.specs.Flights.Pick.{Handles, Loses}
-use Rattle.mc_theory.specs.Certificates.{Entry, Live, Feeds, IsTree, source_entry_of}
+use Rattle.mc_theory.specs.Certificates.{Entry, Live, Feeds, IsTree, source_entry_of, lans}
 use Rattle.mc_theory.specs.Origins.{IsSentOn}
 use Rattle.mc_theory.specs.Ways.{Hop, IsHop, IsWay, Passes, need}
-use Rattle.mc_theory.proofs.InLists.{in-append_cases, in-remove}
+use Rattle.mc_theory.proofs.InLists.{in-append_cases, in-map_cases, in-remove}
 use Rattle.mc_theory.proofs.Origins.{AllHeard, StepGrows, grows-step, heard-start}
 use Rattle.mc_theory.proofs.Delivery.{one-entry}
 
@@ -36,8 +36,8 @@ need-low (h ∷ hs) = let rest = need-low hs in omega (arith, rest)
 -- ---- the ways of a tree
 
 -- a way that gets through leads to a named LAN, as its entry says
-pub way-entry : (n : Net) (es : List Entry) (t : ℕ) → IsTree n es → t ≤ 255 → (hs : List Hop) (l : ℕ) →
-    IsWay n n.source hs l → Passes t hs
+pub way-entry : (n : Net) (es : List Entry) (t : ℕ) → IsTree n es → t ≤ 255 → (hs : List Hop)
+    (l : ℕ) → IsWay n n.source hs l → Passes t hs
     → (e : Entry) × In e es × (e.lan ≡ l) × (e.rank ≡ length hs) × (e.need ≡ need hs)
 way-entry n es t tree high [] l way p = (source_entry_of n, tree.source_entry, way, refl, refl)
 way-entry n es t tree high (h ∷ hs) l way p =
@@ -135,7 +135,7 @@ run-keeps n P keep (Loses i ∷ ps) f heard p = run-keeps n P keep ps (without i
     (λ w k. heard w (in-remove w f.waiting i k)) p
 
 -- each of these copies has a way to its LAN, by which it got through
-abbrev pub AllByWays : Net → ℕ → List Copy → Type 0
+abbrev AllByWays : Net → ℕ → List Copy → Type 0
 AllByWays n t cs = (c : Copy) → In c cs → (hs : List Hop) × IsWay n n.source hs c.lan ×
     Passes t hs × (c.ttl + length hs ≡ t)
 
@@ -156,9 +156,15 @@ ways-grow n t f g (inl s) all = subst (AllByWays n t) (sym s.2.1) (λ c h. elim
           ))
     ])
 
-pub by-ways : (n : Net) (t : ℕ) (ps : List Pick) → AllByWays n t (run n ps (start n t)).carried
-by-ways n t ps = run-keeps n (AllByWays n t) (ways-grow n t) ps (start n t) (heard-start n t)
+pub carried-by_way : (n : Net) (t : ℕ) (ps : List Pick) (l : ℕ) →
+    In l (lans (run n ps (start n t)).carried)
+    → (hs : List Hop) × IsWay n n.source hs l × Passes t hs
+carried-by_way n t ps l h =
+    let all = run-keeps n (AllByWays n t) (ways-grow n t) ps (start n t) (heard-start n t)
     (λ c k. elim k [
       | inl e ↦ ([], ap (λ (x : Copy). x.lan) e, tt, omega (arith, ap (λ (x : Copy). x.ttl) e))
       | inr z ↦ absurd z
-    ])
+    ]) in
+    let c = in-map_cases (λ (c : Copy). c.lan) l (run n ps (start n t)).carried h in
+    let w = all c.0 c.1 in
+    (w.0, subst (IsWay n n.source w.0) c.2 w.1, w.2)

@@ -32,10 +32,10 @@ pub use travel_laws::{
 pub use way_laws::{
     a_carried_copy_came_by_a_way, a_second_copy_came_by_another_way,
     the_first_copy_has_the_least_rank, the_least_ttl_reaches, the_remedy_keeps_what_is_reached,
-    what_passes_is_a_matter_of_need,
+    what_is_reached_is_carried, what_passes_is_a_matter_of_need,
 };
 pub use worked_way_laws::{
     a_packet_below_the_need_may_be_lost, an_interface_alone_is_taken_out,
-    by_other_choices_the_first_copy_may_come_late, the_closed_diamond_has_a_remedy,
+    by_other_choices_a_first_copy_may_be_late, the_closed_diamond_has_a_remedy,
     the_diamond_has_an_upper_way, the_way_back_has_a_remedy,
 };

@@ -5,7 +5,7 @@ ghost use Rattle.std.specs.Prelude.{◌≡◌, ◌↔◌, ◌≤◌, ◌+◌, �
 ghost use Rattle.std.specs.Prelude.{length, Some};
 ghost use Rattle.mc_theory.specs.Lists.{In};
 ghost use Rattle.mc_theory.specs.Nets.{Net, IsNet, Interface};
-ghost use Rattle.mc_theory.specs.Flights.{Copy, Pick, start, run};
+ghost use Rattle.mc_theory.specs.Flights.{Copy, Pick, IsLossless, InRange, start, run};
 ghost use Rattle.mc_theory.specs.Certificates.{Entry, IsTree, lans};
 ghost use Rattle.mc_theory.specs.Findings.{Finding, copy_on, IsTravel, handles};
 ghost use Rattle.mc_theory.specs.Findings.Finding.{Duplicate, Loop};
@@ -45,6 +45,16 @@ pub fn a_carried_copy_came_by_a_way()
         IsWay n n.source hs c.lan × Passes t hs × (c.ttl + length hs ≡ t) }
 {}
 
+/// What is reached by ways is what complete runs reach: in each run without loss in which nothing
+/// waits any more, in any order, exactly the LANs carried a copy that are reached by a way that
+/// such a packet gets through.
+pub fn what_is_reached_is_carried()
+    ensures { (n : Net) (t : ℕ) (ps : List Pick) (l : ℕ) →
+        IsNet n → InRange n ps (start n t) → IsLossless ps →
+        (run n ps (start n t)).waiting ≡ [] →
+        In l (lans (run n ps (start n t)).carried) ↔ IsReachedWith n t l }
+{}
+
 /// In a travel of the first waiting copy each time a LAN's first copy has the least rank: it lost
 /// no more TTL than there are hops in any way that such a packet gets through.
 pub fn the_first_copy_has_the_least_rank()
@@ -81,6 +91,16 @@ pub fn the_remedy_keeps_what_is_reached()
         IsNet n → IsTravel n count [] false is (start n high) x →
         IsSpare n (run n (handles is) (start n high)) c i hs → need hs ≤ t → t ≤ high →
         IsReachedWith n t m → IsReachedWith (take_out i n) t m }
+    // So each LAN to which any run of a packet with this TTL brought a copy carries one without it,
+    // in each run without loss in which nothing waits any more.
+    ensures carried { (n : Net) (count high : ℕ) (is : List ℕ) (x : Finding)
+        (c : Copy) (i : Interface) (hs : List Hop) (t : ℕ) (ps qs : List Pick) (m : ℕ) →
+        IsNet n → IsTravel n count [] false is (start n high) x →
+        IsSpare n (run n (handles is) (start n high)) c i hs → need hs ≤ t → t ≤ high →
+        InRange (take_out i n) qs (start (take_out i n) t) → IsLossless qs →
+        (run (take_out i n) qs (start (take_out i n) t)).waiting ≡ [] →
+        In m (lans (run n ps (start n t)).carried) →
+        In m (lans (run (take_out i n) qs (start (take_out i n) t)).carried) }
     // What is left is a domain, so that all laws hold of it.
     ensures net { (n : Net) (i : Interface) → IsNet n → IsNet (take_out i n) }
 {}

@@ -68,7 +68,7 @@ pub fn a_packet_below_the_need_may_be_lost()
 
 /// By other choices than the first waiting copy each time a LAN's first copy may have come by a
 /// longer way: where r1 and r2 handle theirs before r3, l2 has its first from r2.
-pub fn by_other_choices_the_first_copy_may_come_late()
+pub fn by_other_choices_a_first_copy_may_be_late()
     ensures travel { IsTravel (second_way 3) 3 (0 ∷ []) true (0 ∷ 1 ∷ 1 ∷ 0 ∷ [])
         (start (second_way 3) 255) (Duplicate 2) }
     ensures late { copy_on (run (second_way 3) (handles (0 ∷ 1 ∷ 1 ∷ 0 ∷ []))

@@ -46,7 +46,11 @@ pub returns-clause-right : goal.returns-clause-right
 returns-clause-right c = one-twin-kept
 
 pub returns-clause-before : goal.returns-clause-before
-returns-clause-before c = (onward_hop 0 1 1 ∷ [], (refl, is-onward twins 0 1 1 refl refl refl, refl), (omega arith, tt))
+returns-clause-before c = (
+  onward_hop 0 1 1 ∷ [],
+  (refl, is-onward twins 0 1 1 refl refl refl, refl),
+  (omega arith, tt),
+)
 
 pub returns-clause-after : goal.returns-clause-after
 returns-clause-after c = one-twin-needs

@@ -6,7 +6,11 @@ use Rattle.mc_theory.proofs.WorkedKept.{is-onward}
 use Rattle.mc_theory.proofs.worked_way_laws.the_diamond_has_an_upper_way.Goals as goal
 
 pub returns-clause-way : goal.returns-clause-way
-returns-clause-way c = (refl, is-onward diamond 1 2 3 refl refl refl, (refl, is-onward diamond 0 0 1 refl refl refl, refl))
+returns-clause-way c = (
+  refl,
+  is-onward diamond 1 2 3 refl refl refl,
+  (refl, is-onward diamond 0 0 1 refl refl refl, refl),
+)
 
 pub returns-clause-other_lan : goal.returns-clause-other_lan
 returns-clause-other_lan c = λ h.

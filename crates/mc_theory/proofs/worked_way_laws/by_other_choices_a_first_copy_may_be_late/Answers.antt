@@ -4,7 +4,7 @@ use Rattle.mc_theory.specs.Lists.{below}
 use Rattle.mc_theory.specs.Nets.{interfaces}
 use Rattle.mc_theory.specs.Worked.{second_way}
 use Rattle.mc_theory.proofs.WorkedKept.{is-onward}
-use Rattle.mc_theory.proofs.worked_way_laws.by_other_choices_the_first_copy_may_come_late.Goals as goal
+use Rattle.mc_theory.proofs.worked_way_laws.by_other_choices_a_first_copy_may_be_late.Goals as goal
 
 pub returns-clause-travel : goal.returns-clause-travel
 unfolding below interfaces

@@ -9,7 +9,6 @@ pub mod PlaceLemmas
 pub mod WantsLemmas
 pub mod RunLemmas
 pub mod FirstLemmas
-pub mod RowNoLemmas
+pub mod RowLemmas
 pub mod SameLemmas
-pub mod FlatRowLemmas
 pub mod OutgoingLemmas

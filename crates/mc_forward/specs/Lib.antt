@@ -1,7 +1,6 @@
 pub mod Domains
 pub mod Assembling
 pub mod ListedTables
-pub mod RowNumbers
 pub mod FlatRows
 pub mod DomainParts
 pub mod Rows

@@ -19,7 +19,6 @@ mod per_lan;
 mod places;
 mod refused;
 mod row;
-mod row_numbers;
 mod tables;
 mod wants;
 

@@ -13,14 +13,3 @@ pub enum RowFor<'a> {
     /// No row.
     NoRow,
 }
-
-/// The same, where an entry is told by its number among those of the router's table.
-#[derive(Clone, Copy, Debug)]
-pub(crate) enum RowNo {
-    /// The entry with this number.
-    Exact(u32),
-    /// Only a row for every source.
-    Open,
-    /// No row.
-    NoRow,
-}

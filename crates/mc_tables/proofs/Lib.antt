@@ -12,7 +12,7 @@ pub mod ColonLemmas
 pub mod RowWordLemmas
 pub mod OifLemmas
 pub mod EntryLemmas
-pub mod FlatLemmas
+pub mod FlatOifLemmas
 pub mod PlainLemmas
 pub mod SlotLemmas
 pub mod CacheLemmas

@@ -16,7 +16,7 @@ ghost use Rattle.mc_tables.specs.ListedRows.{is_in, is_kept_by};
 use crate::cache_row::CacheRow;
 use crate::entry::{Entry, Oif};
 use crate::fault::TableFaultKind;
-use crate::flat_entries::{EntryHead, entry_at, push_entry};
+use crate::flat_oifs::FlatOifs;
 use crate::key_numbers::KeyNumbers;
 use crate::listed_numbers::Numbered;
 use mc_text::Addr;
@@ -28,9 +28,8 @@ use std::marker::Model;
 /// aren't kept.
 #[derive(Debug)]
 pub struct CacheRows {
-    heads: Vec<EntryHead>,
-    // those of all entries, one after another
-    oifs: Vec<Oif>,
+    // by incoming vif
+    entries: FlatOifs<u8>,
     numbers: KeyNumbers,
     // as their lines come, until they are put in order
     groups: Vec<Addr>,
@@ -40,8 +39,7 @@ pub struct CacheRows {
 impl Drop for CacheRows {
     fn drop(self) {
         let Self {
-            heads,
-            oifs,
+            entries,
             numbers,
             groups,
         } = self;
@@ -54,7 +52,7 @@ impl Model for CacheRows {
     ghost use Rattle.std.specs.FinSet as set;
     ghost use Rattle.mc_tables.specs.CacheTable.{cache_code};
     ghost use Rattle.mc_tables.specs.CacheNumbers.{entries_by, AreNumbers, KeptText};
-    ghost use Rattle.mc_tables.specs.FlatRows.{entries_of, AreFlat};
+    ghost use Rattle.mc_tables.specs.FlatOifs.{entries_of};
     ghost use Rattle.mc_tables.specs.ListedRows.{pairs_code};
 
     ghost Value = { KeptText };
@@ -64,17 +62,15 @@ impl Model for CacheRows {
     ghost view = { λ rows. record {
       table = record {
         entries = map.from_entries
-            (entries_by rows.numbers.numbers (entries_of rows.heads.items rows.oifs.items));
-        numbered = entries_of rows.heads.items rows.oifs.items;
+            (entries_by rows.numbers.numbers (entries_of rows.entries.lists));
+        numbered = entries_of rows.entries.lists;
         wildcards = set.from_list rows.groups.items;
       };
       listed = rows.numbers.listed;
       groups = rows.groups.items;
     } };
 
-    ghost invariant = { λ rows.
-        AreNumbers rows.numbers.numbers (entries_of rows.heads.items rows.oifs.items)
-        × AreFlat rows.heads.items rows.oifs.items };
+    ghost invariant = { λ rows. AreNumbers rows.numbers.numbers (entries_of rows.entries.lists) };
 }
 
 impl CacheRows {
@@ -84,8 +80,7 @@ impl CacheRows {
         ensures { result ≡ record { table = table_of []; listed = numbers.listed; groups = [] } }
     {
         CacheRows {
-            heads: Vec::new(alloc),
-            oifs: Vec::new(alloc),
+            entries: FlatOifs::new(alloc),
             numbers,
             groups: Vec::new(alloc),
         }
@@ -149,12 +144,11 @@ impl CacheRows {
         ensures listed { self.new.listed ≡ self.old.listed }
         ensures refused { OnErr result (self.new.table.numbered ≡ self.old.table.numbered) }
     {
-        let number = self.heads.len() as u32;
-        self.heads.reserve(1)?;
-        self.oifs.reserve(oifs.len())?;
+        let number = self.entries.len() as u32;
+        self.entries.reserve(oifs.len())?;
         match self.numbers.add(key, number)? {
             Numbered::New => {
-                push_entry(&mut self.heads, &mut self.oifs, iif, oifs)?;
+                self.entries.push(iif, oifs)?;
                 Ok(true)
             }
             Numbered::Repeated => Err(TableFaultKind::RepeatedEntry),
@@ -187,7 +181,8 @@ impl CacheRows {
         requires { number < length self.now.table.numbered }
         ensures { slice_get self.now.table.numbered number ≡ Some result }
     {
-        entry_at(&self.heads, &self.oifs, number)
+        let (iif, oifs) = self.entries.at(number);
+        Entry { iif, oifs }
     }
 
     /// Whether a row for every source has this group or the group 0.0.0.0.

@@ -9,7 +9,7 @@ mod cache_rows;
 mod cache_table;
 mod entry;
 mod fault;
-mod flat_entries;
+mod flat_oifs;
 mod header;
 mod key_numbers;
 mod laws;
@@ -33,6 +33,7 @@ pub use cache_reader::CacheReader;
 pub use cache_table::CacheTable;
 pub use entry::{Entry, Oif};
 pub use fault::{TableFault, TableFaultKind};
+pub use flat_oifs::FlatOifs;
 pub use laws::{
     devices_have_one_vif, entries_ascend_in_range, listed_rows_are_part_of_the_whole,
     tables_are_read_as_they_stand, tables_keep_their_rules, texts_stand_for_one_table,

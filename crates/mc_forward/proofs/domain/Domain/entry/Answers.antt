@@ -1,7 +1,7 @@
 use Rattle.std.proofs.Common.{◌≡◌, ℕ, get_or, ap, subst, arith, ◌∙◌}
 use Rattle.mc_forward.specs.Domains.{DomainValue, IsDomain}
 use Rattle.mc_forward.specs.DomainParts.{rows_by_tables}
-use Rattle.mc_forward.proofs.RowNoLemmas.{own-rows, own-count, own-row, row-stands}
+use Rattle.mc_forward.proofs.RowLemmas.{own-rows, own-count, own-row, row-stands}
 use Rattle.mc_forward.proofs.domain.Domain.entry.Goals as goal
 
 pub row-requires : goal.row-requires

@@ -4,7 +4,7 @@ use Rattle.std.specs.Ordering.{nat_cmp}
 use Rattle.std.proofs.lemmas.Cmp.{nat_cmp_total}
 use Rattle.std.specs.FinMap.{nat_cmp-IsAntisymmetric}
 use Rattle.mc_tables.specs.CacheNumbers.{KeptText, KeysText}
-use Rattle.mc_tables.specs.FlatRows.{entries_of}
+use Rattle.mc_tables.specs.FlatOifs.{entries_of}
 use Rattle.mc_tables.proofs.CacheMapLemmas.{table_with}
 use Rattle.mc_tables.proofs.ListedLemmas.{set_reordered}
 use Rattle.mc_tables.proofs.cache_rows.CacheRows.in_order.Goals as goal
@@ -12,7 +12,7 @@ use Rattle.mc_tables.proofs.cache_rows.CacheRows.in_order.Goals as goal
 pub returns-clause-table : goal.returns-clause-table
 returns-clause-table c =
     let inside = c.self.inside in
-    let es = entries_of inside.heads.items inside.oifs.items in
+    let es = entries_of inside.entries.lists in
     ap (λ (keys : KeysText). table_with keys.numbers es
     (set.from_list {R = nat_cmp} c.sort_unstable.new.self.items)) c.settle.ensures
     ∙ ap (table_with inside.numbers.numbers es)

@@ -2,26 +2,26 @@ use Rattle.std.proofs.Common.{◌≡◌, ◌<◌, ℕ, ◌∙◌, sym, ap, subst
 use Rattle.std.specs.Prelude.{IfSome, slice_get, option_and_then}
 use Rattle.std.specs.FinMap as map
 use Rattle.mc_tables.specs.CacheNumbers.{KeptText, entries_by}
-use Rattle.mc_tables.specs.FlatRows.{entries_of}
+use Rattle.mc_tables.specs.FlatOifs.{entries_of}
 use Rattle.mc_tables.proofs.CacheMapLemmas.{by_number, looked_up}
 use Rattle.mc_tables.proofs.cache_rows.CacheRows.number_near.Goals as goal
 
 pub returns-clause-within : goal.returns-clause-within
 returns-clause-within c =
     let key : ℕ × ℕ = (c.args.source, c.args.group) in
-    let es = entries_of c.self.inside.heads.items c.self.inside.oifs.items in
+    let es = entries_of c.self.inside.entries.lists in
     subst (λ (t : KeptText). IfSome c.number_near.result (λ number. number < length t.table.numbered))
     c.self.view_is
     (subst (λ (o : Option ℕ). IfSome o (λ number. number < length es))
-    (sym c.number_near.ensures) (c.self.invariant.0 key))
+    (sym c.number_near.ensures) (c.self.invariant key))
 
 pub returns-clause-entry : goal.returns-clause-entry
 returns-clause-entry c =
     let key : ℕ × ℕ = (c.args.source, c.args.group) in
-    let es = entries_of c.self.inside.heads.items c.self.inside.oifs.items in
+    let es = entries_of c.self.inside.entries.lists in
     let numbers = c.self.inside.numbers.numbers in
     subst (λ (t : KeptText). option_and_then (slice_get t.table.numbered) c.number_near.result
     ≡ map.get t.table.entries key) c.self.view_is
     (ap (option_and_then (slice_get es)) c.number_near.ensures
-    ∙ sym (by_number key numbers es (c.self.invariant.0 key))
+    ∙ sym (by_number key numbers es (c.self.invariant key))
     ∙ looked_up key (entries_by numbers es))

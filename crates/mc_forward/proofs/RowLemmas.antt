@@ -1,67 +1,26 @@
 -- The rows that a domain keeps are those of its caches.
-use Rattle.std.proofs.Common.{◌≡◌, ℕ, zero, suc, ◌+◌, ◌<◌, Bool, true, false, List, [], ◌∷◌, ◌++◌}
+use Rattle.std.proofs.Common.{◌≡◌, ℕ, ◌+◌, ◌<◌, Bool, true, false, List, [], ◌∷◌, ◌++◌}
 use Rattle.std.proofs.Common.{map, length, take, get_or, Option, Some, None, refl, sym, ap, subst}
 use Rattle.std.proofs.Common.{◌∙◌, arith}
-use Rattle.std.specs.Prelude.{◌||◌, IfSome, slice_get, slice_index_or}
+use Rattle.std.specs.Prelude.{◌||◌, IfSome, slice_get}
 use Rattle.std.specs.Option.{option_map}
 use Rattle.std.specs.FinMap as finite
 use Rattle.std.specs.FinSet as set
 use Rattle.std.proofs.lemmas.List.{length-map}
-use Rattle.std.proofs.lemmas.Option.{slice_get-map, slice_get_read, slice_get_within}
+use Rattle.std.proofs.lemmas.Option.{slice_get-map, slice_get_read}
 use Rattle.mc_tables.specs.CacheTable.{CacheText, EntryText, IsEntry, to_oif}
 use Rattle.mc_tables.specs.declared.entry.Oif.{Oif}
 use Rattle.mc_topology.specs.declared.flow.Flow.{Flow}
 use Rattle.mc_theory.specs.Nets.{Row}
 use Rattle.mc_theory.specs.Nets.Row.{Exact as exact, Open as open_row, NoRow as no_row}
-use Rattle.mc_forward.specs.declared.row.RowNo.{RowNo}
-use Rattle.mc_forward.specs.declared.row.RowNo.TheVariants.{Exact, Open, NoRow}
 use Rattle.mc_forward.specs.declared.row.RowFor.{RowFor}
 use Rattle.mc_forward.specs.declared.row.RowFor.TheVariants as row
 use Rattle.mc_forward.specs.Domains.{TablesValue, DomainValue, IsDomain, pairs_of, row_by, row_in}
 use Rattle.mc_forward.specs.Domains.{row_at, row_of}
 use Rattle.mc_forward.specs.DomainParts.{rows_by_tables}
-use Rattle.mc_forward.specs.RowNumbers.{IsRowNo, IsNumbered, AreRowNos}
 use Rattle.mc_forward.specs.Rows.{row_seen, EntryStands}
 use Rattle.mc_forward.proofs.BelowLemmas.{map-push}
 use Rattle.mc_forward.proofs.EachLemmas.{some-at, take-found}
-
--- ---- the numbers of a router's rows
-
--- a number that is kept is of an entry of the cache
-is-numbered : (cache : CacheText) (f : Flow) (number : RowNo) → IsRowNo cache f number
-    → IsNumbered cache number
-is-numbered cache f (Exact number) is = slice_get_within cache.numbered number is.entry is.numbered
-is-numbered cache f Open is = tt
-is-numbered cache f NoRow is = tt
-
--- the flow with this place, of which this is the number
-pub record NumberedAt (flows : List Flow) (t : TablesValue) (i : ℕ) (number : RowNo) : Type 0 where
-  pub item : Flow
-  pub at : slice_get flows i ≡ Some item
-  pub row : IsRowNo t.cache item number
-  pub numbered : IsNumbered t.cache number
-
-read_or : {A : Type 0} (xs : List A) (i : ℕ) (d : A) → i < length xs
-    → slice_get xs i ≡ Some (slice_index_or xs i d)
-read_or [] i d h = absurd (omega (arith, h))
-read_or (x ∷ xs) zero d h = refl
-read_or (x ∷ xs) (suc i) d h = read_or xs i d (omega (arith, h))
-
-pub numbered-at : (flows : List Flow) (t : TablesValue) (numbers seen : List RowNo) (i : ℕ)
-    (d : RowNo) → AreRowNos flows t numbers → seen ≡ numbers → i < length seen
-    → NumberedAt flows t i (slice_index_or seen i d)
-numbered-at flows t numbers seen i d rows same lt =
-    let size = rows.count in
-    let number = slice_index_or seen i d in
-    let f = some-at flows i (omega (arith, lt, size, ap length same)) in
-    let row = rows.each i f.0 number f.1
-    (subst (λ (xs : List RowNo). slice_get xs i ≡ Some number) same (read_or seen i d lt)) in
-    record {
-      item = f.0;
-      at = f.1;
-      row = row;
-      numbered = is-numbered t.cache f.0 number row;
-    }
 
 -- one row more
 pub rows-taken : (cache : CacheText) (flows : List Flow) (i : ℕ) (f : Flow) (r : Row)

@@ -1,0 +1,114 @@
+//! Lists of outgoing vifs, all in one vector.
+
+ghost use Rattle.std.specs.Prelude.{◌≡◌, ◌≤◌, ◌<◌, ◌+◌, ◌^◌, [], ◌∷◌, ◌++◌, length, IfOk, IsOk, OnErr};
+ghost use Rattle.std.specs.Prelude.{OnOk, Some, slice_get};
+ghost use Rattle.mc_tables.specs.FlatOifs.{HasRoom};
+
+use crate::entry::Oif;
+use std::alloc::{AllocError, Global};
+use std::marker::Model;
+
+/// The head of a list, and where its outgoing vifs stand among those of all lists.
+#[derive(Clone, Copy, Debug)]
+struct FlatList<H: Copy> {
+    head: H,
+    /// The place of the first outgoing vif.
+    start: u32,
+    /// How many there are.
+    count: u8,
+}
+
+/// Lists of outgoing vifs, which stand one after another. Each has a head, as an incoming vif. The
+/// value in contracts is the heads with their lists, and for how many more lists and outgoing vifs
+/// there is room.
+#[derive(Debug, Drop)]
+pub struct FlatOifs<H: Copy> {
+    lists: Vec<FlatList<H>>,
+    // those of all lists
+    oifs: Vec<Oif>,
+}
+
+impl<H: Copy> Model for FlatOifs<H> {
+    ghost use Rattle.std.specs.Prelude.{◌-◌, vec_len, vec_capacity};
+    ghost use Rattle.mc_tables.specs.FlatOifs.{FlatText, lists_of, AreFlat};
+
+    ghost Value = { FlatText H };
+
+    ghost view = { λ s. record {
+      lists = lists_of s.lists.items s.oifs.items;
+      lists_left = vec_capacity s.lists - vec_len s.lists;
+      oifs_left = vec_capacity s.oifs - vec_len s.oifs;
+    } };
+
+    ghost invariant = { λ s. AreFlat s.lists.items s.oifs.items };
+}
+
+impl<H: Copy> FlatOifs<H> {
+    /// No lists.
+    pub fn new(alloc: Global) -> FlatOifs<H>
+        ensures { result.lists ≡ [] }
+    {
+        FlatOifs {
+            lists: Vec::new(alloc),
+            oifs: Vec::new(alloc),
+        }
+    }
+
+    /// No lists, and room for so many.
+    pub fn with_capacity(alloc: Global, lists: usize) -> Result<FlatOifs<H>, AllocError>
+        ensures none { IfOk result (λ s. s.lists ≡ []) }
+        ensures room { IfOk result (λ s. lists ≤ s.lists_left) }
+    {
+        Ok(FlatOifs {
+            lists: Vec::with_capacity(alloc, lists)?,
+            oifs: Vec::new(alloc),
+        })
+    }
+
+    /// How many lists there are.
+    pub fn len(&self) -> usize
+        ensures { result ≡ length self.now.lists }
+    {
+        self.lists.len()
+    }
+
+    /// Makes room for one list more, of so many outgoing vifs.
+    pub fn reserve(&mut self, oifs: usize) -> Result<(), AllocError>
+        ensures lists { self.new.lists ≡ self.old.lists }
+        ensures room { OnOk result (HasRoom self.new oifs) }
+    {
+        self.lists.reserve(1)?;
+        self.oifs.reserve(oifs)
+    }
+
+    /// Adds a list behind the others. This can only be refused where there is no room.
+    #[tactic(auto, using(crate::proofs::FlatOifLemmas::lists_pushed))]
+    pub fn push(&mut self, head: H, oifs: &[Oif]) -> Result<(), AllocError>
+        requires count { length self.old.lists < 65536 }
+        requires few { length oifs.now ≤ 32 }
+        ensures lists { OnOk result (self.new.lists ≡ self.old.lists ++ (head, oifs.now) ∷ []) }
+        ensures refused { OnErr result (self.new.lists ≡ self.old.lists) }
+        ensures room { HasRoom self.old (length oifs.now) → IsOk result }
+    {
+        self.lists.reserve(1)?;
+        let start = self.oifs.len() as u32;
+        self.oifs.extend_from_slice(oifs)?;
+        self.lists.push(FlatList {
+            head,
+            start,
+            count: oifs.len() as u8,
+        })?;
+        Ok(())
+    }
+
+    /// The head and the list with this number.
+    pub fn at(&self, number: u32) -> (H, &[Oif])
+        requires { number < length self.now.lists }
+        ensures { slice_get self.now.lists number ≡ Some (result.0, result.1.now) }
+    {
+        let list = &self.lists[number as usize];
+        let start = list.start as usize;
+        let oifs = &self.oifs[start..start + usize::from(list.count)];
+        (list.head, oifs)
+    }
+}

@@ -18,7 +18,7 @@ ghost use Rattle.mc_domain.specs.SourceFault.{is_read};
 use crate::bundle_part::{cache_in, certificate_in, vifs_in, wanted_in};
 use crate::slot_part::read_on;
 use crate::source_fault::SourceFault;
-use mc_forward::{FlowGroups, Items, Tables};
+use mc_forward::{FlowChannels, Items, Tables};
 use mc_layout::slot_count;
 use mc_text::{Input, Parts};
 use mc_topology::{RouterNo, Topology};
@@ -110,7 +110,7 @@ fn wants_in<R: Input>(
     ensures goes_on { GoesOn parts.old parts.new }
     ensures failures { parts.new.failed ≡ counted is_read result parts.old.failed }
 {
-    let groups = FlowGroups::of(alloc, topology)?;
+    let channels = FlowChannels::of(alloc, topology)?;
     let first = 1 + 2 * topology.routers();
     let mut wants = Vec::new(alloc);
     for lan in 0..topology.lans() {
@@ -119,7 +119,7 @@ fn wants_in<R: Input>(
             parts,
             buffer,
             topology,
-            &groups,
+            &channels,
             certified,
             first + lan,
         )?)?;

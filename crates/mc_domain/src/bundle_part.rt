@@ -10,7 +10,7 @@ ghost use Rattle.mc_tables.specs.ListedRows.{IsListedPart};
 ghost use Rattle.mc_tables.specs.RowsSoFar.{cache_if};
 ghost use Rattle.mc_text.specs.Lines.{max_text};
 ghost use Rattle.mc_layout.specs.Layout.{part_name, slots, topology_slot};
-ghost use Rattle.mc_forward.specs.Assembling.{AreGroupsOf, AreWanted};
+ghost use Rattle.mc_forward.specs.Assembling.{AreChannelsWanted};
 ghost use Rattle.mc_forward.specs.ListedTables.{flow_pairs};
 ghost use Rattle.mc_domain.specs.PartsInTurn.{IsAt, IsToldOf, Refuses, Tells, coming, once_named, names_from};
 ghost use Rattle.mc_domain.specs.PartsInTurn.{of_first, topology_first};
@@ -26,7 +26,7 @@ use crate::slot_part::{open_named, open_slot, read_on, read_to_end};
 use crate::source_fault::SourceFault;
 use crate::table_part::feed_part;
 use crate::told::{cache_told, reader_of_flows, topology_of, vifs_told, wanted_of};
-use mc_forward::{FlowGroups, Items};
+use mc_forward::{FlowChannels, Items};
 use mc_layout::Slot;
 use mc_tables::{CacheReader, CacheTable, VifReader, VifTable};
 use mc_text::{Input, Order, Part, Parts, collect_part};
@@ -172,27 +172,26 @@ pub(crate) fn cache_in<R: Input>(
     kept(parts, topology, certified, number + 1, told)
 }
 
-/// What the part of a LAN's reports tells: which flows they want.
+/// What the part of a LAN's reports tells: which of these channels they want.
 fn read_reports<R: Input>(
     alloc: Global,
     parts: &mut Parts<R>,
     buffer: &mut [u8],
     topology: &Topology,
-    groups: &FlowGroups,
+    channels: &FlowChannels,
     certified: bool,
     number: u32,
 ) -> Result<Result<Items<bool>, InputFault>, SourceFault>
     requires within { number < length (slots certified topology.now) }
     requires few { number < u32.MAX }
     requires room { 0 < length buffer.old }
-    requires groups { AreGroupsOf topology.now.flows groups.now }
     requires failures { parts.old.failed < u64.MAX }
     ensures told { IfOk result (λ told. Passes parts.old parts.new (λ part.
         IsAt certified topology.now number part.name
-        × IsToldOf (λ wanted records. AreWanted topology.now.flows records wanted)
+        × IsToldOf (λ wanted records. AreChannelsWanted channels.now records wanted)
         told (told_reports part))) }
     ensures count { IfOk result (λ told. IfOk told (λ wanted.
-        length wanted ≡ length topology.now.flows)) }
+        length wanted ≡ length channels.now)) }
     ensures fault { IfErr result (Refuses parts.old
         (names_from number (drop number (slots certified topology.now)))) }
     ensures goes_on { GoesOn parts.old parts.new }
@@ -204,33 +203,32 @@ fn read_reports<R: Input>(
         name: parts.name(),
         bytes: &bytes,
     };
-    Ok(wanted_of(alloc, topology, groups, &part))
+    Ok(wanted_of(alloc, channels, &part))
 }
 
-/// Which flows a LAN wants, by its reports in the part of the slot with a number.
+/// Which of these channels a LAN wants, by its reports in the part of the slot with a number.
 pub(crate) fn wanted_in<R: Input>(
     alloc: Global,
     parts: &mut Parts<R>,
     buffer: &mut [u8],
     topology: &Topology,
-    groups: &FlowGroups,
+    channels: &FlowChannels,
     certified: bool,
     number: u32,
 ) -> Result<Items<bool>, SourceFault>
     requires within { number < length (slots certified topology.now) }
     requires few { number < u32.MAX }
     requires room { 0 < length buffer.old }
-    requires groups { AreGroupsOf topology.now.flows groups.now }
     requires failures { parts.old.failed < u64.MAX }
     ensures wanted { IfOk result (λ wanted. Tells parts.old parts.new certified topology.now number
-        told_reports (λ records. AreWanted topology.now.flows records wanted)) }
-    ensures count { IfOk result (λ wanted. length wanted ≡ length topology.now.flows) }
+        told_reports (λ records. AreChannelsWanted channels.now records wanted)) }
+    ensures count { IfOk result (λ wanted. length wanted ≡ length channels.now) }
     ensures fault { IfErr result (Refuses parts.old
         (once_named certified topology.now number (of_first told_reports))) }
     ensures goes_on { GoesOn parts.old parts.new }
     ensures failures { parts.new.failed ≡ counted is_read result parts.old.failed }
 {
-    let told = read_reports(alloc, parts, buffer, topology, groups, certified, number)?;
+    let told = read_reports(alloc, parts, buffer, topology, channels, certified, number)?;
     kept(parts, topology, certified, number + 1, told)
 }
 

@@ -4,7 +4,7 @@ ghost use Rattle.std.specs.Prelude.{◌≡◌, ◌<◌, ℕ, IfOk, IsTrue, Some,
 ghost use Rattle.mc_text.specs.Device.{counted};
 ghost use Rattle.mc_tables.specs.ListedRows.{IsListedPart};
 ghost use Rattle.mc_topology.specs.Names.{is_name};
-ghost use Rattle.mc_forward.specs.Assembling.{AreGroupsOf, AreWanted};
+ghost use Rattle.mc_forward.specs.Assembling.{AreChannelsWanted};
 ghost use Rattle.mc_forward.specs.ListedTables.{flow_pairs};
 ghost use Rattle.mc_layout.specs.Layout.{cache_slot, reports_slot, topology_slot, vif_slot};
 ghost use Rattle.mc_domain.specs.SourceFault.{GivesOf, is_read};
@@ -17,7 +17,7 @@ ghost use Rattle.mc_domain.specs.declared.source_fault.SourceFault.TheVariants.{
 use crate::source_fault::SourceFault;
 use crate::table_file::feed_slot;
 use crate::told::{cache_told, reader_of_flows, topology_of, vifs_told, wanted_of};
-use mc_forward::{FlowGroups, Items};
+use mc_forward::{FlowChannels, Items};
 use mc_layout::{FileSource, PieceSource, Slot, part_of_file};
 use mc_tables::{CacheTable, VifReader, VifTable};
 use mc_text::Order;
@@ -90,21 +90,19 @@ pub(crate) fn cache_in<F: PieceSource>(
 pub(crate) fn wanted_in<F: FileSource>(
     alloc: Global,
     files: &mut F,
-    topology: &Topology,
-    groups: &FlowGroups,
+    channels: &FlowChannels,
     lan: &str,
 ) -> Result<Items<bool>, SourceFault>
     requires name { IsTrue (is_name lan.now) }
-    requires groups { AreGroupsOf topology.now.flows groups.now }
     requires reads { F.failed files.old < u64.MAX }
     ensures same { F.names files.new ≡ F.names files.old }
     ensures kept { F.told files.new ≡ F.told files.old }
     ensures wanted { (n : ℕ) → GivesKeptOf (F.told files.old)
-        (λ wanted records. AreWanted topology.now.flows records wanted) result
+        (λ wanted records. AreChannelsWanted channels.now records wanted) result
         (λ told. told_by Input (part_filed told n (reports_slot lan.now)) told_reports) }
-    ensures count { IfOk result (λ wanted. length wanted ≡ length topology.now.flows) }
+    ensures count { IfOk result (λ wanted. length wanted ≡ length channels.now) }
     ensures failures { F.failed files.new ≡ counted is_read result (F.failed files.old) }
 {
     let part = part_of_file(alloc, files, &Slot::reports(lan))?;
-    Ok(wanted_of(alloc, topology, groups, &part.as_part())?)
+    Ok(wanted_of(alloc, channels, &part.as_part())?)
 }

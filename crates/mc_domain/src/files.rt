@@ -16,7 +16,7 @@ ghost use Rattle.mc_domain.specs.declared.source_fault.SourceFault.TheVariants.{
 
 use crate::file_part::{cache_in, vifs_in, wanted_in};
 use crate::source_fault::SourceFault;
-use mc_forward::{FlowGroups, Items, Tables};
+use mc_forward::{FlowChannels, Items, Tables};
 use mc_layout::{FileSource, PieceSource};
 use mc_text::Order;
 use mc_topology::{LanNo, RouterNo, Topology};
@@ -87,11 +87,11 @@ fn wants_in<F: FileSource>(
     ensures answers { IfOk result (λ wants. AreAnswers topology.now wants.items) }
     ensures failures { F.failed files.new ≡ counted is_read result (F.failed files.old) }
 {
-    let groups = FlowGroups::of(alloc, topology)?;
+    let channels = FlowChannels::of(alloc, topology)?;
     let mut wants = Vec::new(alloc);
     for lan in 0..topology.lans() {
         let name = topology.lan_name(LanNo(lan));
-        wants.push(wanted_in(alloc, files, topology, &groups, name)?)?;
+        wants.push(wanted_in(alloc, files, &channels, name)?)?;
     }
     Ok(wants)
 }

@@ -13,7 +13,7 @@ ghost use Rattle.mc_tables.specs.CacheTable.{CacheText};
 ghost use Rattle.mc_tables.specs.Steps.{out_of_memory};
 ghost use Rattle.mc_tables.specs.VifTable.{VifText};
 ghost use Rattle.mc_tables.specs.declared.fault.TableFault.{TableFault as FaultOfTable};
-ghost use Rattle.mc_forward.specs.Assembling.{AreGroupsOf, AreWanted};
+ghost use Rattle.mc_forward.specs.Assembling.{AreChannelsWanted};
 ghost use Rattle.mc_domain.specs.PartsInTurn.{IsToldOf};
 ghost use Rattle.mc_domain.specs.declared.fault.InputFault.TheVariants.{Cache as RefusedCache};
 ghost use Rattle.mc_domain.specs.declared.fault.InputFault.TheVariants.{Vif as RefusedVif};
@@ -21,7 +21,7 @@ ghost use Rattle.mc_domain.specs.InputReading.{Gives};
 ghost use Rattle.mc_domain.specs.PartsReading.{reports_of, topology_of};
 
 use crate::fault::InputFault;
-use mc_forward::{FlowGroups, Items};
+use mc_forward::{FlowChannels, Items};
 use mc_igmp::{ListFault, ListFaultKind, ReportList};
 use mc_tables::{CacheReader, CacheTable, TableFault, TableFaultKind, VifTable};
 use mc_text::{Order, Part, PartName};
@@ -122,18 +122,16 @@ pub(crate) fn cache_told(
     }
 }
 
-/// Which flows a LAN wants, by the report list in a part.
+/// Which of these channels a LAN wants, by the report list in a part.
 pub(crate) fn wanted_of(
     alloc: Global,
-    topology: &Topology,
-    groups: &FlowGroups,
+    channels: &FlowChannels,
     part: &Part<'_>,
 ) -> Result<Items<bool>, InputFault>
-    requires { AreGroupsOf topology.now.flows groups.now }
-    ensures wanted { IsToldOf (λ wanted records. AreWanted topology.now.flows records wanted) result
+    ensures wanted { IsToldOf (λ wanted records. AreChannelsWanted channels.now records wanted) result
         (reports_of (part_text part.now)) }
-    ensures count { IfOk result (λ wanted. length wanted ≡ length topology.now.flows) }
+    ensures count { IfOk result (λ wanted. length wanted ≡ length channels.now) }
 {
     let reports = reports_of(alloc, part)?;
-    Ok(groups.wanted(alloc, topology, &reports)?)
+    Ok(channels.wanted(alloc, &reports)?)
 }

@@ -11,6 +11,7 @@ use Rattle.mc_topology.specs.Topology.{TopologyValue, IsTopology}
 use Rattle.mc_forward.specs.Domains.{TablesValue, AreTables, IsDomain}
 use Rattle.mc_forward.specs.DomainParts.{domain_with}
 use Rattle.mc_forward.specs.Assembling.{EachAt, AreAnswers, AreCounted, IsAssembled, AreWanted}
+use Rattle.mc_forward.specs.Assembling.{AreChannelsWanted}
 use Rattle.mc_forward.specs.ListedTables.{flow_pairs}
 use Rattle.mc_forward.proofs.EachLemmas.{some-at}
 
@@ -72,16 +73,20 @@ assembled-of t ts rs wants size each = record {
       wanted-at t.flows rs wants size each;
 }
 
--- whether each channel of the flows is wanted, as whether each flow is
-pub flows-wanted : (flows : List Flow) (records : List Record) (pairs : List (ℕ × ℕ))
-    (wanted : List Bool) → pairs ≡ flow_pairs flows → length wanted ≡ length pairs
-    → ((i : ℕ) (pair : ℕ × ℕ) (b : Bool) → slice_get pairs i ≡ Some pair
-    → slice_get wanted i ≡ Some b → IsTrue b ↔ Wants records pair.1 pair.0)
-    → AreWanted flows records wanted
-flows-wanted flows records pairs wanted are count each = record {
-  count = count ∙ ap length are ∙ length-map flows (λ (f : Flow). (f.source, f.group));
-  each = λ k f b at told. each k (f.source, f.group) b
-      (ap (λ (ps : List (ℕ × ℕ)). slice_get ps k) are
+-- there is a channel for each flow
+pub channels-count : (flows : List Flow) (channels : List (ℕ × ℕ)) → channels ≡ flow_pairs flows
+    → length channels ≡ length flows
+channels-count flows channels are =
+    ap length are ∙ length-map flows (λ (f : Flow). (f.source, f.group))
+
+-- which channels of flows are wanted says which flows are
+pub flows-wanted : (flows : List Flow) (records : List Record) (channels : List (ℕ × ℕ))
+    (wanted : List Bool) → channels ≡ flow_pairs flows
+    → AreChannelsWanted channels records wanted → AreWanted flows records wanted
+flows-wanted flows records channels wanted are own = record {
+  count = own.count ∙ channels-count flows channels are;
+  each = λ k f b at told. own.each k (f.source, f.group) b
+      (ap (λ (cs : List (ℕ × ℕ)). slice_get cs k) are
       ∙ slice_get-map (λ (g : Flow). (g.source, g.group)) flows k
       ∙ ap (λ o. option_map (λ (g : Flow). (g.source, g.group)) o) at) told;
 }

@@ -9,7 +9,6 @@ use Rattle.mc_topology.specs.Topology.{TopologyValue}
 use Rattle.mc_theory.specs.Lists.{below}
 use Rattle.mc_theory.specs.Nets.{Interface, is_lan, slots}
 use Rattle.mc_forward.specs.Domains.{TablesValue, DomainValue, lan_of_vif, wants_of}
-use Rattle.mc_forward.specs.ListedTables.{flow_pairs}
 
 -- tables for each router, and a list of reports for each LAN
 pub record AreCounted (t : TopologyValue) (ts : List TablesValue) (rs : List (List Record))
@@ -34,9 +33,15 @@ abbrev pub EachAt : {A B : Type 0} → (A → B → Type 0) → List A → List 
 EachAt {A} {B} R xs ys =
     (k : ℕ) (x : A) (y : B) → slice_get xs k ≡ Some x → slice_get ys k ≡ Some y → R x y
 
--- the source and the group of each flow, by which reports are reduced
-abbrev pub AreGroupsOf : List Flow → List (ℕ × ℕ) → Type 0
-AreGroupsOf flows pairs = pairs ≡ flow_pairs flows
+-- whether the channel, a source and a group, is wanted by these records
+abbrev pub IsChannelWanted : List Record → ℕ × ℕ → Bool → Type 0
+IsChannelWanted records channel wanted = IsTrue wanted ↔ Wants records channel.1 channel.0
+
+-- which of the channels are wanted by these records
+pub record AreChannelsWanted (channels : List (ℕ × ℕ)) (records : List Record) (wanted : List Bool)
+    : Type 0 where
+  pub count : length wanted ≡ length channels
+  pub each : EachAt (IsChannelWanted records) channels wanted
 
 -- whether the flow is wanted by these records
 abbrev pub IsWanted : List Record → Flow → Bool → Type 0

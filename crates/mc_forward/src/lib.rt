@@ -41,4 +41,4 @@ pub use per_lan::PerLan;
 pub use refused::{DomainFault, Refused};
 pub use row::RowFor;
 pub use tables::Tables;
-pub use wants::FlowGroups;
+pub use wants::FlowChannels;

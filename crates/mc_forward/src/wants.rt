@@ -1,7 +1,7 @@
 //! Which flows of a topology the hosts of a LAN want.
 
 ghost use Rattle.std.specs.Prelude.{◌≡◌, IfOk, length, vec_len};
-ghost use Rattle.mc_forward.specs.Assembling.{EachAt, AreGroupsOf, AreWanted};
+ghost use Rattle.mc_forward.specs.Assembling.{EachAt, AreChannelsWanted, AreWanted};
 ghost use Rattle.mc_forward.specs.ListedTables.{flow_pairs};
 
 use crate::items::Items;
@@ -24,49 +24,42 @@ fn pairs_of(alloc: Global, topology: &Topology) -> Result<Vec<(Addr, Addr)>, Mem
     Ok(pairs)
 }
 
-/// What reports are reduced by: the sources and the groups of a topology's flows. Its value in
-/// contracts is the list of them.
+/// The channels of flows, each a source and a group (RFC 4607, section 1), by which reports are
+/// reduced. Its value in contracts is the list of them.
 #[derive(Debug, Drop)]
-pub struct FlowGroups {
+pub struct FlowChannels {
     channels: Channels,
 }
 
-impl Model for FlowGroups {
+impl Model for FlowChannels {
     ghost use Rattle.std.specs.Prelude.{ℕ, List};
 
     ghost Value = { List (ℕ × ℕ) };
 
-    ghost view = { λ g. g.channels };
+    ghost view = { λ c. c.channels };
 }
 
-impl FlowGroups {
-    /// Those of a topology.
+impl FlowChannels {
+    /// Those of a topology's flows, in their order.
     ///
     /// # Errors
     ///
     /// `Memory` where a growth was refused.
-    pub fn of(alloc: Global, topology: &Topology) -> Result<FlowGroups, Memory>
-        ensures { IfOk result (AreGroupsOf topology.now.flows) }
+    pub fn of(alloc: Global, topology: &Topology) -> Result<FlowChannels, Memory>
+        ensures { IfOk result (λ channels. channels ≡ flow_pairs topology.now.flows) }
     {
         let pairs = pairs_of(alloc, topology)?;
         let channels = Channels::of(alloc, &pairs)?;
-        Ok(FlowGroups { channels })
+        Ok(FlowChannels { channels })
     }
 
-    /// Whether the records of a LAN's reports want each flow of the topology, of which these have to
-    /// be the groups.
+    /// Whether the records of a LAN's reports want each channel.
     ///
     /// # Errors
     ///
     /// `Memory` where a growth was refused.
-    pub fn wanted(
-        &self,
-        alloc: Global,
-        topology: &Topology,
-        list: &ReportList,
-    ) -> Result<Items<bool>, Memory>
-        requires { AreGroupsOf topology.now.flows self.now }
-        ensures { IfOk result (AreWanted topology.now.flows list.now) }
+    pub fn wanted(&self, alloc: Global, list: &ReportList) -> Result<Items<bool>, Memory>
+        ensures { IfOk result (AreChannelsWanted self.now list.now) }
     {
         let items = self.channels.wanted(alloc, list)?;
         Ok(Items { items })
@@ -83,10 +76,10 @@ pub(crate) fn wants_of_lans(
     ensures each { IfOk result (λ wants.
         EachAt (AreWanted topology.now.flows) reports.now wants.items) }
 {
-    let groups = FlowGroups::of(alloc, topology)?;
+    let channels = FlowChannels::of(alloc, topology)?;
     let mut wants = Vec::new(alloc);
     for list in reports {
-        wants.push(groups.wanted(alloc, topology, list)?)?;
+        wants.push(channels.wanted(alloc, list)?)?;
     }
     Ok(wants)
 }

@@ -6,6 +6,7 @@ use Rattle.mc_text.proofs.ToComeLemmas.{goes_both}
 use Rattle.mc_forward.specs.Assembling.{AreWanted}
 use Rattle.mc_forward.proofs.EachLemmas.{some-at}
 use Rattle.mc_forward.proofs.SameLemmas.{pairwise-more}
+use Rattle.mc_forward.proofs.WantsLemmas.{channels-count, flows-wanted}
 use Rattle.mc_domain.specs.Kept.{AreWantedBy}
 use Rattle.mc_domain.specs.PartsInTurn.{coming, once_named, reports_then}
 use Rattle.mc_domain.specs.PartsReading.{lans_number}
@@ -81,6 +82,7 @@ loop-lan-preserved g c =
     let t = c.args.topology.now in
     let own = c.in_ok-wanted_in.field-0 in
     let items = c.in_ok-push.ensures.items in
+    let are = c.in_ok-channels.ensures in
     let lan = some-at t.lans c.loop-lan.lan (omega (arith, c.loop-lan-test.true, c.loop-lan.invariant.end)) in
     let number : 1 + 2 * c.routers.result + c.loop-lan.lan ≡ lans_number t + c.loop-lan.lan =
     omega (arith, c.routers.ensures.count) in
@@ -96,7 +98,8 @@ loop-lan-preserved g c =
         c.loop-lan.invariant.count,
       );
       flows = rw items (answers_more (length t.flows) c.loop-lan.wants.items own
-          c.loop-lan.invariant.flows c.in_ok-wanted_in.ensures.count);
+          c.loop-lan.invariant.flows
+          (c.in_ok-wanted_in.ensures.count ∙ channels-count t.flows c.in_ok-channels.channels are));
       taken = λ text tables told.
           let known = c.loop-lan.invariant.taken text tables told in
           let next = c.in_ok-wanted_in.ensures.wanted known.0 known.2 in
@@ -106,7 +109,7 @@ loop-lan-preserved g c =
             next.2,
             subst (λ (ws : List (List Bool)). AreWantedBy t (known.1 ++ next.4.1.0 ∷ []) ws) (sym items)
                 (pairwise-more (AreWanted t.flows) known.1 c.loop-lan.wants.items next.4.1.0 own
-                known.3 next.4.1.2),
+                known.3 (flows-wanted t.flows next.4.1.0 c.in_ok-channels.channels own are next.4.1.2)),
             known.4 ∙ reports_on c.args.certified t tables known.1 c.loop-lan.lan lan.0 lan.1
                 c.loop-lan.parts c.wanted_in.new.parts known.0 next.0 next.1 next.4.1.0 next.3
                 at next.4.1.1,

@@ -2,7 +2,7 @@ use Rattle.std.proofs.Common.{List, Bool}
 use Rattle.std.proofs.lemmas.Result.{err_from_is_err_and}
 use Rattle.mc_text.proofs.ToComeLemmas.{goes_both}
 use Rattle.mc_igmp.specs.declared.record.Record.{Record}
-use Rattle.mc_forward.specs.Assembling.{AreWanted}
+use Rattle.mc_forward.specs.Assembling.{AreChannelsWanted}
 use Rattle.mc_domain.specs.PartsInTurn.{of_first}
 use Rattle.mc_domain.specs.PartsReading.{reports_of as told_reports}
 use Rattle.mc_domain.proofs.KeptLemmas.{refused_name, refuses, tells}
@@ -17,7 +17,7 @@ returns-in_err-told-clause-fault g c =
 pub returns-clause-wanted : goal.returns-clause-wanted
 returns-clause-wanted g c =
     let Keeps : List Bool → List Record → Type 0 =
-    λ wanted records. AreWanted c.args.topology.now.flows records wanted in
+    λ wanted records. AreChannelsWanted c.args.channels.now records wanted in
     tells Keeps told_reports c.args.certified c.args.topology.now c.args.number
     c.args.parts.now c.read_reports.new.parts c.kept.new.parts c.in_ok-told.told
     c.in_ok-told.ensures.told c.kept.result c.kept.ensures.kept
@@ -25,7 +25,7 @@ returns-clause-wanted g c =
 pub returns-clause-fault : goal.returns-clause-fault
 returns-clause-fault g c =
     let Keeps : List Bool → List Record → Type 0 =
-    λ wanted records. AreWanted c.args.topology.now.flows records wanted in
+    λ wanted records. AreChannelsWanted c.args.channels.now records wanted in
     refuses Keeps told_reports c.args.certified c.args.topology.now c.args.number
     c.args.parts.now c.read_reports.new.parts c.kept.new.parts c.in_ok-told.told
     c.in_ok-told.ensures.told c.kept.result c.kept.ensures.fault

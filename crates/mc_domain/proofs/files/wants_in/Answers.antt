@@ -3,6 +3,7 @@ use Rattle.std.proofs.lemmas.Grind.{elements}
 use Rattle.std.proofs.lemmas.Result.{err_from_is_err_and}
 use Rattle.mc_forward.specs.Assembling.{AreWanted}
 use Rattle.mc_forward.proofs.SameLemmas.{pairwise-more}
+use Rattle.mc_forward.proofs.WantsLemmas.{channels-count, flows-wanted}
 use Rattle.mc_domain.specs.FilesReading.{part_filed}
 use Rattle.mc_domain.specs.Kept.{AreWantedBy}
 use Rattle.mc_domain.specs.PartsReading.{lans_number}
@@ -50,11 +51,13 @@ loop-lan-preserved g c =
     let t = c.args.topology.now in
     let own = c.in_ok-wanted_in.field-0 in
     let items = c.in_ok-push.ensures.items in
+    let are = c.in_ok-channels.ensures in
     record {
       count = c.loop-lan.invariant.count;
       so_far = grind (arith, elements, items, c.loop-lan.invariant.so_far);
       flows = rw items (answers_more (length t.flows) c.loop-lan.wants.items own
-          c.loop-lan.invariant.flows c.in_ok-wanted_in.ensures.count);
+          c.loop-lan.invariant.flows
+          (c.in_ok-wanted_in.ensures.count ∙ channels-count t.flows c.in_ok-channels.channels are));
       same = c.wanted_in.ensures.same ∙ c.loop-lan.invariant.same;
       kept = c.wanted_in.ensures.kept ∙ c.loop-lan.invariant.kept;
       failures = c.in_ok-wanted_in.ensures.failures ∙ c.loop-lan.invariant.failures;
@@ -65,7 +68,7 @@ loop-lan-preserved g c =
             left.0 ++ next.0 ∷ [],
             subst (λ (ws : List (List Bool)). AreWantedBy t (left.0 ++ next.0 ∷ []) ws) (sym items)
                 (pairwise-more (AreWanted t.flows) left.0 c.loop-lan.wants.items next.0 own
-                left.1 next.2),
+                left.1 (flows-wanted t.flows next.0 c.in_ok-channels.channels own are next.2)),
             reports_next Input (part_filed told) left.0 (left.0 ++ next.0 ∷ [])
                 (lans_number t + c.loop-lan.lan) (lans_number t + (c.loop-lan.lan + 1))
                 t.lans c.loop-lan.lan c.lan_name-name.result.now next.0 _

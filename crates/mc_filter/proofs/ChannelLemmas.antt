@@ -1,34 +1,32 @@
 -- Channels and their places, and what is answered of them.
-use Rattle.std.proofs.Common.{◌≡◌, ℕ, zero, suc, ◌+◌, ◌<◌, ◌%◌, Bool, true, false, not, ◌||◌, eqb}
+use Rattle.std.proofs.Common.{◌≡◌, ℕ, ◌+◌, ◌<◌, Bool, false, not, ◌||◌}
 use Rattle.std.proofs.Common.{List, [], ◌∷◌, ◌++◌, length, get_or, map, slice_get, Some, refl, sym}
 use Rattle.std.proofs.Common.{ap, subst, ◌∙◌, arith, inl, inr, length-append, take}
 use Rattle.std.specs.Prelude.{◌↔◌, IfOk, IsTrue, Result, Ok, Err}
-use Rattle.std.proofs.Math.Bool.{or-true}
-use Rattle.std.proofs.lemmas.Bool.{cases_eq, eq-eqb}
+use Rattle.std.proofs.lemmas.Bool.{cases_eq}
 use Rattle.std.proofs.lemmas.Grind.{elements}
-use Rattle.std.proofs.Math.Nat.{mod-lt}
 use Rattle.std.specs.Bool.{Decides}
+use Rattle.std.specs.List.{All, Contains}
 use Rattle.mc_filter.specs.Gathering.{wanted}
-use Rattle.std.proofs.lemmas.List.{get_or-map, map-append, take_more, get_or_default}
+use Rattle.std.proofs.lemmas.List.{get_or-map, length-map, map-append, take_more, get_or_default}
 use Rattle.std.proofs.lemmas.Option.{slice_get_within, get_or_from_slice_get}
 use Rattle.mc_igmp.specs.declared.record.Record.{Record}
 use Rattle.mc_igmp.specs.Wants.{Wants}
 use Rattle.mc_filter.specs.declared.channels.Place.{Place}
 use Rattle.mc_filter.specs.declared.tally.Told.{Told}
-use Rattle.mc_filter.specs.SourceFilter.{has}
 use Rattle.mc_filter.specs.ChannelPlaces.{AreAnswers, IsAnswer, IsPlace, channel_at}
 use Rattle.mc_filter.specs.Tallies.{EachTells, is_left_out}
 use Rattle.mc_filter.proofs.MergedLemmas.{Decides-wanted}
 
--- what is made of an item of a list is among what is made of all
-pub has-mapped : (f : ℕ × ℕ → ℕ) (xs : List (ℕ × ℕ)) (i : ℕ) (x : ℕ × ℕ) → i < length xs
-    → x ≡ get_or xs i x → has (map f xs) (f x) ≡ true
-has-mapped f [] i x below is = absurd (omega (arith, below))
-has-mapped f (y ∷ ys) zero x below is =
-    ap (λ b. b || has (map f ys) (f x)) (eq-eqb (f y) (f x) (ap f (sym is)))
-has-mapped f (y ∷ ys) (suc i) x below is =
-    ap (λ b. eqb (f y) (f x) || b) (has-mapped f ys i x (omega (arith, below)) is)
-    ∙ or-true (eqb (f y) (f x))
+-- what has all that is made of the items of a list has what is made of each
+pub mapped_in : (f : ℕ × ℕ → ℕ) (xs : List (ℕ × ℕ)) (made kept : List ℕ) → made ≡ map f xs
+    → ((n : ℕ) → Contains kept n ↔ Contains made n) → All (λ x. Contains kept (f x)) xs
+mapped_in f xs made kept is same = λ k d below.
+    (same (f (get_or xs k d))).1 (rw is (
+      k,
+      omega (arith, length-map xs f, below),
+      get_or-map f xs k d (f (get_or xs k d)) below,
+    ))
 
 -- the channels of places, and of one more
 pub channels_more : (f : Place → ℕ × ℕ) (places : List Place) (place : Place) (asked : List (ℕ × ℕ))
@@ -50,32 +48,34 @@ pub is_answer : (groups channels : List ℕ) (records : List Record) (excludes :
     → length excludes ≡ length groups
     → EachTells groups channels records excludes told [] → IsPlace groups channels place
     → own ≡ get_or told place.channel own → seen ≡ get_or excludes place.group seen
-    → answer ≡ not (is_left_out own seen) → IsAnswer groups channels records place answer
+    → answer ≡ not (is_left_out own seen) → IsAnswer channels records place answer
 is_answer groups channels records excludes told place own seen answer count each at told_is seen_is
     is =
-    let source : ℕ = get_or channels place.channel 0 % 4294967296 in
+    let channel : ℕ × ℕ = channel_at channels place in
     let group : ℕ = get_or groups place.group 0 in
-    let fits : source < 4294967296 = mod-lt (get_or channels place.channel 0) (omega arith) in
-    let tells = each place.group place.channel source own at.group at.channel fits at.is in
+    let here : channel ≡ (channel.0, group) = ap (λ (n : ℕ). let p : ℕ × ℕ = (channel.0, n) in p) (sym
+    at.is) in
+    let tells = each place.group place.channel channel.0 own at.group at.channel here in
     let seen_here : get_or excludes place.group 0 ≡ seen =
     get_or_default excludes place.group 0 seen (let below = at.group in omega (arith, below, count))
     ∙ sym seen_is in
-    answer_by_test answer (is_left_out own seen) (wanted records group source)
-    (Wants records group source) (Decides-wanted records group source) is
-    (rw (← told_is, seen_here) at tells.wants)
+    subst (λ (g : ℕ). IsTrue answer ↔ Wants records g channel.0) at.is
+    (answer_by_test answer (is_left_out own seen) (wanted records group channel.0)
+    (Wants records group channel.0) (Decides-wanted records group channel.0) is
+    (rw (← told_is, seen_here) at tells.wants))
 
 get_or-last : (xs : List Bool) (x d : Bool) → get_or (xs ++ x ∷ []) (length xs) d ≡ x
 get_or-last [] x d = refl
 get_or-last (y ∷ ys) x d = get_or-last ys x d
 
 -- one answer more
-pub answers_more : (groups channels : List ℕ) (records : List Record) (places : List Place)
+pub answers_more : (channels : List ℕ) (records : List Record) (places : List Place)
     (answers : List Bool) (place : Place) (answer : Bool) → length answers < length places
     → place ≡ get_or places (length answers) place
-    → IsAnswer groups channels records place answer
-    → AreAnswers groups channels records places answers
-    → AreAnswers groups channels records places (answers ++ answer ∷ [])
-answers_more groups channels records places answers place answer below is own before i d within =
+    → IsAnswer channels records place answer
+    → AreAnswers channels records places answers
+    → AreAnswers channels records places (answers ++ answer ∷ [])
+answers_more channels records places answers place answer below is own before i d within =
     elim (cases_eq i (length answers)) [
       | inl last ↦
           let here : get_or places i d ≡ place =
@@ -84,27 +84,27 @@ answers_more groups channels records places answers place answer below is own be
           let told : get_or (answers ++ answer ∷ []) i false ≡ answer =
           ap (λ n. get_or (answers ++ answer ∷ []) n false) last ∙ get_or-last answers answer false
           in
-          subst (λ p. IsAnswer groups channels records p (get_or (answers ++ answer ∷ []) i false))
-          (sym here) (subst (λ b. IsAnswer groups channels records place b) (sym told) own)
+          subst (λ p. IsAnswer channels records p (get_or (answers ++ answer ∷ []) i false))
+          (sym here) (subst (λ b. IsAnswer channels records place b) (sym told) own)
       | inr earlier ↦
           let less : i < length answers =
           omega (arith, within, earlier, length-append answers (answer ∷ [])) in
           let told : get_or (answers ++ answer ∷ []) i false ≡ get_or answers i false =
           grind (arith, elements, less) in
-          subst (λ b. IsAnswer groups channels records (get_or places i d) b) (sym told)
+          subst (λ b. IsAnswer channels records (get_or places i d) b) (sym told)
           (before i d less)
     ]
 
 -- what is answered of the channels
-pub answers_all : (groups channels : List ℕ) (records : List Record) (places : List Place)
+pub answers_all : (channels : List ℕ) (records : List Record) (places : List Place)
     (answers : List Bool) → length answers ≡ length places
-    → AreAnswers groups channels records places answers
+    → AreAnswers channels records places answers
     → (i : ℕ) (channel : ℕ × ℕ) (answer : Bool)
-    → slice_get (map (channel_at groups channels) places) i ≡ Some channel
+    → slice_get (map (channel_at channels) places) i ≡ Some channel
     → slice_get answers i ≡ Some answer
     → IsTrue answer ↔ Wants records channel.1 channel.0
-answers_all groups channels records places answers count each i channel answer at told =
-    let f : Place → ℕ × ℕ = channel_at groups channels in
+answers_all channels records places answers count each i channel answer at told =
+    let f : Place → ℕ × ℕ = channel_at channels in
     let d : Place = record { group = 0; channel = 0 } in
     let within : i < length answers = slice_get_within answers i answer told in
     let here : get_or answers i false ≡ answer = get_or_from_slice_get answers i answer false told
@@ -113,7 +113,7 @@ answers_all groups channels records places answers count each i channel answer a
     sym (get_or-map f places i d (f d) (omega (arith, within, count)))
     ∙ get_or_from_slice_get (map f places) i channel (f d) at in
     subst (λ (c : ℕ × ℕ). IsTrue answer ↔ Wants records c.1 c.0) own
-    (subst (λ (b : Bool). IsAnswer groups channels records (get_or places i d) b) here
+    (subst (λ (b : Bool). IsAnswer channels records (get_or places i d) b) here
     (each i d within))
 
 -- what holds of every answer holds of this one

@@ -1,5 +1,4 @@
 pub mod AscendingLemmas
-pub mod IndexLemmas
 pub mod TallyLemmas
 pub mod ChannelLemmas
 pub mod FilterLemmas

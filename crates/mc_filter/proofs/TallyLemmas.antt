@@ -3,12 +3,13 @@ use Rattle.std.proofs.Common.{◌≡◌, ℕ, ◌+◌, ◌<◌, Bool, true, fals
 use Rattle.std.proofs.Common.{List, ◌∷◌, length, get_or, set, refl, sym, ap, subst, ◌∙◌, inl, inr}
 use Rattle.std.proofs.Common.{arith}
 use Rattle.std.specs.Prelude.{cond}
+use Rattle.std.specs.List.{Contains}
 use Rattle.std.specs.List.Sorted.{IsStrictlyIncreasing}
 use Rattle.std.proofs.lemmas.Bool.{cases_eq, eq-eqb}
 use Rattle.std.proofs.lemmas.Bool.Decides.{nat_tests}
 use Rattle.std.proofs.lemmas.List.{get_or-set_same, get_or-set_other, get_or_default}
-use Rattle.std.proofs.lemmas.List.Folds.{list_any_at}
 use Rattle.std.proofs.lemmas.List.Kept.{AllPairs-from_increasing}
+use Rattle.mc_text.proofs.PairLemmas.{pair_of-injective}
 use Rattle.mc_igmp.specs.declared.record.Record.{Record}
 use Rattle.mc_igmp.specs.declared.record.Kind.{Kind}
 use Rattle.mc_igmp.specs.declared.record.Kind.TheVariants as kind
@@ -16,21 +17,8 @@ use Rattle.mc_filter.specs.declared.tally.Told.{Told}
 use Rattle.mc_filter.specs.declared.tally.Told.TheVariants.{Included, Listed}
 use Rattle.mc_filter.specs.SourceFilter.{has}
 use Rattle.mc_filter.specs.Gathering.{kind_admits, wanted}
-use Rattle.mc_filter.specs.Tallies.{AreListedBy, EachTells, Tells, channel_number, excludes_with}
+use Rattle.mc_filter.specs.Tallies.{AreListedBy, EachTells, Tells, channel_in, excludes_with}
 use Rattle.mc_filter.specs.Tallies.{told_by, told_if}
-
--- two channels of one number are one channel
-pub same_channel : (g s h x : ℕ) → s < 4294967296 → x < 4294967296
-    → channel_number g s ≡ channel_number h x → (g ≡ h) × (s ≡ x)
-same_channel g s h x below inside is = (
-  omega (arith, below, inside, is),
-  omega (
-    arith,
-    below,
-    inside,
-    is,
-  ),
-)
 
 -- to be listed twice by a record is to be listed once
 told_twice : (of_kind : Kind) (excludes : ℕ) (told : Told)
@@ -56,8 +44,7 @@ listed_if false b c of_kind excludes told h = absurd cc
 -- what is told of channels whose sources the rest of a list has is what the whole list tells
 abbrev pub Listing : List ℕ → ℕ → Kind → ℕ → List ℕ → List ℕ → List Told → List Told → Type 0
 Listing channels group of_kind excludes left sources now old =
-    (c g s : ℕ) (d : Told) → c < length channels → s < 4294967296
-    → get_or channels c 0 ≡ channel_number g s
+    (c g s : ℕ) (d : Told) → c < length channels → channel_in channels c ≡ (s, g)
     → told_if (eqb group g && has left s) of_kind excludes (get_or now c d)
     ≡ told_if (eqb group g && has sources s) of_kind excludes (get_or old c d)
 
@@ -66,30 +53,39 @@ passed_over true true c h = absurd cc
 passed_over true false c h = refl
 passed_over false b c h = refl
 
+-- two channels of one source and one group are one number
+same_number : (channels : List ℕ) (c place s g x group : ℕ) → channel_in channels c ≡ (s, g)
+    → channel_in channels place ≡ (x, group) → x ≡ s → g ≡ group
+    → get_or channels c 0 ≡ get_or channels place 0
+same_number channels c place s g x group is found source same =
+    pair_of-injective (get_or channels c 0) (get_or channels place 0)
+    (is ∙ ap (λ (n : ℕ). let p : ℕ × ℕ = (n, g) in p) (sym source)
+    ∙ ap (λ (n : ℕ). let p : ℕ × ℕ = (x, n) in p) same ∙ sym found)
+
 -- a source whose channel has this place
 pub Listing-found : (channels : List ℕ) (group : ℕ) (of_kind : Kind) (excludes x place : ℕ) (own :
     Told)
     (left sources : List ℕ) (now old : List Told) → IsStrictlyIncreasing channels
-    → length now ≡ length channels → x < 4294967296
-    → (place < length channels) × (get_or channels place 0 ≡ channel_number group x)
+    → length now ≡ length channels
+    → (place < length channels) × (channel_in channels place ≡ (x, group))
     → own ≡ get_or now place own
     → Listing channels group of_kind excludes (x ∷ left) sources now old
     → Listing channels group of_kind excludes left sources
     (set now place (told_by of_kind excludes own)) old
-Listing-found channels group of_kind excludes x place own left sources now old up count inside found
-    at before c g s d within below is =
+Listing-found channels group of_kind excludes x place own left sources now old up count found at
+    before c g s d within is =
     let rises = AllPairs-from_increasing channels up in
     elim (cases_eq c place) [
       | inl here ↦
-          let number : channel_number g s ≡ channel_number group x =
-          sym is ∙ ap (λ n. get_or channels n 0) here ∙ found.1 in
-          let same = same_channel g s group x below inside number in
+          let pair = sym is ∙ ap (channel_in channels) here ∙ found.1 in
+          let same : (g ≡ group) × (s ≡ x) =
+          (ap (λ (p : ℕ × ℕ). p.1) pair, ap (λ (p : ℕ × ℕ). p.0) pair) in
           let old_own : get_or now c d ≡ own =
           get_or_default now c d own (omega (arith, within, count)) ∙ ap (λ n. get_or now n own)
           here
           ∙ sym at in
           let listed : (eqb group g && eqb x s) ≡ true = grind (arith, nat_tests, same.0, same.1) in
-          let told = before c g s d within below is in
+          let told = before c g s d within is in
           let new_own : get_or (set now place (told_by of_kind excludes own)) c d
           ≡ told_by of_kind excludes own =
           ap (λ n. get_or (set now place (told_by of_kind excludes own)) n d) here
@@ -105,7 +101,7 @@ Listing-found channels group of_kind excludes x place own left sources now old u
             | inl same ↦ elim (cases_eq x s) [
               | inl listed ↦ absurd (
                   let number : get_or channels c 0 ≡ get_or channels place 0 =
-                  (rw (← same, listed) is) ∙ sym found.1 in
+                  same_number channels c place s g x group is found.1 listed same in
                   grind (arith, there, rises c place 0, rises place c 0, number, within, found.0))
               | inr apart ↦ grind (arith, nat_tests, apart)
             ]
@@ -113,7 +109,7 @@ Listing-found channels group of_kind excludes x place own left sources now old u
           ] in
           rw (get_or-set_other now place c (told_by of_kind excludes own) d there)
           (rw (passed_over (eqb group g) (eqb x s) (has left s) other)
-          at (before c g s d within below is))
+          at (before c g s d within is))
     ]
 
 -- a record of a type that tells no filter
@@ -186,13 +182,13 @@ pub EachTells-next : (groups channels : List ℕ) (records left : List Record)
     → EachTells groups channels records
     (set excludes place (excludes_with r.kind (get_or excludes place 0))) now left
 EachTells-next groups channels records left excludes told now place r up count inside at each before
-    g c s d below within fits is =
+    g c s d below within is =
     let rises = AllPairs-from_increasing groups up in
     let group : ℕ = get_or groups g 0 in
     let own : Bool = eqb r.group group in
     let all : Bool = wanted records group s in
-    let old = before g c s d below within fits is in
-    let is_told = each c group s d within fits is in
+    let old = before g c s d below within is in
+    let is_told = each c group s d within is in
     elim (cases_eq g place) [
       | inl here ↦
           let yes : own ≡ true = eq-eqb r.group group (sym at ∙ ap (λ n. get_or groups n 0) (sym
@@ -237,18 +233,19 @@ EachTells-next groups channels records left excludes told now place r up count i
 
 -- a record whose group is none of the groups
 pub EachTells-missed : (groups channels : List ℕ) (records left : List Record)
-    (excludes : List ℕ) (told : List Told) (r : Record) → has groups r.group ≡ false
+    (excludes : List ℕ) (told : List Told) (r : Record) → ¬ Contains groups r.group
     → EachTells groups channels records excludes told (r ∷ left)
     → EachTells groups channels records excludes told left
 EachTells-missed groups channels records left excludes told r missed before
-    g c s d below within fits is =
+    g c s d below within is =
     let group : ℕ = get_or groups g 0 in
     let no : eqb r.group group ≡ false =
     elim (cases_eq r.group group) [
-      | inl same ↦ absurd (
-          let some = list_any_at (λ y. eqb y r.group) groups g 0 below (eq-eqb group r.group (sym
-          same)) in
-          cc)
+      | inl same ↦ absurd (missed (
+        g,
+        below,
+        get_or_default groups g r.group 0 below ∙ sym same,
+      ))
       | inr apart ↦ grind (arith, nat_tests, apart)
     ] in
-    rw no at (before g c s d below within fits is)
+    rw no at (before g c s d below within is)

@@ -1,7 +1,8 @@
 -- What records told so far of channels, by tests. Only the contracts of private functions speak of
 -- it.
-use Rattle.std.specs.Prelude.{◌≡◌, ℕ, ◌+◌, ◌*◌, ◌<◌, ◌≤◌, ◌==◌, ◌&&◌, ◌||◌, Bool, false, not}
+use Rattle.std.specs.Prelude.{◌≡◌, ℕ, ◌+◌, ◌<◌, ◌≤◌, ◌==◌, ◌&&◌, ◌||◌, Bool, false, not}
 use Rattle.std.specs.Prelude.{cond, List, length, get_or}
+use Rattle.mc_text.specs.Pair.{pair_of}
 use Rattle.mc_igmp.specs.declared.record.Record.{Record}
 use Rattle.mc_igmp.specs.declared.record.Kind.{Kind}
 use Rattle.mc_igmp.specs.declared.record.Kind.TheVariants as kind
@@ -10,9 +11,9 @@ use Rattle.mc_filter.specs.declared.tally.Told.TheVariants.{Included, Listed}
 use Rattle.mc_filter.specs.SourceFilter.{has}
 use Rattle.mc_filter.specs.Gathering.{is_exclude, wanted}
 
--- a channel as one number, by its group and its source
-abbrev pub channel_number : ℕ → ℕ → ℕ
-channel_number group source = group * 4294967296 + source
+-- the source and the group of the channel at a place, which is kept as one number
+abbrev pub channel_in : List ℕ → ℕ → ℕ × ℕ
+channel_in channels place = pair_of (get_or channels place 0)
 
 -- whether each EXCLUDE record of the group lists the channel's source and no INCLUDE record does,
 -- where so many EXCLUDE records were seen
@@ -35,8 +36,7 @@ told_if listed of_kind excludes told = cond listed (told_by of_kind excludes tol
 -- what is told of each channel is what the record makes of what was told
 abbrev pub AreListedBy : List ℕ → Record → ℕ → List Told → List Told → Type 0
 AreListedBy channels r excludes old new =
-    (c g s : ℕ) (d : Told) → c < length channels → s < 4294967296 →
-    get_or channels c 0 ≡ channel_number g s →
+    (c g s : ℕ) (d : Told) → c < length channels → channel_in channels c ≡ (s, g) →
     get_or new c d ≡ told_if (r.group == g && has r.sources s) r.kind excludes (get_or old c d)
 
 -- how many EXCLUDE records were seen with this one
@@ -56,7 +56,7 @@ pub record Tells (told : Told) (excludes : ℕ) (left all : Bool) : Type 0 where
 -- the same of each channel whose group is one of the groups
 abbrev pub EachTells : List ℕ → List ℕ → List Record → List ℕ → List Told → List Record → Type 0
 EachTells groups channels records excludes told left =
-    (g c s : ℕ) (d : Told) → g < length groups → c < length channels → s < 4294967296 →
-    get_or channels c 0 ≡ channel_number (get_or groups g 0) s →
+    (g c s : ℕ) (d : Told) → g < length groups → c < length channels →
+    channel_in channels c ≡ (s, get_or groups g 0) →
     Tells (get_or told c d) (get_or excludes g 0)
     (wanted left (get_or groups g 0) s) (wanted records (get_or groups g 0) s)

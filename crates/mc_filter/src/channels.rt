@@ -1,18 +1,17 @@
 //! Channels, of which it is asked whether the hosts of a LAN want them.
 
-ghost use Rattle.std.specs.Prelude.{◌≡◌, ◌↔◌, ◌<◌, ℕ, Bool, true, IfOk, IsTrue, List, [], Some};
+ghost use Rattle.std.specs.Prelude.{◌≡◌, ◌↔◌, ◌<◌, ℕ, Bool, Contains, IfOk, IsTrue, List, [], Some};
 ghost use Rattle.std.specs.Prelude.{length, map, slice_get, vec_len};
 ghost use Rattle.std.specs.List.{All};
+ghost use Rattle.mc_text.specs.Pair.{pair_number};
 ghost use Rattle.mc_igmp.specs.declared.record.Record.{Record};
 ghost use Rattle.mc_igmp.specs.Wants.{Wants};
 ghost use Rattle.mc_filter.specs.ChannelPlaces.{AreAnswers, IsPlace, channel_at};
-ghost use Rattle.mc_filter.specs.SourceFilter.{has};
-ghost use Rattle.mc_filter.specs.Tallies.{EachTells, channel_number};
+ghost use Rattle.mc_filter.specs.Tallies.{EachTells};
 
-use crate::index::Index;
-use crate::tally::{Tally, channel_number, number_of};
+use crate::tally::Tally;
 use mc_igmp::ReportList;
-use mc_text::{Addr, Memory};
+use mc_text::{Addr, Index, Memory, pair_number, pair_numbers};
 use std::alloc::Global;
 use std::marker::Model;
 
@@ -30,33 +29,21 @@ fn group_numbers(alloc: Global, asked: &[(Addr, Addr)]) -> Result<Vec<u64>, Memo
 {
     let mut numbers = Vec::with_capacity(alloc, asked.len())?;
     for channel in asked {
-        numbers.push(number_of(channel.1))?;
-    }
-    Ok(numbers)
-}
-
-/// Each channel as a number.
-fn channel_numbers(alloc: Global, asked: &[(Addr, Addr)]) -> Result<Vec<u64>, Memory>
-    ensures { IfOk result (λ numbers. numbers.items
-        ≡ map (λ channel. channel_number channel.1 channel.0) asked.now) }
-{
-    let mut numbers = Vec::with_capacity(alloc, asked.len())?;
-    for channel in asked {
-        numbers.push(channel_number(channel.1, channel.0))?;
+        numbers.push(u64::from(channel.1.to_bits()))?;
     }
     Ok(numbers)
 }
 
 /// The place of a channel among channels, which have to have it.
 fn place_of(groups: &Index, channels: &Index, source: Addr, group: Addr) -> Place
-    requires group { has groups.now group ≡ true }
-    requires channel { has channels.now (channel_number group source) ≡ true }
+    requires group { Contains groups.now group }
+    requires channel { Contains channels.now (pair_number (source, group)) }
     ensures place { IsPlace groups.now channels.now result }
-    ensures channel { channel_at groups.now channels.now result ≡ (source, group) }
+    ensures channel { channel_at channels.now result ≡ (source, group) }
 {
     let places = (
-        groups.place_of(number_of(group)),
-        channels.place_of(channel_number(group, source)),
+        groups.place_of(u64::from(group.to_bits())),
+        channels.place_of(pair_number(source, group)),
     );
     match places {
         (Some(group), Some(channel)) => Place { group, channel },
@@ -71,13 +58,11 @@ fn places_of(
     channels: &Index,
     asked: &[(Addr, Addr)],
 ) -> Result<Vec<Place>, Memory>
-    requires groups { (group : ℕ) →
-        has groups.now group ≡ has (map (λ channel. channel.1) asked.now) group }
-    requires channels { (number : ℕ) → has channels.now number
-        ≡ has (map (λ channel. channel_number channel.1 channel.0) asked.now) number }
+    requires groups { All (λ channel. Contains groups.now channel.1) asked.now }
+    requires channels { All (λ channel. Contains channels.now (pair_number channel)) asked.now }
     ensures places { IfOk result (λ places. All (IsPlace groups.now channels.now) places.items) }
     ensures asked { IfOk result (λ places.
-        map (channel_at groups.now channels.now) places.items ≡ asked.now) }
+        map (channel_at channels.now) places.items ≡ asked.now) }
 {
     let mut places = Vec::with_capacity(alloc, asked.len())?;
     for channel in asked {
@@ -98,9 +83,10 @@ fn tally_of(
     ensures each { IfOk result (λ tally. EachTells groups.now channels.now reports.now
         tally.excludes.items tally.told.items []) }
 {
-    let mut tally = Tally::none(alloc, groups.len(), channels.len())?;
+    let mut tally = Tally::none(alloc, groups.count(), channels.count())?;
     for group_record in reports.records() {
-        if let Some(place) = groups.place_of(number_of(group_record.group)) {
+        let group = u64::from(group_record.group.to_bits());
+        if let Some(place) = groups.place_of(group) {
             tally.add(channels, place, &group_record)?;
         }
     }
@@ -115,7 +101,7 @@ fn answers_of(alloc: Global, tally: &Tally, places: &[Place]) -> Result<Vec<bool
     ensures each { IfOk result (λ answers. (groups channels : List ℕ) (records : List Record) →
         length tally.now.excludes.items ≡ length groups → All (IsPlace groups channels) places.now →
         EachTells groups channels records tally.now.excludes.items tally.now.told.items [] →
-        AreAnswers groups channels records places.now answers.items) }
+        AreAnswers channels records places.now answers.items) }
 {
     let mut answers = Vec::with_capacity(alloc, places.len())?;
     for place in places {
@@ -141,7 +127,7 @@ impl Model for Channels {
 
     ghost Value = { List (ℕ × ℕ) };
 
-    ghost view = { λ s. map (channel_at s.groups s.channels) s.places.items };
+    ghost view = { λ s. map (channel_at s.channels) s.places.items };
 
     ghost invariant = { λ s. All (IsPlace s.groups s.channels) s.places.items };
 }
@@ -156,7 +142,7 @@ impl Channels {
         ensures { IfOk result (λ channels. channels ≡ asked.now) }
     {
         let groups = Index::of(alloc, group_numbers(alloc, asked)?)?;
-        let channels = Index::of(alloc, channel_numbers(alloc, asked)?)?;
+        let channels = Index::of(alloc, pair_numbers(alloc, asked)?)?;
         let places = places_of(alloc, &groups, &channels, asked)?;
         Ok(Channels {
             groups,

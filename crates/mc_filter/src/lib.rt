@@ -6,7 +6,6 @@ mod addresses;
 mod channels;
 mod filter;
 mod gathered;
-mod index;
 mod laws;
 mod tally;
 mod wants;

@@ -3,12 +3,11 @@
 ghost use Rattle.std.specs.Prelude.{◌≡◌, ℕ, ◌<◌, IfOk, IfSome, OnOk, List, ◌∷◌, length, get_or};
 ghost use Rattle.std.specs.List.Sorted.{IsStrictlyIncreasing};
 ghost use Rattle.mc_igmp.specs.declared.record.Record.{Record};
-ghost use Rattle.mc_filter.specs.Tallies.{AreListedBy, EachTells, channel_number, excludes_with};
+ghost use Rattle.mc_filter.specs.Tallies.{AreListedBy, EachTells, excludes_with};
 ghost use Rattle.mc_filter.specs.Tallies.{is_left_out, told_by};
 
-use crate::index::Index;
 use mc_igmp::{Kind, Record};
-use mc_text::{Addr, Memory};
+use mc_text::{Index, Memory, pair_number};
 use std::alloc::Global;
 
 /// What records told of a channel.
@@ -56,22 +55,6 @@ fn excludes_with(kind: Kind, before: u32) -> Option<u32>
     }
 }
 
-/// An address as a number.
-pub(crate) fn number_of(address: Addr) -> u64
-    ensures value { result ≡ address }
-    ensures in_range { address < 4294967296 }
-{
-    u64::from(u32::from_be_bytes(address.octets()))
-}
-
-/// A channel as one number, by which it is looked for.
-pub(crate) fn channel_number(group: Addr, source: Addr) -> u64
-    ensures value { result ≡ channel_number group source }
-    ensures in_range { source < 4294967296 }
-{
-    number_of(group) << 32 | number_of(source)
-}
-
 /// What records told so far.
 #[derive(Debug, Drop)]
 pub(crate) struct Tally {
@@ -109,7 +92,7 @@ impl Tally {
             self.new.told.items }
     {
         for source in group_record.sources.iter() {
-            let number = channel_number(group_record.group, source);
+            let number = pair_number(source, group_record.group);
             if let Some(place) = channels.place_of(number) {
                 self.told[place] = self.told[place].listed_by(group_record.kind, before, with);
             }

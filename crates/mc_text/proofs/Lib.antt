@@ -2,6 +2,8 @@ pub mod LineLemmas
 pub mod ResultLemmas
 pub mod StepLemmas
 pub mod AddrLemmas
+pub mod IndexLemmas
+pub mod PairLemmas
 pub mod AddressDigitLemmas
 pub mod AddressReading
 pub mod AddressTests

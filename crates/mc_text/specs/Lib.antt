@@ -5,9 +5,11 @@ pub mod Bundle
 pub mod BundleReading
 pub mod Device
 pub mod DeviceName
+pub mod Index
 pub mod Lines
 pub mod LineView
 pub mod Number
+pub mod Pair
 pub mod PartName
 pub mod PartsReading
 pub mod PartsSpending

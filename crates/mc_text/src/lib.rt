@@ -1,19 +1,23 @@
 //! Texts as operators and kernels write them: addresses, lines, words and numbers; the devices that
-//! bytes come from and go to; the names of network devices; and the bundle, the one stream of named
-//! parts. Of multicast it knows two ranges of addresses alone: the groups that routers forward and
-//! the sources that hosts may send from. Nothing here knows of a domain.
+//! bytes come from and go to; the names of network devices; the bundle, the one stream of named
+//! parts; and numbers that are looked for again and again. Of multicast it knows two ranges of
+//! addresses alone: the groups that routers forward and the sources that hosts may send from.
+//! Nothing here knows of a domain.
 #![tactic(auto)]
 
 mod bundle;
+mod index;
 mod io;
 mod laws;
 mod memory;
+mod pair;
 mod text;
 
 pub use bundle::{
     Bundle, BundleFault, MAX_PART, Part, PartName, Parts, collect_part, front_decides,
     one_list_of_parts, write_bundle, written_is_read,
 };
+pub use index::Index;
 pub use io::{
     DeviceFault, FaultyInput, FaultyOutput, FromReader, Input, Output, ReadFault, Stop, ToWriter,
     read_to_limit, write_all,
@@ -24,6 +28,7 @@ pub use laws::{
     lines_make_their_text,
 };
 pub use memory::Memory;
+pub use pair::{pair_number, pair_numbers};
 pub use text::{
     Addr, Line, Lines, MAX_TEXT, Order, Words, decimal, first_place_of, hex_digit, is_device_name,
 };

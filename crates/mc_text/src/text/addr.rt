@@ -103,7 +103,8 @@ impl Addr {
     pub fn to_bits(self) -> u32
         ensures { result ≡ self }
     {
-        self.bits
+        let Addr { bits } = self;
+        bits
     }
 
     /// Whether routers forward this group: 224.0.1.0 to 239.255.255.255. The groups 224.0.0.0 to

@@ -20,7 +20,7 @@ loop-place-preserved c =
     rw c.in_ok-push.ensures.items (record {
       count = grind (arith, elements, before.count);
       each = λ groups channels records size at tells.
-          answers_more groups channels records places answers place (not c.is_left_out.result) below
+          answers_more channels records places answers place (not c.is_left_out.result) below
           own
           (is_answer groups channels records c.args.tally.now.excludes.items
           c.args.tally.now.told.items place c.index.result.now c.index-excludes.result.now

@@ -12,5 +12,5 @@ invariant-loop-place l = record {
       → length l.fn.tally.excludes.items ≡ length groups
       → All (IsPlace groups channels) l.fn.places
       → EachTells groups channels records l.fn.tally.excludes.items l.fn.tally.told.items []
-      → AreAnswers groups channels records l.fn.places l.answers.items;
+      → AreAnswers channels records l.fn.places l.answers.items;
 }

@@ -6,6 +6,6 @@ use Rattle.mc_filter.proofs.channels.places_of.Given as goal
 abbrev pub invariant-loop-channel : goal.invariant-loop-channel
 invariant-loop-channel l = record {
   places : All (IsPlace l.fn.groups l.fn.channels) l.places.items;
-  asked : map (channel_at l.fn.groups l.fn.channels) l.places.items
+  asked : map (channel_at l.fn.channels) l.places.items
       ≡ take l.channel-index l.fn.asked;
 }

@@ -7,10 +7,10 @@ loop-group_record-init c =
     let tally = c.in_ok-tally.ensures in
     rw c.into_iter-group_record-iterator.ensures.into_iter_gives
     (rw c.records-group_record-items.ensures (record {
-      groups = tally.groups ∙ c.len.ensures;
-      channels = tally.channels ∙ c.len-2.ensures;
+      groups = tally.groups ∙ c.count.ensures;
+      channels = tally.channels ∙ c.count-2.ensures;
       each = tally.each c.args.groups.now c.args.channels.now c.args.reports.now
-          (sym c.len.ensures) (sym c.len-2.ensures);
+          (sym c.count.ensures) (sym c.count-2.ensures);
     }))
 
 pub loop-group_record-preserved-in-Continue-branch-2 :
@@ -22,7 +22,7 @@ loop-group_record-preserved-in-Continue-branch-2 c =
       groups = c.in_ok-add.ensures.groups ∙ before.groups;
       channels = c.in_ok-add.ensures.channels;
       each = c.in_ok-add.ensures.each c.args.groups.now c.args.reports.now c.next.new.self
-          c.place_of.ensures.ascending (sym before.groups) (found.1 ∙ c.number_of.ensures.value)
+          c.place_of.ensures.ascending (sym before.groups) (found.1 ∙ c.from-group.ensures ∙ c.to_bits.ensures)
           (rw c.in-Some.ensures.steps at before.each);
     }
 
@@ -36,7 +36,7 @@ loop-group_record-preserved c =
           c.next.new.self
           c.loop-group_record.tally.excludes.items c.loop-group_record.tally.told.items
           c.in-Some.group_record
-          (rw c.number_of.ensures.value at c.in_default.ensures.none)
+          (rw (c.from-group.ensures, c.to_bits.ensures) at c.in_default.ensures.none)
           (rw c.in-Some.ensures.steps at before.each);
     }
 

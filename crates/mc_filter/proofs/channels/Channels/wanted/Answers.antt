@@ -9,7 +9,7 @@ returns-clause-count c =
     let places = c.self.inside.places.items in
     let size : length c.args.self.now ≡ length places =
     sym (ap length c.self.view_is)
-    ∙ length-map places (channel_at c.self.inside.groups c.self.inside.channels) in
+    ∙ length-map places (channel_at c.self.inside.channels) in
     answer_then _ _ c.answers_of.result c.answers_of.ensures.count
     (λ answers count. grind (arith, answers.ok.0, count, size, c.deref.ensures.value))
 
@@ -20,7 +20,7 @@ returns-clause-each c =
     answer_then _ _ c.answers_of.result
     (if_ok_both _ _ c.answers_of.result c.answers_of.ensures.count c.answers_of.ensures.each)
     (λ answers known i channel answer at told.
-    answers_all groups channels c.args.reports.now c.self.inside.places.items answers.items
+    answers_all channels c.args.reports.now c.self.inside.places.items answers.items
     (known.0 ∙ ap length c.deref.ensures.value)
     (rw c.deref.ensures.value at (known.1 groups channels c.args.reports.now
     c.in_ok-tally.ensures.groups (rw (sym c.deref.ensures.value) at c.self.invariant)

@@ -1,5 +1,6 @@
-use Rattle.std.proofs.Common.{◌∙◌}
+use Rattle.std.proofs.Common.{ap, ◌∙◌}
 use Rattle.std.proofs.lemmas.List.{length-set}
+use Rattle.mc_text.specs.Pair.{pair_of}
 use Rattle.mc_filter.proofs.TallyLemmas.{Listing-found}
 use Rattle.mc_filter.proofs.tally.Tally.list_sources.Goals as goal
 
@@ -13,7 +14,9 @@ loop-source-preserved-in-Some-place_of c =
           c.args.group_record.now.kind c.args.before c.in-Some.source c.in-Some-place_of.place
           c.index.result.now c.next.new.self c.args.group_record.now.sources
           c.loop-source.self.told.items c.args.self.now.told.items c.place_of.ensures.ascending
-          (before.count ∙ c.requires.room) c.channel_number-number.ensures.in_range
-          (rw c.channel_number-number.ensures.value at c.in-Some-place_of.ensures.found)
+          (before.count ∙ c.requires.room) (
+            c.in-Some-place_of.ensures.found.0,
+            ap pair_of c.in-Some-place_of.ensures.found.1 ∙ c.pair_number-number.ensures.pair,
+          )
           c.index.ensures (rw c.in-Some.ensures.steps at before.each);
     })

@@ -2,7 +2,7 @@ use Rattle.std.proofs.Common.{refl, arith}
 use Rattle.mc_filter.proofs.tally.Tally.none.Goals as goal
 
 pub returns-clause-each : goal.returns-clause-each
-returns-clause-each c = λ gs cs records some count g d' s d below within fits is.
+returns-clause-each c = λ gs cs records some count g d' s d below within is.
     let unseen = c.in_ok-resize.ensures.by_index.1 g 0 refl (omega (
       arith,
       c.new-excludes.ensures.len,

@@ -1,18 +1,18 @@
 use Rattle.std.proofs.Common.{eqb}
 use Rattle.std.proofs.lemmas.List.Filters.{dedup_is}
 use Rattle.std.proofs.lemmas.Map.Keys.{IsStrictlyIncreasing-dedup}
-use Rattle.mc_filter.proofs.AscendingLemmas.{has-sorted}
-use Rattle.mc_filter.proofs.index.Index.of.Goals as goal
+use Rattle.mc_text.proofs.IndexLemmas.{same_numbers}
+use Rattle.mc_text.proofs.index.Index.of.Goals as goal
 
 pub invariant_of-result : goal.invariant_of-result
 invariant_of-result c =
     let left = dedup_is eqb _ _ c.dedup.ensures.filtered in
     record {
       ascending = rw left (IsStrictlyIncreasing-dedup _ c.sort_unstable.ensures.sorted);
-      slots = c.in_ok-guesses.ensures.some;
-      guessed = rw c.deref.ensures.value at c.in_ok-guesses.ensures.each;
+      slots = c.in_ok-marks.ensures.some;
+      marked = rw c.deref.ensures.value at c.in_ok-marks.ensures.each;
     }
 
 pub returns : goal.returns
-returns c = has-sorted _ _ _ c.sort_unstable.ensures.permutation
+returns c = same_numbers _ _ _ c.sort_unstable.ensures.permutation
     (dedup_is eqb _ _ c.dedup.ensures.filtered)

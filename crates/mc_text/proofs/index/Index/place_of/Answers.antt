@@ -1,0 +1,28 @@
+use Rattle.std.proofs.Common.{◌≡◌, ◌<◌, ℕ, List, length, get_or, arith, ap, subst, sym, ◌∙◌}
+use Rattle.std.specs.List.{Contains}
+use Rattle.std.proofs.lemmas.List.{get_or_default}
+use Rattle.mc_text.specs.Index.{slot_in}
+use Rattle.mc_text.proofs.IndexLemmas.{missed, unmarked}
+use Rattle.mc_text.proofs.index.Index.place_of.Goals as goal
+
+pub returns-then-mark-eq0-clause-none : goal.returns-then-mark-eq0-clause-none
+returns-then-mark-eq0-clause-none c =
+    let marks = c.self.inside.marks.items in
+    let slot : c.slot_of.result ≡ slot_in (length marks) c.args.number =
+    grind (arith, c.slot_of.ensures.value, c.len.ensures) in
+    let within : c.slot_of.result < length marks =
+    grind (arith, c.slot_of.ensures.within, c.len.ensures) in
+    let empty : get_or marks (slot_in (length marks) c.args.number) 0 ≡ 0 =
+    ap (λ k. get_or marks k 0) (sym slot)
+    ∙ get_or_default marks c.slot_of.result 0 c.index-mark.result.now within
+    ∙ sym c.index-mark.ensures ∙ c.if-mark-eq0.true in
+    subst (λ (ns : List ℕ). ¬ Contains ns c.args.number) c.self.view_is
+    (unmarked (length marks) marks c.self.inside.numbers.items c.args.number
+    c.self.invariant.marked empty)
+
+pub returns-clause-none : goal.returns-clause-none
+returns-clause-none c =
+    rw (← c.self.view_is)
+    (missed c.self.inside.numbers.items c.args.number c.binary_search.result c.ok.result
+    c.self.invariant.ascending
+    (rw c.deref.ensures.value at c.binary_search.ensures.position) c.ok.ensures.value)

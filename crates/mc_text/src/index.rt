@@ -1,0 +1,146 @@
+//! Numbers that are looked for again and again.
+
+ghost use Rattle.std.specs.Prelude.{◌≡◌, ◌≢◌, ◌↔◌, ℕ, ◌<◌, Contains, IfOk, IfNone, IfSome};
+ghost use Rattle.std.specs.Prelude.{length, get_or, true};
+ghost use Rattle.std.specs.List.Sorted.{IsStrictlyIncreasing};
+ghost use Rattle.mc_text.specs.Index.{AreMarked, slot_in};
+
+use crate::memory::Memory;
+use std::alloc::Global;
+use std::marker::Model;
+
+/// What a number is multiplied by: 2^64 by the golden ratio (D. E. Knuth, The Art of Computer
+/// Programming, volume 3, section 6.4).
+const SPREAD: u64 = 0x9E37_79B9_7F4A_7C15;
+
+/// How many slots there are for each number.
+const SLOTS_EACH: usize = 32;
+
+/// How many slots there are at most: as many as 16 bits tell apart.
+const MAX_SLOTS: usize = 65_536;
+
+/// The slot of a number, of so many.
+fn slot_of(number: u64, slots: usize) -> usize
+    requires { 0 < slots }
+    ensures within { result < slots }
+    ensures value { result ≡ slot_in slots number }
+{
+    (number.wrapping_mul(SPREAD) >> 48) as usize & (slots - 1)
+}
+
+/// The number of slots for so many numbers: a power of two.
+fn slots_for(count: usize) -> usize
+    ensures { 0 < result }
+{
+    count
+        .saturating_mul(SLOTS_EACH)
+        .clamp(SLOTS_EACH, MAX_SLOTS)
+        .next_power_of_two()
+}
+
+/// One more than a place, or another number but 0.
+fn mark_of(place: usize) -> u32
+    ensures { result ≢ 0 }
+{
+    (place % 65_536) as u32 + 1
+}
+
+/// Slots of which that of each number is marked. Of two numbers of one slot the later marks it.
+fn marks_of(alloc: Global, numbers: &[u64]) -> Result<Vec<u32>, Memory>
+    ensures some { IfOk result (λ marks. 0 < length marks.items) }
+    ensures each { IfOk result (λ marks. AreMarked marks.items numbers.now) }
+{
+    let slots = slots_for(numbers.len());
+    let mut marks = vec![in alloc; 0; slots]?;
+    for place in 0..numbers.len() {
+        marks[slot_of(numbers[place], slots)] = mark_of(place);
+    }
+    Ok(marks)
+}
+
+/// Numbers, ascending and each once, with a guess of where each is. A guess is verified before the
+/// numbers are searched by halves, so that a number is mostly found, or found to be none of them, at
+/// once, and in `log n` steps whatever the numbers are. Its value in contracts is the list of the
+/// numbers.
+#[derive(Debug, Drop)]
+pub struct Index {
+    numbers: Vec<u64>,
+    // at the slot of a number one more than the place where one of this slot stands, and 0 at a slot
+    // of none
+    marks: Vec<u32>,
+}
+
+impl Model for Index {
+    ghost use Rattle.std.specs.Prelude.{ℕ, List};
+    ghost use Rattle.mc_text.specs.Index.{IsIndex};
+
+    ghost Value = { List ℕ };
+
+    ghost view = { λ s. s.numbers.items };
+
+    ghost invariant = { λ s. IsIndex s.numbers.items s.marks.items };
+}
+
+impl Index {
+    /// An index of numbers.
+    ///
+    /// # Errors
+    ///
+    /// `Memory` where a growth was refused.
+    pub fn of(alloc: Global, mut numbers: Vec<u64>) -> Result<Index, Memory>
+        ensures { IfOk result (λ index. (number : ℕ) →
+            Contains index number ↔ Contains numbers.items number) }
+    {
+        numbers.sort_unstable();
+        numbers.dedup();
+        let marks = marks_of(alloc, &numbers)?;
+        Ok(Index { numbers, marks })
+    }
+
+    /// How many numbers there are.
+    pub fn count(&self) -> usize
+        ensures { result ≡ length self.now }
+    {
+        self.numbers.len()
+    }
+
+    /// Whether a number stands at a place.
+    fn stands_at(&self, number: u64, place: usize) -> bool
+        ensures place { result ≡ true →
+            (place < length self.now) × (get_or self.now place 0 ≡ number) }
+        ensures ascending { IsStrictlyIncreasing self.now }
+    {
+        self.numbers.get(place) == Some(&number)
+    }
+
+    /// The place of a number.
+    pub fn place_of(&self, number: u64) -> Option<usize>
+        ensures found { IfSome result (λ place.
+            (place < length self.now) × (get_or self.now place 0 ≡ number)) }
+        ensures none { IfNone result (¬ Contains self.now number) }
+        ensures ascending { IsStrictlyIncreasing self.now }
+    {
+        let mark = self.marks[slot_of(number, self.marks.len())];
+        if mark == 0 {
+            return None;
+        }
+        let guess = (mark - 1) as usize;
+        if self.stands_at(number, guess) {
+            return Some(guess);
+        }
+        self.numbers.binary_search(&number).ok()
+    }
+
+    /// The same, where the place may be known already. A right one saves a search.
+    pub fn place_near(&self, number: u64, near: usize) -> Option<usize>
+        ensures found { IfSome result (λ place.
+            (place < length self.now) × (get_or self.now place 0 ≡ number)) }
+        ensures none { IfNone result (¬ Contains self.now number) }
+        ensures ascending { IsStrictlyIncreasing self.now }
+    {
+        if self.stands_at(number, near) {
+            return Some(near);
+        }
+        self.place_of(number)
+    }
+}

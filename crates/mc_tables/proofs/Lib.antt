@@ -14,7 +14,6 @@ pub mod OifLemmas
 pub mod EntryLemmas
 pub mod FlatOifLemmas
 pub mod PlainLemmas
-pub mod SlotLemmas
 pub mod CacheLemmas
 pub mod CacheLookupLemmas
 pub mod CacheMapLemmas
@@ -23,6 +22,7 @@ pub mod OtherRowLemmas
 pub mod SortedRowLemmas
 pub mod ListedLemmas
 pub mod NumberLemmas
+pub mod ListedPairLemmas
 pub mod KeptRowLemmas
 pub mod RowsSoFarLemmas
 pub mod RowRuleLemmas

@@ -14,11 +14,10 @@ use Rattle.std.proofs.lemmas.Bool.Decides.{nat_tests}
 use Rattle.std.proofs.lemmas.Cmp.{eq_by_cmp_equiv}
 use Rattle.std.proofs.lemmas.List.Folds.{list_any_at, list_any_none}
 use Rattle.std.proofs.lemmas.List.Sorted.{list_any-IsPermutation, searchable_from_sorted}
-use Rattle.mc_tables.specs.CacheTable.{key_cmp, same_key, key_of, RowText}
+use Rattle.mc_tables.specs.CacheTable.{same_key, key_of, RowText}
 use Rattle.mc_tables.specs.ListedRows.{Listed, is_listed, is_kept_key, is_kept, listed_set, is_in}
 use Rattle.mc_tables.specs.ListedRows.{is_kept_key_by, is_kept_by}
 use Rattle.mc_tables.proofs.CacheLemmas.{key_total}
-use Rattle.mc_tables.proofs.CacheMapLemmas.{key_antisymmetric}
 use Rattle.mc_tables.proofs.OtherRowLemmas.{any_same}
 
 -- ---- as a set
@@ -74,13 +73,3 @@ module _ {X : Type 0} {cmp : X → X → Ordering} (total : IsTotalOrder cmp) wh
       ] in
       sym (list_any_none (eq_by_cmp cmp x) xs none)
       ∙ sym (set.contains-from_list total xs x)
-
--- so of sources and groups
-pub set_permuted : (keys sorted : List (ℕ × ℕ)) → IsPermutation keys sorted
-    → set.from_list {R = key_cmp} sorted ≡ set.from_list keys
-set_permuted keys sorted moved = set_reordered key_total key_antisymmetric keys sorted moved
-
-pub search_finds : (keys : List (ℕ × ℕ)) (key : ℕ × ℕ) (r : Result ℕ ℕ) → IsSorted key_cmp keys
-    → IsSearchInRange r (length keys) → IsBinarySearchResult (λ k. key_cmp k key) keys r
-    → is_ok r ≡ set.contains (set.from_list {R = key_cmp} keys) key
-search_finds keys key r up within found = search_answers key_total keys key r up within found

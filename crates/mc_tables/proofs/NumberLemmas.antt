@@ -1,21 +1,14 @@
 -- The numbers of sources and groups that are listed.
-use Rattle.std.proofs.Common.{◌≡◌, ℕ, zero, suc, ◌+◌, ◌<◌, Bool, true, false, cond, List, [], ◌∷◌}
+use Rattle.std.proofs.Common.{◌≡◌, ℕ, zero, suc, ◌+◌, ◌<◌, true, false, cond, List, [], ◌∷◌}
 use Rattle.std.proofs.Common.{◌++◌, length, get_or, Option, Some, None, Result, Ok, Err, refl, sym}
 use Rattle.std.proofs.Common.{add-one, ap, subst, ◌∙◌, inl, inr, arith}
-use Rattle.std.specs.Prelude.{◌≢◌, ◌==◌, ◌&&◌, ◌||◌, IfErr, IfNone, OnErr, is_some, replicate, slice_set}
-use Rattle.std.specs.Result.{result_ok}
+use Rattle.std.specs.Prelude.{◌≢◌, OnErr, is_some, replicate, slice_set}
 use Rattle.std.specs.FinSet as set
-use Rattle.std.specs.List.{AllByRecursion, IsDistinct, dedup, dedup_from, list_any}
-use Rattle.std.specs.List.Sorted.{IsBinarySearchResult, IsPermutation, IsSearchInRange, IsSorted}
-use Rattle.std.specs.List.Sorted.{IsStrictlySortedBy}
-use Rattle.std.specs.Ordering.{is_lt, ordering_reverse}
-use Rattle.std.specs.declared.cmp.Ordering.TheVariants.{Less}
+use Rattle.std.specs.List.{AllByRecursion, IsDistinct, list_any}
 use Rattle.std.proofs.lemmas.Bool.{cases_Bool}
-use Rattle.std.proofs.lemmas.Bool.Decides.{nat_tests}
 use Rattle.std.proofs.lemmas.List.{get_or-set_same}
 use Rattle.std.proofs.lemmas.List.Folds.{list_any_at}
-use Rattle.std.proofs.lemmas.List.Kept.{IsStrictlySortedBy-dedup}
-use Rattle.std.proofs.lemmas.Map.Keys.{IsDistinct-from_sorted, IsDistinct-head, IsDistinct-tail}
+use Rattle.std.proofs.lemmas.Map.Keys.{IsDistinct-head, IsDistinct-tail}
 use Rattle.mc_tables.specs.CacheTable.{key_cmp, same_key}
 use Rattle.mc_tables.specs.CacheNumbers.{IsNumbered, IsPlaceOf, KeysText, MoreNumbers, filled, keys_of}
 use Rattle.mc_tables.specs.CacheNumbers.{number_in, number_of_next}
@@ -23,8 +16,6 @@ use Rattle.mc_tables.specs.declared.listed_numbers.Numbered.TheVariants.{New}
 use Rattle.std.specs.BTreeMap.{is_at}
 use Rattle.mc_tables.specs.ListedRows.{is_in}
 use Rattle.mc_tables.proofs.CacheLemmas.{key_total, key_laws}
-use Rattle.mc_tables.proofs.CacheMapLemmas.{key_antisymmetric}
-use Rattle.mc_tables.proofs.ListedLemmas.{search_finds, set_permuted}
 use Rattle.mc_tables.proofs.OtherRowLemmas.{same_is}
 
 -- ---- a key that is none of the keys has no number
@@ -134,40 +125,6 @@ zeros_more (k ∷ keys) [] n = zeros_none (k ∷ keys) n
 zeros_more (k ∷ keys) (zero ∷ ns) n = zeros_more keys ns n
 zeros_more (k ∷ keys) (suc m ∷ ns) n = ap (λ rest. (k, m) ∷ rest) (zeros_more keys ns n)
 
--- ---- a search
-
--- a pair that is less than the next isn't greater
-next_up : (x y : ℕ × ℕ) (keys : List (ℕ × ℕ)) → key_cmp x y ≡ Less → IsSorted key_cmp (y ∷ keys)
-    → (k : ℕ) (d : ℕ × ℕ) → k + 1 < length (x ∷ y ∷ keys)
-    → is_lt (key_cmp (get_or (x ∷ y ∷ keys) (k + 1) d) (get_or (x ∷ y ∷ keys) k d)) ≡ false
-next_up x y keys less rest zero d lt =
-    ap is_lt (key_total.antisymm y x ∙ ap ordering_reverse less)
-next_up x y keys less rest (suc k) d lt =
-    let next : suc k + 1 ≡ suc (k + 1) = omega arith in
-    rw (next) (rest k d (omega arith) (omega (arith, lt)))
-
-strict_sorted : (keys : List (ℕ × ℕ)) → IsStrictlySortedBy key_cmp keys → IsSorted key_cmp keys
-unfolding IsStrictlySortedBy
-strict_sorted [] up = λ k d low lt. absurd (omega (arith, lt))
-strict_sorted (x ∷ []) up = λ k d low lt. absurd (omega (arith, lt))
-strict_sorted (x ∷ y ∷ keys) up = λ k d low lt.
-    next_up x y keys up.0.0 (strict_sorted (y ∷ keys) up.1) k d lt
-
--- a pair that isn't found is none of them
-pub place_none : (keys : List (ℕ × ℕ)) (key : ℕ × ℕ) (r : Result ℕ ℕ)
-    → IsStrictlySortedBy key_cmp keys → IsSearchInRange r (length keys)
-    → IsBinarySearchResult (λ k. key_cmp k key) keys r
-    → IfErr r (λ _. list_any (same_key key) keys ≡ false)
-place_none keys key (Ok i) up within found = tt
-place_none keys key (Err i) up within found =
-    sym (set.contains-from_list key_total keys key)
-    ∙ sym (search_finds keys key (Err i) (strict_sorted keys up) within found)
-
-pub if_none : (P : Type 0) (r : Result ℕ ℕ) (o : Option ℕ) → o ≡ result_ok r
-    → IfErr r (λ _. P) → IfNone o P
-if_none P (Ok i) o is none = rw is tt
-if_none P (Err i) o is none = rw is none
-
 -- ---- what is kept of a pair
 
 pub is_there : (n : ℕ) → n ≢ 0 → is_some (number_of_next n) ≡ true
@@ -197,11 +154,11 @@ abbrev pub kept_as : List (ℕ × ℕ) → List ℕ → KeysText
 kept_as keys ns = record { listed = Some (set.from_list keys); numbers = filled keys ns }
 
 pub number_here : (keys : List (ℕ × ℕ)) (ns : List ℕ) (key : ℕ × ℕ) (i : ℕ) (s : KeysText)
-    → kept_as keys ns ≡ s → IsStrictlySortedBy key_cmp keys → IsPlaceOf keys key i
+    → kept_as keys ns ≡ s → IsDistinct same_key keys → IsPlaceOf keys key i
     → number_in s.numbers key ≡ number_of_next (get_or ns i 0)
-number_here keys ns key i s is up place =
+number_here keys ns key i s is distinct place =
     ap (λ (t : KeysText). number_in t.numbers key) (sym is)
-    ∙ at_place key keys ns i (IsDistinct-from_sorted key_cmp keys up) place.0 place.1
+    ∙ at_place key keys ns i distinct place.0 place.1
 
 pub listed_here : (keys : List (ℕ × ℕ)) (ns : List ℕ) (key : ℕ × ℕ) (i : ℕ) (s : KeysText)
     → kept_as keys ns ≡ s → IsPlaceOf keys key i → is_in s.listed key ≡ true
@@ -241,47 +198,3 @@ all_numbered None all more key n s is kept none grown = (
   λ q. grown q ∙ ap (λ (t : KeysText). cond (is_at (key_cmp key) q) (Some n) (number_in t.numbers q))
       kept,
 )
-
--- ---- each pair once
-
--- two pairs are the same where both of their addresses are
-pub pair_ties : (x y : ℕ × ℕ) → ((x.0 == y.0) && (x.1 == y.1)) ≡ same_key x y
-pair_ties x y = grind (arith, nat_tests)
-
-twice : (b c : Bool) → (b || (b || c)) ≡ (b || c)
-twice true c = refl
-twice false c = refl
-
-module _ (same : ℕ × ℕ → ℕ × ℕ → Bool) (ties : (x y : ℕ × ℕ) → same x y ≡ same_key x y) where
-  -- who is among those that are left was among them before
-  any_from : (q k : ℕ × ℕ) (xs : List (ℕ × ℕ))
-      → list_any (same_key q) (dedup_from same k xs) ≡ (same_key q k || list_any (same_key q) xs)
-  any_from q k [] = refl
-  any_from q k (x ∷ xs) =
-      elim (cases_Bool (same x k)) [
-        | inl is ↦
-            let one : x ≡ k = same_is x k (sym (ties x k) ∙ is) in
-            rw (is) (any_from q k xs
-            ∙ sym (ap (λ y. same_key q k || (same_key q y || list_any (same_key q) xs)) one
-            ∙ twice (same_key q k) (list_any (same_key q) xs)))
-        | inr other ↦ rw (other) (ap (λ r. same_key q k || r) (any_from q x xs))
-      ]
-
-  any_deduped : (q : ℕ × ℕ) (xs : List (ℕ × ℕ))
-      → list_any (same_key q) (dedup same xs) ≡ list_any (same_key q) xs
-  any_deduped q [] = refl
-  any_deduped q (x ∷ xs) = any_from q x xs
-
-  -- they are the same set,
-  pub set_deduped : (pairs sorted : List (ℕ × ℕ)) → IsPermutation pairs sorted
-      → set.from_list {R = key_cmp} (dedup same sorted) ≡ set.from_list pairs
-  set_deduped pairs sorted moved =
-      set.same_set key_total key_antisymmetric (set.from_list (dedup same sorted)) (set.from_list sorted)
-      (λ q. set.contains-from_list key_total (dedup same sorted) q ∙ any_deduped q sorted
-      ∙ sym (set.contains-from_list key_total sorted q))
-      ∙ set_permuted pairs sorted moved
-
-  -- and in order
-  pub strictly_sorted : (sorted : List (ℕ × ℕ)) → IsSorted key_cmp sorted
-      → IsStrictlySortedBy key_cmp (dedup same sorted)
-  strictly_sorted sorted up = IsStrictlySortedBy-dedup key_total ties sorted up

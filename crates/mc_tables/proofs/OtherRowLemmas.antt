@@ -18,9 +18,10 @@ use Rattle.std.proofs.lemmas.List.Sorted.{IsPermutation-map, IsPermutation-sym, 
 use Rattle.std.proofs.lemmas.Cmp.{nat_cmp_total, eq_by_cmp_equiv}
 use Rattle.std.proofs.lemmas.Map.Keys.{IsDistinct-IsPermutation, IsDistinct-from_sorted}
 use Rattle.std.proofs.lemmas.Map.Keys.{apart_from_distinct, sorted_from_strictly_increasing}
+use Rattle.mc_text.specs.Pair.{pair_number}
 use Rattle.mc_tables.specs.CacheTable.{key_cmp, same_key}
 use Rattle.mc_tables.specs.OtherRows.{OtherRow, repeats, is_repeat, lesser, least, first_repeat}
-use Rattle.mc_tables.specs.OtherRows.{key_number, row_number}
+use Rattle.mc_tables.specs.OtherRows.{row_number}
 use Rattle.mc_tables.proofs.CacheLemmas.{key_laws}
 use Rattle.mc_tables.proofs.CacheMapLemmas.{key_antisymmetric}
 
@@ -292,7 +293,7 @@ number_differs x y apart =
     elim (cases_Bool (same_key y.0 x.0)) [
       | inr other ↦ ap (λ b. b && nat_lt y.1 x.1) other
       | inl same ↦
-          let one : row_number y ≡ row_number x = ap key_number (same_is y.0 x.0 same) in
+          let one : row_number y ≡ row_number x = ap pair_number (same_is y.0 x.0 same) in
           absurd (true≢false (sym (number_laws.refl (row_number x))
           ∙ ap (λ n. same_number n (row_number x)) (sym one) ∙ apart))
     ]

@@ -1,8 +1,8 @@
 -- How a cache keeps its entries: by number, and the number of each source and group that has one.
-use Rattle.std.specs.Prelude.{◌≡◌, ◌≢◌, ◌+◌, ◌*◌, ◌%◌, ◌/◌, ℕ, zero, suc, ◌<◌, true, false, cond, List, [], ◌∷◌, length}
+use Rattle.std.specs.Prelude.{◌≡◌, ℕ, zero, suc, ◌<◌, true, false, cond, List, [], ◌∷◌, length}
 use Rattle.std.specs.Prelude.{Option, Some, None, IfSome, is_some, get_or, slice_get}
 use Rattle.std.specs.Option.{option_map}
-use Rattle.std.specs.List.{All, filter_map}
+use Rattle.std.specs.List.{filter_map}
 use Rattle.std.specs.BTreeMap.{is_at}
 use Rattle.std.specs.Map.{lookup}
 use Rattle.mc_tables.specs.CacheTable.{EntryText, CacheText, key_cmp}
@@ -48,14 +48,6 @@ number_of_next (suc n) = Some n
 -- the key stands at this place
 abbrev pub IsPlaceOf : List (ℕ × ℕ) → ℕ × ℕ → ℕ → Type 0
 IsPlaceOf keys key place = (place < length keys) × (get_or keys place key ≡ key)
-
--- a slot of a source and a group, of 16,384
-abbrev pub slot_of : ℕ × ℕ → ℕ
-slot_of key = (key.0 * 1540483477 + key.1 * 461845907) % 4294967296 / 262144
-
--- none of these has a slot that is empty
-abbrev pub HaveSlots : List ℕ → List (ℕ × ℕ) → Type 0
-HaveSlots slots keys = All (λ key. get_or slots (slot_of key) 1 ≢ 0) keys
 
 -- those that are listed, with their numbers, or all
 abbrev pub keys_of : Option KeysText → List ((ℕ × ℕ) × ℕ) → KeysText

@@ -1,9 +1,10 @@
 -- Rows of a cache of which only what finds a repeated one is kept.
-use Rattle.std.specs.Prelude.{ℕ, ◌+◌, ◌*◌, ◌^◌, nat_lt, Bool, ◌&&◌, if◌then◌else◌, List, [], ◌∷◌, map, filter, Option}
+use Rattle.std.specs.Prelude.{ℕ, nat_lt, Bool, ◌&&◌, if◌then◌else◌, List, [], ◌∷◌, map, filter, Option}
 use Rattle.std.specs.Prelude.{Some, None, Result, Ok, Err}
 use Rattle.std.specs.List.{list_any}
 use Rattle.std.specs.Ordering.{nat_cmp, ordering_then}
 use Rattle.std.specs.declared.cmp.Ordering.{Ordering}
+use Rattle.mc_text.specs.Pair.{pair_number}
 use Rattle.mc_tables.specs.declared.fault.TableFault.{TableFault}
 use Rattle.mc_tables.specs.declared.fault.TableFaultKind.TheVariants.{RepeatedEntry}
 use Rattle.mc_tables.specs.CacheTable.{key_cmp, same_key}
@@ -12,12 +13,9 @@ use Rattle.mc_tables.specs.CacheTable.{key_cmp, same_key}
 abbrev pub OtherRow : Type 0
 OtherRow = (ℕ × ℕ) × ℕ
 
--- a source and a group as one number, of which the source is the upper half
-abbrev pub key_number : ℕ × ℕ → ℕ
-key_number key = key.0 * 2 ^ 32 + key.1
-
+-- its source and group as one number
 abbrev pub row_number : OtherRow → ℕ
-row_number row = key_number row.0
+row_number row = pair_number row.0
 
 -- by source and group, and then by line
 abbrev pub row_cmp : OtherRow → OtherRow → Ordering

@@ -12,10 +12,11 @@ ghost use Rattle.mc_tables.specs.RowsSoFar.{nothing_so_far, no_cache, rows_end, 
 use crate::cache_table::CacheTable;
 use crate::fault::TableFault;
 use crate::key_numbers::KeyNumbers;
+use crate::listed_pairs::ListedPairs;
 use crate::listed_rows::ListedRows;
 use crate::piece_lines::PieceLines;
 use crate::rows::read_piece;
-use mc_text::{Addr, Order};
+use mc_text::Order;
 use std::alloc::Global;
 use std::marker::Model;
 
@@ -52,11 +53,11 @@ impl Model for CacheReader {
 impl CacheReader {
     /// A reader that was fed nothing, for a router whose machine has this byte order. It keeps the
     /// rows of these sources and groups.
-    pub fn new(alloc: Global, order: Order, listed: Vec<(Addr, Addr)>) -> CacheReader
-        ensures start { result ≡ no_cache order (Some listed.items) }
+    pub fn new(alloc: Global, order: Order, listed: ListedPairs) -> CacheReader
+        ensures start { result ≡ no_cache order (Some listed) }
         // A text of any bytes ends with what the whole text is read as.
         ensures reads { (text : List ℕ) → length text ≤ max_text →
-            cache_if result text ≡ listed_in order (Some listed.items) text }
+            cache_if result text ≡ listed_in order (Some listed) text }
     {
         CacheReader::of_numbers(alloc, order, KeyNumbers::of_listed(alloc, listed))
     }

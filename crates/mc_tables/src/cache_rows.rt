@@ -156,14 +156,12 @@ impl CacheRows {
         }
     }
 
-    /// The same rows, with the groups in order, and without what is of use only while rows are
-    /// added.
+    /// The same rows, with the groups in order.
     pub fn in_order(mut self) -> CacheRows
         ensures table { result.table ≡ self.table }
         ensures order { IsSorted nat_cmp result.groups }
     {
         self.groups.sort_unstable();
-        self.numbers.settle();
         self
     }
 

@@ -5,6 +5,7 @@ ghost use Rattle.std.specs.FinSet as set;
 ghost use Rattle.mc_tables.specs.CacheNumbers.{IsNumbered, number_in};
 
 use crate::listed_numbers::{ListedNumbers, Numbered};
+use crate::listed_pairs::ListedPairs;
 use mc_text::Addr;
 use std::alloc::{AllocError, Global};
 use std::collections::BTreeMap;
@@ -42,8 +43,8 @@ impl KeyNumbers {
     }
 
     /// None has a number, and these can have one.
-    pub fn of_listed(alloc: Global, pairs: Vec<(Addr, Addr)>) -> KeyNumbers
-        ensures { result ≡ record { listed = Some (set.from_list pairs.items); numbers = [] } }
+    pub fn of_listed(alloc: Global, pairs: ListedPairs) -> KeyNumbers
+        ensures { result ≡ record { listed = Some (set.from_list pairs); numbers = [] } }
     {
         KeyNumbers {
             listed: Some(ListedNumbers::of(alloc, pairs)),
@@ -59,15 +60,6 @@ impl KeyNumbers {
         match &self.listed {
             Some(listed) => listed.number_near(key, near),
             None => self.all.get(key).copied(),
-        }
-    }
-
-    /// Lets go what is of use only while numbers are given.
-    pub fn settle(&mut self)
-        ensures { self.new ≡ self.old }
-    {
-        if let Some(listed) = &mut self.listed {
-            listed.settle();
         }
     }
 

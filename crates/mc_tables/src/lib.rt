@@ -39,6 +39,7 @@ pub use laws::{
     tables_are_read_as_they_stand, tables_keep_their_rules, texts_stand_for_one_table,
     vifs_are_numbered_to_31,
 };
+pub use listed_pairs::ListedPairs;
 pub use vif::Vif;
 pub use vif_reader::VifReader;
 pub use vif_table::VifTable;

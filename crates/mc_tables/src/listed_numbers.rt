@@ -5,7 +5,6 @@ ghost use Rattle.std.specs.Prelude.{Some, false};
 ghost use Rattle.std.specs.Prelude.{get_or, length, replicate};
 ghost use Rattle.std.specs.FinSet as set;
 ghost use Rattle.std.specs.List.{list_any};
-ghost use Rattle.std.specs.List.Sorted.{IsStrictlySortedBy};
 ghost use Rattle.mc_tables.specs.CacheNumbers.{IsNumbered, number_in, number_of_next};
 ghost use Rattle.mc_tables.specs.CacheTable.{key_cmp, same_key};
 
@@ -53,12 +52,12 @@ impl Model for ListedNumbers {
 
 impl ListedNumbers {
     /// These are listed, and none has a number.
-    pub fn of(alloc: Global, pairs: Vec<(Addr, Addr)>) -> ListedNumbers
-        ensures listed { result.listed ≡ Some (set.from_list pairs.items) }
+    pub fn of(alloc: Global, pairs: ListedPairs) -> ListedNumbers
+        ensures listed { result.listed ≡ Some (set.from_list pairs) }
         ensures numbers { result.numbers ≡ [] }
     {
         ListedNumbers {
-            pairs: ListedPairs::of(alloc, pairs),
+            pairs,
             numbers: Vec::new(alloc),
         }
     }
@@ -73,24 +72,16 @@ impl ListedNumbers {
         number_at(&self.numbers, place)
     }
 
-    /// Lets go what is of use only while numbers are given.
-    pub fn settle(&mut self)
-        ensures { self.new ≡ self.old }
-    {
-        self.pairs.settle();
-    }
-
     /// Gives a source and a group this number, if they are listed and have none.
     pub fn add(&mut self, key: &(Addr, Addr), number: u32) -> Result<Numbered, AllocError>
         requires { number < 65536 }
         ensures numbered { IfOk result (IsNumbered key.now number self.old self.new) }
         ensures refused { OnErr result (self.new ≡ self.old) }
     {
-        self.pairs.prepare()?;
         let Some(place) = self.pairs.place_of(key) else {
             return Ok(Numbered::Unlisted);
         };
-        add_places(&mut self.numbers, self.pairs.len())?;
+        add_places(&mut self.numbers, self.pairs.count())?;
         if self.numbers[place] != 0 {
             return Ok(Numbered::Repeated);
         }

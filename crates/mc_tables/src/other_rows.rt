@@ -3,11 +3,11 @@
 ghost use Rattle.std.specs.Prelude.{◌≡◌, [], ◌∷◌, ◌++◌, true, OnOk, OnErr, IfErr};
 ghost use Rattle.std.specs.List.Sorted.{IsSorted, IsStrictlyIncreasing};
 ghost use Rattle.mc_tables.specs.declared.fault.TableFaultKind.TheVariants.{Memory};
-ghost use Rattle.mc_tables.specs.OtherRows.{key_number, row_cmp, repeats, lesser, first_repeat};
+ghost use Rattle.mc_tables.specs.OtherRows.{row_cmp, repeats, lesser, first_repeat};
 ghost use Rattle.mc_tables.specs.OtherRows.{without_repeat};
 
 use crate::fault::{TableFault, TableFaultKind};
-use mc_text::Addr;
+use mc_text::{Addr, pair_number};
 use std::alloc::Global;
 use std::marker::Model;
 
@@ -53,7 +53,7 @@ impl OtherRows {
     {
         self.keys.reserve(1)?;
         self.rows.push(((source, group), line))?;
-        self.keys.push(key_number(source, group))?;
+        self.keys.push(pair_number(source, group))?;
         Ok(())
     }
 
@@ -72,15 +72,6 @@ impl OtherRows {
             None => Ok(()),
         }
     }
-}
-
-/// A source and a group as one number.
-fn key_number(source: Addr, group: Addr) -> u64
-    ensures { result ≡ key_number (source, group) }
-{
-    let upper = u32::from_be_bytes(source.octets());
-    let lower = u32::from_be_bytes(group.octets());
-    u64::from(upper) * (1 << 32) + u64::from(lower)
 }
 
 /// Whether each number is less than the next.

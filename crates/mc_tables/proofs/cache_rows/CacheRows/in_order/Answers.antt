@@ -1,9 +1,7 @@
 use Rattle.std.proofs.Common.{◌∙◌, ap}
-use Rattle.std.specs.FinSet as set
-use Rattle.std.specs.Ordering.{nat_cmp}
 use Rattle.std.proofs.lemmas.Cmp.{nat_cmp_total}
 use Rattle.std.specs.FinMap.{nat_cmp-IsAntisymmetric}
-use Rattle.mc_tables.specs.CacheNumbers.{KeptText, KeysText}
+use Rattle.mc_tables.specs.CacheNumbers.{KeptText}
 use Rattle.mc_tables.specs.FlatOifs.{entries_of}
 use Rattle.mc_tables.proofs.CacheMapLemmas.{table_with}
 use Rattle.mc_tables.proofs.ListedLemmas.{set_reordered}
@@ -13,9 +11,7 @@ pub returns-clause-table : goal.returns-clause-table
 returns-clause-table c =
     let inside = c.self.inside in
     let es = entries_of inside.entries.lists in
-    ap (λ (keys : KeysText). table_with keys.numbers es
-    (set.from_list {R = nat_cmp} c.sort_unstable.new.self.items)) c.settle.ensures
-    ∙ ap (table_with inside.numbers.numbers es)
+    ap (table_with inside.numbers.numbers es)
     (set_reordered nat_cmp_total nat_cmp-IsAntisymmetric inside.groups.items
     c.sort_unstable.new.self.items c.sort_unstable.ensures.permutation)
     ∙ ap (λ (kept : KeptText). kept.table) c.self.view_is

@@ -16,4 +16,4 @@ returns c =
     c.number_at.ensures
     ∙ ap (λ (ns : List ℕ). number_of_next (get_or ns c.in_ok-place.place 0)) c.deref.ensures.value
     ∙ sym (number_here c.self.inside.pairs c.self.inside.numbers.items key c.in_ok-place.place
-    c.args.self.now c.self.view_is c.in_ok-place.ensures.rules c.in_ok-place.ensures.found)
+    c.args.self.now c.self.view_is c.in_ok-place.ensures.distinct c.in_ok-place.ensures.found)

@@ -1,16 +1,16 @@
-use Rattle.std.proofs.Common.{◌≡◌, ℕ, List, get_or, ap, subst, sym, ◌∙◌, false}
-use Rattle.std.specs.List.{list_any}
+use Rattle.std.proofs.Common.{ℕ, List, subst}
+use Rattle.std.specs.List.{IsDistinct}
 use Rattle.mc_tables.specs.CacheTable.{same_key}
-use Rattle.mc_tables.proofs.SlotLemmas.{empty_slot}
+use Rattle.mc_tables.proofs.ListedPairLemmas.{pair_missed, pairs_distinct}
 use Rattle.mc_tables.proofs.listed_pairs.ListedPairs.place_of.Goals as goal
 
-pub returns-then-next-eq0-clause-none : goal.returns-then-next-eq0-clause-none
-returns-then-next-eq0-clause-none c =
-    let key = c.args.key.now in
-    let slots = c.self.inside.slots.items in
-    let lent = c.in-Some.ensures.lookup in
-    subst (λ (keys : List (ℕ × ℕ)). list_any (same_key key) keys ≡ false) c.self.view_is
-    (empty_slot slots c.self.inside.pairs.items key c.self.invariant.1
-    (ap (λ k. get_or slots k 1) (sym c.slot_of.ensures.slot)
-    ∙ ap (λ (s : List ℕ). get_or s c.slot_of.result 1) (sym c.deref.ensures.value)
-    ∙ sym (lent.3.1 1) ∙ c.if-next-eq0.true))
+pub returns-clause-none : goal.returns-clause-none
+returns-clause-none c =
+    rw (← c.self.view_is)
+    (pair_missed c.self.inside.index.value c.pair_number.result c.args.key.now c.place_of.result
+    c.pair_number.ensures.pair (rw c.deref.ensures at c.place_of.ensures.none))
+
+pub returns-clause-distinct : goal.returns-clause-distinct
+returns-clause-distinct c =
+    subst (λ (keys : List (ℕ × ℕ)). IsDistinct same_key keys) c.self.view_is
+    (pairs_distinct c.self.inside.index.value (rw c.deref.ensures at c.place_of.ensures.ascending))

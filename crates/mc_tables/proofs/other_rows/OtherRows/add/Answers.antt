@@ -12,7 +12,7 @@ invariant_of-self-2 c =
     let row : OtherRow = ((c.args.source, c.args.group), c.args.line) in
     let pushed : c.push-2.new.self.items ≡ keys ++ row_number row ∷ [] =
     c.in_ok-push-2.ensures.items
-    ∙ ap (λ (k : ℕ). c.reserve.new.self.items ++ k ∷ []) c.key_number.ensures
+    ∙ ap (λ (k : ℕ). c.reserve.new.self.items ++ k ∷ []) c.pair_number.ensures.number
     ∙ ap (λ (l : List ℕ). l ++ row_number row ∷ []) c.in_ok-reserve.ensures.items in
     subst (λ (l : List OtherRow). IsPermutation (map row_number l) c.push-2.new.self.items)
     (sym c.in_ok-push.ensures.items)

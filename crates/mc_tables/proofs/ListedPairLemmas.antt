@@ -1,0 +1,116 @@
+-- Sources and groups that are kept as numbers.
+use Rattle.std.proofs.Common.{◌≡◌, ℕ, ◌<◌, false, List, [], ◌∷◌, length, get_or, map, Option}
+use Rattle.std.proofs.Common.{None, Some, sym, ap, ◌∙◌, inl, inr, arith, subst}
+use Rattle.std.specs.Prelude.{◌↔◌, IfNone}
+use Rattle.std.specs.Cmp.{nat_cmp_total}
+use Rattle.std.specs.FinSet as set
+use Rattle.std.specs.List.{AllByRecursion, Contains, IsDistinct, list_any}
+use Rattle.std.specs.List.Sorted.{IsStrictlyIncreasing}
+use Rattle.std.specs.Ordering.{eq_by_cmp, nat_cmp}
+use Rattle.std.proofs.lemmas.Bool.{cases_Bool, true≢false}
+use Rattle.std.proofs.lemmas.Cmp.{eq_by_cmp_equiv}
+use Rattle.std.proofs.lemmas.List.{get_or-map, length-map}
+use Rattle.std.proofs.lemmas.List.Elements.{Contains-get_or}
+use Rattle.std.proofs.lemmas.List.Folds.{list_any_none}
+use Rattle.std.proofs.lemmas.Map.Keys.{IsDistinct-from_sorted, IsDistinct-head, IsDistinct-tail}
+use Rattle.std.proofs.lemmas.Map.Keys.{sorted_from_strictly_increasing}
+use Rattle.std.proofs.lemmas.Map.Views.{Contains-from_any, list_any-from_Contains}
+use Rattle.mc_text.specs.Pair.{pair_of}
+use Rattle.mc_text.proofs.PairLemmas.{pair_of-injective}
+use Rattle.mc_tables.specs.CacheTable.{key_cmp, same_key}
+use Rattle.mc_tables.proofs.CacheLemmas.{key_laws, key_total}
+use Rattle.mc_tables.proofs.CacheMapLemmas.{key_antisymmetric}
+use Rattle.mc_tables.proofs.OtherRowLemmas.{same_is}
+
+-- a pair whose number is none of the numbers is none of the pairs
+missed_pair : (ns : List ℕ) (n : ℕ) (key : ℕ × ℕ) → pair_of n ≡ key → ¬ Contains ns n
+    → list_any (same_key key) (map pair_of ns) ≡ false
+missed_pair ns n key is missed =
+    list_any_none (same_key key) (map pair_of ns) (λ k d lt.
+    elim (cases_Bool (same_key key (get_or (map pair_of ns) k d))) [
+      | inl same ↦ absurd (
+          let within : k < length ns = omega (arith, length-map ns pair_of, lt) in
+          let own : pair_of (get_or ns k n) ≡ pair_of n =
+          sym (get_or-map pair_of ns k n d within)
+          ∙ sym (same_is key (get_or (map pair_of ns) k d) same) ∙ sym is in
+          missed (k, within, pair_of-injective (get_or ns k n) n own))
+      | inr other ↦ other
+    ])
+
+pub pair_missed : (ns : List ℕ) (n : ℕ) (key : ℕ × ℕ) (place : Option ℕ) → pair_of n ≡ key
+    → IfNone place (¬ Contains ns n) → IfNone place (list_any (same_key key) (map pair_of ns) ≡ false)
+pair_missed ns n key (Some i) is missed = tt
+pair_missed ns n key None is missed = missed_pair ns n key is missed
+
+-- numbers that differ are of pairs that differ
+differ_from : (n : ℕ) (ns : List ℕ) → AllByRecursion (λ m. eq_by_cmp nat_cmp n m ≡ false) ns
+    → AllByRecursion (λ k. same_key (pair_of n) k ≡ false) (map pair_of ns)
+differ_from n [] all = tt
+differ_from n (m ∷ ns) all = (
+  elim (cases_Bool (same_key (pair_of n) (pair_of m))) [
+    | inl same ↦ absurd (true≢false (sym ((eq_by_cmp_equiv nat_cmp_total).refl n)
+        ∙ ap (eq_by_cmp nat_cmp n)
+        (pair_of-injective n m (same_is (pair_of n) (pair_of m) same)) ∙ all.0))
+    | inr other ↦ other
+  ],
+  differ_from n ns all.1,
+)
+
+distinct_from : (ns : List ℕ) → IsDistinct (eq_by_cmp nat_cmp) ns
+    → IsDistinct same_key (map pair_of ns)
+unfolding IsDistinct
+distinct_from [] distinct = tt
+distinct_from (n ∷ ns) distinct = (
+  differ_from n ns (IsDistinct-head (eq_by_cmp nat_cmp) n ns distinct),
+  distinct_from ns (IsDistinct-tail (eq_by_cmp nat_cmp) n ns distinct),
+)
+
+pub pairs_distinct : (ns : List ℕ) → IsStrictlyIncreasing ns → IsDistinct same_key (map pair_of ns)
+pairs_distinct ns up =
+    distinct_from ns (IsDistinct-from_sorted nat_cmp ns (sorted_from_strictly_increasing ns up))
+
+-- ---- which pairs they are
+
+-- the same pairs are the same set
+pub same_set : (xs ys : List (ℕ × ℕ)) → ((q : ℕ × ℕ) → Contains xs q ↔ Contains ys q)
+    → set.from_list {R = key_cmp} xs ≡ set.from_list ys
+same_set xs ys same =
+    set.same_set key_total key_antisymmetric (set.from_list xs) (set.from_list ys) (λ q.
+    set.contains-from_list key_total xs q
+    ∙ elim (cases_Bool (list_any (same_key q) xs)) [
+      | inl some ↦
+          some ∙ sym (list_any-from_Contains key_laws q ys
+          ((same q).0 (Contains-from_any same_is q xs some)))
+      | inr none ↦ elim (cases_Bool (list_any (same_key q) ys)) [
+        | inl some ↦ absurd (
+            let there = list_any-from_Contains key_laws q xs
+            ((same q).1 (Contains-from_any same_is q ys some)) in
+            cc)
+        | inr neither ↦ none ∙ sym neither
+      ]
+    ]
+    ∙ sym (set.contains-from_list key_total ys q))
+
+-- what numbers among these are of, the pairs of these have
+moved : (xs ys : List ℕ) → ((n : ℕ) → Contains xs n → Contains ys n) → (q : ℕ × ℕ)
+    → Contains (map pair_of xs) q → Contains (map pair_of ys) q
+moved xs ys same q among =
+    let within : among.0 < length xs = omega (arith, length-map xs pair_of, among.1) in
+    let n : ℕ = get_or xs among.0 0 in
+    let own : pair_of n ≡ q = sym (get_or-map pair_of xs among.0 0 q within) ∙ among.2 in
+    let there = same n (Contains-get_or xs among.0 0 within) in (
+      there.0,
+      omega (arith, length-map ys pair_of, there.1),
+      get_or-map pair_of ys there.0 n q there.1 ∙ ap pair_of there.2 ∙ own,
+    )
+
+-- the pairs of the same numbers are the same
+pub same_pairs : (kept made : List ℕ) (pairs : List (ℕ × ℕ)) → map pair_of made ≡ pairs
+    → ((n : ℕ) → Contains kept n ↔ Contains made n)
+    → (q : ℕ × ℕ) → Contains (map pair_of kept) q ↔ Contains pairs q
+same_pairs kept made pairs is same q = (
+  λ among. subst (λ (ps : List (ℕ × ℕ)). Contains ps q) is
+      (moved kept made (λ n. (same n).0) q among),
+  λ among. moved made kept (λ n. (same n).1) q
+      (subst (λ (ps : List (ℕ × ℕ)). Contains ps q) (sym is) among),
+)

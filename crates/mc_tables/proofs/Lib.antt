@@ -14,6 +14,7 @@ pub mod OifLemmas
 pub mod EntryLemmas
 pub mod FlatOifLemmas
 pub mod PlainLemmas
+pub mod MarkedLemmas
 pub mod CacheLemmas
 pub mod CacheLookupLemmas
 pub mod CacheMapLemmas

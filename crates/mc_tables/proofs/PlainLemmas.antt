@@ -95,6 +95,38 @@ front_digits line end e some =
     and_from (nat_le 1 (length (take end line))) _
     (le-leb 1 (length (take end line)) (omega (arith, size, some))) (before_other line end e)
 
+-- digits and a space behind them are a line's first word
+pub word_behind : (line : List ℕ) (end : ℕ) → is_decimal (take end line) ≡ true → end < length line
+    → get_or line end 0 ≡ 32 → words_of line ≡ take end line ∷ words_of (drop end line)
+word_behind line end decimal within space =
+    let behind : drop end line ≡ 32 ∷ drop (end + 1) line =
+    drop_more line end 0 within ∙ ap (λ b. b ∷ drop (end + 1) line) space in
+    ap words_of (sym (take-append-drop end line) ∙ ap (λ rest. take end line ++ rest) behind)
+    ∙ digits_first (take end line) (drop (end + 1) line) decimal
+    ∙ ap (λ (r : List ℕ). take end line ∷ words_of r) (sym behind)
+
+-- decimal digits are no `-` and more
+decimal_counter : (word : List ℕ) → is_decimal word ≡ true → length word ≤ 20
+    → is_counter word ≡ true
+decimal_counter [] e few = absurd cc
+decimal_counter (c ∷ word) e few =
+    let p = and_parts (nat_le 1 (length (c ∷ word))) _ e in
+    let digit = and_parts (is_ascii_digit c) _ p.1 in
+    let other : (c == 45) ≡ false =
+    ne_eqb c 45 (λ is. let wrong = subst (λ b. is_ascii_digit b ≡ true) is digit.0 in cc) in
+    rw other (and_from _ _ (and_from _ _ p.0 (le-leb (length (c ∷ word)) 20 few)) p.1)
+
+-- at most twenty are a counter
+pub counter_behind : (line : List ℕ) (end : ℕ) → is_decimal (take end line) ≡ true → end ≤ 20
+    → end < length line → get_or line end 0 ≡ 32 → (counter : List ℕ)
+    × (words_of line ≡ counter ∷ words_of (drop end line)) × (is_counter counter ≡ true)
+counter_behind line end decimal few within space =
+    let size = length-take-le end line (omega (arith, within)) in (
+      take end line,
+      word_behind line end decimal within space,
+      decimal_counter (take end line) decimal (omega (arith, size, few)),
+    )
+
 -- ---- spaces
 
 -- a line has the words that it has from its first byte that is no space
@@ -219,20 +251,25 @@ digit_first vif threshold after of_vif of_threshold =
     (one_digit 0 31 vif of_vif (omega arith) (omega (arith, top)))
     (one_digit 1 254 threshold digit (omega (arith, low)) (omega (arith, high)))
 
-pub short_first : (line : List ℕ) → 4 ≤ length line → is_ascii_digit (get_or line 0 0) ≡ true
-    → (nat_le 49 (get_or line 2 0) && nat_le (get_or line 2 0) 57) ≡ true → get_or line 1 0 ≡ 58
-    → get_or line 3 0 ≡ 32 → (word : List ℕ)
-    × (words_of line ≡ word ∷ words_of (take (length line - 4) (drop 4 line)))
-    × (oif_in word ≡ Ok (get_or line 0 0 - 48, get_or line 2 0 - 48))
-short_first (a ∷ b ∷ c ∷ d ∷ rest) long of_vif of_threshold colon space =
-    let first = digit_first a c rest of_vif of_threshold in (
-      first.0,
-      ap (λ x. words_of (a ∷ x ∷ c ∷ d ∷ rest)) colon
-          ∙ ap (λ x. words_of (a ∷ 58 ∷ c ∷ x ∷ rest)) space ∙ first.1
-          ∙ ap (λ (r : List ℕ). first.0 ∷ words_of r) (sym (rest_of (a ∷ b ∷ c ∷ d ∷ rest) 4)),
-      first.2,
+pub short_first : (line : List ℕ) → 7 ≤ length line → get_or line 0 0 ≡ 32 → get_or line 1 0 ≡ 32
+    → is_ascii_digit (get_or line 2 0) ≡ true → get_or line 3 0 ≡ 58
+    → (nat_le 49 (get_or line 4 0) && nat_le (get_or line 4 0) 57) ≡ true → get_or line 5 0 ≡ 32
+    → get_or line 6 0 ≡ 32 → (word : List ℕ)
+    × (words_of line ≡ word ∷ words_of (take (length line - 7) (drop 7 line)))
+    × (oif_in word ≡ Ok (get_or line 2 0 - 48, get_or line 4 0 - 48))
+short_first (s ∷ t ∷ a ∷ b ∷ c ∷ d ∷ e ∷ rest) long first second of_vif colon of_threshold third last =
+    let found = digit_first a c (32 ∷ rest) of_vif of_threshold in (
+      found.0,
+      ap (λ x. words_of (x ∷ t ∷ a ∷ b ∷ c ∷ d ∷ e ∷ rest)) first
+          ∙ ap (λ x. words_of (32 ∷ x ∷ a ∷ b ∷ c ∷ d ∷ e ∷ rest)) second
+          ∙ ap (λ x. words_of (a ∷ x ∷ c ∷ d ∷ e ∷ rest)) colon
+          ∙ ap (λ x. words_of (a ∷ 58 ∷ c ∷ x ∷ e ∷ rest)) third
+          ∙ ap (λ x. words_of (a ∷ 58 ∷ c ∷ 32 ∷ x ∷ rest)) last ∙ found.1
+          ∙ ap (λ (r : List ℕ). found.0 ∷ words_of r)
+          (sym (rest_of (s ∷ t ∷ a ∷ b ∷ c ∷ d ∷ e ∷ rest) 7)),
+      found.2,
     )
-short_first line long of_vif of_threshold colon space = grind arith
+short_first line long first second of_vif colon of_threshold third last = grind arith
 
 -- two digits are a number
 two_digits : (most c d : ℕ) → is_ascii_digit c ≡ true → is_ascii_digit d ≡ true
@@ -255,31 +292,71 @@ two_digits most c d first second high =
       le-leb ((c - 48) * 10 + (d - 48)) most high,
     ) refl
 
--- and they, a colon, a digit but 0 and a space are a first word that writes an outgoing vif
-pub two_first : (line : List ℕ) → 5 ≤ length line → is_ascii_digit (get_or line 0 0) ≡ true
-    → is_ascii_digit (get_or line 1 0) ≡ true
-    → (get_or line 0 0 - 48) * 10 + (get_or line 1 0 - 48) ≤ 31
-    → (nat_le 49 (get_or line 3 0) && nat_le (get_or line 3 0) 57) ≡ true → get_or line 2 0 ≡ 58
-    → get_or line 4 0 ≡ 32 → (word : List ℕ)
-    × (words_of line ≡ word ∷ words_of (take (length line - 5) (drop 5 line)))
-    × (oif_in word ≡ Ok ((get_or line 0 0 - 48) * 10 + (get_or line 1 0 - 48), get_or line 3 0 - 48))
-two_first (a ∷ b ∷ c ∷ d ∷ e ∷ rest) long tens units top of_threshold colon space =
+-- and they, a colon, a digit but 0 and spaces are a first word that writes an outgoing vif
+pub two_first : (line : List ℕ) → 7 ≤ length line → get_or line 0 0 ≡ 32
+    → is_ascii_digit (get_or line 1 0) ≡ true → is_ascii_digit (get_or line 2 0) ≡ true
+    → (get_or line 1 0 - 48) * 10 + (get_or line 2 0 - 48) ≤ 31 → get_or line 3 0 ≡ 58
+    → (nat_le 49 (get_or line 4 0) && nat_le (get_or line 4 0) 57) ≡ true → get_or line 5 0 ≡ 32
+    → get_or line 6 0 ≡ 32 → (word : List ℕ)
+    × (words_of line ≡ word ∷ words_of (take (length line - 7) (drop 7 line)))
+    × (oif_in word ≡ Ok ((get_or line 1 0 - 48) * 10 + (get_or line 2 0 - 48), get_or line 4 0 - 48))
+two_first (s ∷ a ∷ b ∷ c ∷ d ∷ e ∷ f ∷ rest) long first tens units top colon of_threshold third last =
     let t = and_parts (nat_le 49 d) (nat_le d 57) of_threshold in
     let low = leb-true 49 d t.0 in
     let high = leb-true d 57 t.1 in
     let digit : is_ascii_digit d ≡ true =
     and_from (nat_le 48 d) (nat_le d 57) (le-leb 48 d (omega (arith, low))) t.1 in
-    let first = oif_first (a ∷ b ∷ 58 ∷ d ∷ 32 ∷ rest) (a ∷ b ∷ []) (d ∷ 32 ∷ rest) (d ∷ []) rest
-    ((a - 48) * 10 + (b - 48)) (d - 48) refl refl (rw (tens, units) refl) (rw digit refl)
-    (two_digits 31 a b tens units top)
+    let found = oif_first (a ∷ b ∷ 58 ∷ d ∷ 32 ∷ 32 ∷ rest) (a ∷ b ∷ []) (d ∷ 32 ∷ 32 ∷ rest) (d ∷ [])
+    (32 ∷ rest) ((a - 48) * 10 + (b - 48)) (d - 48) refl refl (rw (tens, units) refl)
+    (rw digit refl) (two_digits 31 a b tens units top)
     (one_digit 1 254 d digit (omega (arith, low)) (omega (arith, high))) in (
-      first.0,
-      ap (λ x. words_of (a ∷ b ∷ x ∷ d ∷ e ∷ rest)) colon
-          ∙ ap (λ x. words_of (a ∷ b ∷ 58 ∷ d ∷ x ∷ rest)) space ∙ first.1
-          ∙ ap (λ (r : List ℕ). first.0 ∷ words_of r) (sym (rest_of (a ∷ b ∷ c ∷ d ∷ e ∷ rest) 5)),
-      first.2,
+      found.0,
+      ap (λ x. words_of (x ∷ a ∷ b ∷ c ∷ d ∷ e ∷ f ∷ rest)) first
+          ∙ ap (λ x. words_of (a ∷ b ∷ x ∷ d ∷ e ∷ f ∷ rest)) colon
+          ∙ ap (λ x. words_of (a ∷ b ∷ 58 ∷ d ∷ x ∷ f ∷ rest)) third
+          ∙ ap (λ x. words_of (a ∷ b ∷ 58 ∷ d ∷ 32 ∷ x ∷ rest)) last ∙ found.1
+          ∙ ap (λ (r : List ℕ). found.0 ∷ words_of r)
+          (sym (rest_of (s ∷ a ∷ b ∷ c ∷ d ∷ e ∷ f ∷ rest) 7)),
+      found.2,
     )
-two_first line long tens units top of_threshold colon space = grind arith
+two_first line long first tens units top colon of_threshold third last = grind arith
+
+-- ---- an incoming vif
+
+-- a digit and two spaces are a first word that writes an incoming vif
+pub short_iif : (line : List ℕ) → 3 ≤ length line → is_ascii_digit (get_or line 0 0) ≡ true
+    → get_or line 1 0 ≡ 32 → get_or line 2 0 ≡ 32 → (word : List ℕ)
+    × (words_of line ≡ word ∷ words_of (take (length line - 3) (drop 3 line)))
+    × (is_decimal word ≡ true) × (number_in 0 31 word ≡ Some (get_or line 0 0 - 48))
+short_iif (a ∷ b ∷ c ∷ rest) long digit first second =
+    let range = and_parts (nat_le 48 a) (nat_le a 57) digit in
+    let top = leb-true a 57 range.1 in
+    let decimal : is_decimal (a ∷ []) ≡ true = rw digit refl in (
+      a ∷ [],
+      ap (λ x. words_of (a ∷ x ∷ c ∷ rest)) first ∙ ap (λ x. words_of (a ∷ 32 ∷ x ∷ rest)) second
+          ∙ digits_first (a ∷ []) (32 ∷ rest) decimal
+          ∙ ap (λ (r : List ℕ). (a ∷ []) ∷ words_of r) (sym (rest_of (a ∷ b ∷ c ∷ rest) 3)),
+      decimal,
+      one_digit 0 31 a digit (omega arith) (omega (arith, top)),
+    )
+short_iif line long digit first second = grind arith
+
+-- so are two digits and a space
+pub two_iif : (line : List ℕ) → 3 ≤ length line → is_ascii_digit (get_or line 0 0) ≡ true
+    → is_ascii_digit (get_or line 1 0) ≡ true
+    → (get_or line 0 0 - 48) * 10 + (get_or line 1 0 - 48) ≤ 31 → get_or line 2 0 ≡ 32
+    → (word : List ℕ) × (words_of line ≡ word ∷ words_of (take (length line - 3) (drop 3 line)))
+    × (is_decimal word ≡ true)
+    × (number_in 0 31 word ≡ Some ((get_or line 0 0 - 48) * 10 + (get_or line 1 0 - 48)))
+two_iif (a ∷ b ∷ c ∷ rest) long tens units top space =
+    let decimal : is_decimal (a ∷ b ∷ []) ≡ true = rw (tens, units) refl in (
+      a ∷ b ∷ [],
+      ap (λ x. words_of (a ∷ b ∷ x ∷ rest)) space ∙ digits_first (a ∷ b ∷ []) rest decimal
+          ∙ ap (λ (r : List ℕ). (a ∷ b ∷ []) ∷ words_of r) (sym (rest_of (a ∷ b ∷ c ∷ rest) 3)),
+      decimal,
+      two_digits 31 a b tens units top,
+    )
+two_iif line long tens units top space = grind arith
 
 -- a number for a vif is at most 31
 pub vif_in_range : (word : List ℕ) (v : ℕ) → number_in 0 31 word ≡ Some v → v ≤ 31

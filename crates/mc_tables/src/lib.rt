@@ -16,6 +16,7 @@ mod laws;
 mod listed_numbers;
 mod listed_pairs;
 mod listed_rows;
+mod marked_line;
 mod other_rows;
 mod outgoing;
 mod piece_lines;

@@ -8,12 +8,14 @@ ghost use Rattle.std.specs.Prelude.{position, true};
 ghost use Rattle.std.specs.Char.{is_ascii_digit};
 ghost use Rattle.mc_text.specs.Lines.{words_of};
 ghost use Rattle.mc_tables.specs.declared.entry.Oif.{Oif};
-ghost use Rattle.mc_tables.specs.TableWords.{address_in, is_counter, is_decimal};
+ghost use Rattle.mc_tables.specs.TableWords.{address_in, is_counter, is_decimal, number_in};
 ghost use Rattle.mc_tables.specs.CacheReading.{oif_in, oifs_in, row_in_words};
 ghost use Rattle.mc_tables.specs.FlatRows.{row_with};
+ghost use Rattle.mc_tables.specs.RowWords.{HasCounters};
 
 use crate::cache_row::CacheRow;
 use crate::entry::Oif;
+use crate::marked_line::MarkedLine;
 use crate::outgoing::MAX_THRESHOLD;
 use crate::table_words::{MAX_VIF, number};
 use mc_text::{Addr, Order};
@@ -92,13 +94,97 @@ fn after_address(line: &[u8]) -> &[u8]
     &line[9..]
 }
 
+/// An incoming vif of one digit, which is printed in three bytes, with which a line begins, and what
+/// stands behind it.
+#[tactic(auto, using(crate::proofs::PlainLemmas::short_iif))]
+fn one_digit_iif_at_front(line: &[u8]) -> Option<(u8, &[u8])>
+    ensures { IfSome result (λ found. (word : List ℕ)
+        × (words_of line.now ≡ word ∷ words_of found.1.now) × (is_decimal word ≡ true)
+        × (number_in 0 31 word ≡ Some found.0)) }
+{
+    if line.len() < 3 || !line[0].is_ascii_digit() || line[1] != b' ' || line[2] != b' ' {
+        return None;
+    }
+    let iif = line[0] - b'0';
+    Some((iif, &line[3..]))
+}
+
+/// The same of one of two digits.
+#[tactic(auto, using(crate::proofs::PlainLemmas::two_iif))]
+fn two_digit_iif_at_front(line: &[u8]) -> Option<(u8, &[u8])>
+    ensures { IfSome result (λ found. (word : List ℕ)
+        × (words_of line.now ≡ word ∷ words_of found.1.now) × (is_decimal word ≡ true)
+        × (number_in 0 31 word ≡ Some found.0)) }
+{
+    if line.len() < 3 || !line[0].is_ascii_digit() || !line[1].is_ascii_digit() {
+        return None;
+    }
+    let iif = (line[0] - b'0') * 10 + (line[1] - b'0');
+    if iif > MAX_VIF || line[2] != b' ' {
+        return None;
+    }
+    Some((iif, &line[3..]))
+}
+
+/// The incoming vif that is a line's first word, and what stands behind it.
+fn iif_at_front(line: &[u8]) -> Option<(u8, &[u8])>
+    ensures { IfSome result (λ found. (word : List ℕ)
+        × (words_of line.now ≡ word ∷ words_of found.1.now) × (is_decimal word ≡ true)
+        × (number_in 0 31 word ≡ Some found.0)) }
+{
+    if let Some(found) = one_digit_iif_at_front(line) {
+        return Some(found);
+    }
+    if let Some(found) = two_digit_iif_at_front(line) {
+        return Some(found);
+    }
+    let (iif, rest) = digits_at_front(line)?;
+    let iif = number(iif, 0, MAX_VIF)?;
+    Some((iif, rest))
+}
+
+/// What stands behind the digits of a counter with which a line begins, its space first.
+#[tactic(auto, using(crate::proofs::PlainLemmas::front_digits, crate::proofs::PlainLemmas::counter_behind))]
+fn after_digits(line: &[u8]) -> Option<&[u8]>
+    ensures { IfSome result (λ after. (counter : List ℕ)
+        × (words_of line.now ≡ counter ∷ words_of after.now) × (is_counter counter ≡ true)) }
+{
+    let end = digits_end(line)?;
+    if end == 0 || end > 20 || line[end] != b' ' {
+        return None;
+    }
+    Some(&line[end..])
+}
+
 /// What stands behind the counter that is a line's first word.
 fn after_counter(line: &[u8]) -> Option<&[u8]>
     ensures { IfSome result (λ after. (counter : List ℕ)
         × (words_of line.now ≡ counter ∷ words_of after.now) × (is_counter counter ≡ true)) }
 {
-    let (digits, after) = digits_at_front(line)?;
-    (digits.len() <= 20).then_some(after)
+    after_digits(without_spaces(line))
+}
+
+/// What stands behind the three counters that are a line's first words, if they stand near its front.
+fn after_near_counters(line: &[u8]) -> Option<&[u8]>
+    ensures { IfSome result (λ after. HasCounters line.now after.now) }
+{
+    let packets = MarkedLine::of(line)?;
+    let bytes = packets.behind_counter()?;
+    let wrong = bytes.behind_counter()?;
+    let outgoing = wrong.behind_counter()?;
+    Some(outgoing.bytes)
+}
+
+/// What stands behind the three counters that are a line's first words.
+fn after_counters(line: &[u8]) -> Option<&[u8]>
+    ensures { IfSome result (λ after. HasCounters line.now after.now) }
+{
+    if let Some(after) = after_near_counters(line) {
+        return Some(after);
+    }
+    let rest = after_counter(line)?;
+    let rest = after_counter(rest)?;
+    after_counter(rest)
 }
 
 /// The resolved row that a line begins with, and what stands behind its counters.
@@ -110,11 +196,8 @@ pub fn row_at_front(line: &[u8], order: Order) -> Option<(CacheRow, &[u8])>
     let group = address_at_front(line, order)?;
     let rest = after_address(line);
     let origin = address_at_front(rest, order)?;
-    let (iif, rest) = digits_at_front(after_address(rest))?;
-    let iif = number(iif, 0, MAX_VIF)?;
-    let rest = after_counter(rest)?;
-    let rest = after_counter(rest)?;
-    let rest = after_counter(rest)?;
+    let (iif, rest) = iif_at_front(after_address(rest))?;
+    let rest = after_counters(rest)?;
     let row = CacheRow {
         group,
         origin,
@@ -140,15 +223,15 @@ fn one_digit_oif_at_front(line: &[u8]) -> Option<(Oif, &[u8])>
     ensures vif { IfSome result (λ found. found.0.vif ≤ 31) }
     ensures shorter { IfSome result (λ found. length found.1.now < length line.now) }
 {
-    if line.len() < 4 || !line[0].is_ascii_digit() || !is_from_1_to_9(line[2]) {
+    if line.len() < 7 || line[0] != b' ' || line[1] != b' ' || !line[2].is_ascii_digit() {
         return None;
     }
-    if line[1] == b':' && line[3] == b' ' {
-        let vif = line[0] - b'0';
-        let threshold = line[2] - b'0';
-        return Some((Oif { vif, threshold }, &line[4..]));
+    if line[3] != b':' || !is_from_1_to_9(line[4]) || line[5] != b' ' || line[6] != b' ' {
+        return None;
     }
-    None
+    let vif = line[2] - b'0';
+    let threshold = line[4] - b'0';
+    Some((Oif { vif, threshold }, &line[7..]))
 }
 
 /// An outgoing vif of two digits with a threshold of one, with which a line begins, and what stands
@@ -161,18 +244,18 @@ fn two_digit_oif_at_front(line: &[u8]) -> Option<(Oif, &[u8])>
     ensures vif { IfSome result (λ found. found.0.vif ≤ 31) }
     ensures shorter { IfSome result (λ found. length found.1.now < length line.now) }
 {
-    if line.len() < 5 || !line[0].is_ascii_digit() || !line[1].is_ascii_digit() {
+    if line.len() < 7 || line[0] != b' ' || !line[1].is_ascii_digit() || !line[2].is_ascii_digit() {
         return None;
     }
-    let vif = (line[0] - b'0') * 10 + (line[1] - b'0');
-    if vif > MAX_VIF || !is_from_1_to_9(line[3]) {
+    let vif = (line[1] - b'0') * 10 + (line[2] - b'0');
+    if vif > MAX_VIF || line[3] != b':' || !is_from_1_to_9(line[4]) {
         return None;
     }
-    if line[2] == b':' && line[4] == b' ' {
-        let threshold = line[3] - b'0';
-        return Some((Oif { vif, threshold }, &line[5..]));
+    if line[5] != b' ' || line[6] != b' ' {
+        return None;
     }
-    None
+    let threshold = line[4] - b'0';
+    Some((Oif { vif, threshold }, &line[7..]))
 }
 
 /// The outgoing vif that a line begins with, and what stands behind it. Most are written with one
@@ -191,7 +274,7 @@ fn oif_at_front(line: &[u8]) -> Option<(Oif, &[u8])>
     if let Some(found) = two_digit_oif_at_front(line) {
         return Some(found);
     }
-    let (vif, rest) = digits_before(line, b':')?;
+    let (vif, rest) = digits_before(without_spaces(line), b':')?;
     let (threshold, rest) = digits_before(rest, b' ')?;
     let vif = number(vif, 0, MAX_VIF)?;
     let threshold = number(threshold, 1, MAX_THRESHOLD)?;
@@ -205,18 +288,18 @@ pub fn read_ascending(line: &[u8], oifs: &mut Vec<Oif>) -> Result<bool, AllocErr
     ensures { IfOk result (λ read. read ≡ true →
         oifs_in (words_of line.now) ≡ Ok oifs.new.items) }
 {
-    let mut rest = without_spaces(line);
+    let mut rest = line;
     let mut next = 0;
     'oifs: while !rest.is_empty() {
         let Some((oif, after)) = oif_at_front(rest) else {
-            return Ok(false);
+            return Ok(without_spaces(rest).is_empty());
         };
         if oif.vif < next {
             return Ok(false);
         }
         oifs.push(oif)?;
         next = oif.vif + 1;
-        rest = without_spaces(after);
+        rest = after;
     }
     Ok(true)
 }

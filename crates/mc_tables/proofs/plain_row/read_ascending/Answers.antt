@@ -11,7 +11,7 @@ oifs-preserved c =
     let step = one_ascends oifs c.in-Some.oif c.oifs.next word.0 (words_of c.in-Some.after.now) word.2
     c.oifs.invariant.1 (omega (arith, c.if-oif-next.false)) in
     let pushed = c.in_ok-push.ensures.items in (
-      rw (pushed, c.without_spaces-rest-in-oifs.ensures.words)
+      rw pushed
           (sym step.0 ∙ ap (oifs_after oifs) (sym word.1) ∙ c.oifs.invariant.0),
       rw pushed step.1,
     )

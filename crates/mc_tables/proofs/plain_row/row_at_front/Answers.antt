@@ -10,11 +10,10 @@ returns c = λ oifs read.
     let group = take 8 line in
     let rest = drop 9 line in
     let origin = take 8 rest in
-    let iif = c.in_ok-iif.iif.now in
-    let packets = c.in_ok-rest.ensures in
-    let bytes = c.in_ok-rest-2.ensures in
-    let wrong = c.in_ok-rest-3.ensures in
-    let outgoing = words_of c.in_ok-rest-3.rest.now in
+    let incoming = c.in_ok-iif.ensures in
+    let iif = incoming.0 in
+    let counters = c.in_ok-rest.ensures in
+    let outgoing = words_of c.in_ok-rest.rest.now in
     let second : words_of rest ≡ origin ∷ words_of (drop 9 rest) =
     subst (λ r. words_of r ≡ take 8 r ∷ words_of (drop 9 r)) c.after_address-rest.ensures
     c.in_ok-origin.ensures.words in
@@ -22,13 +21,11 @@ returns c = λ oifs read.
     subst (λ r. address_in c.args.order (take 8 r) ≡ Some c.in_ok-origin.origin)
     c.after_address-rest.ensures c.in_ok-origin.ensures.address in
     let third = ap words_of (sym (c.after_address.ensures
-    ∙ ap (drop 9) c.after_address-rest.ensures)) ∙ c.in_ok-iif.ensures.words in
-    row_front c.args.order (words_of line) outgoing group origin iif packets.0 bytes.0 wrong.0
-    c.in_ok-group.group c.in_ok-origin.origin c.in_ok-iif-2.iif oifs
+    ∙ ap (drop 9) c.after_address-rest.ensures)) ∙ incoming.1 in
+    row_front c.args.order (words_of line) outgoing group origin iif counters.packets counters.bytes
+    counters.wrong c.in_ok-group.group c.in_ok-origin.origin c.in_ok-iif.iif oifs
     (c.in_ok-group.ensures.words ∙ ap (λ (ws : List (List ℕ)). group ∷ ws)
     (second ∙ ap (λ (ws : List (List ℕ)). origin ∷ ws)
-    (third ∙ ap (λ (ws : List (List ℕ)). iif ∷ ws)
-    (packets.1 ∙ ap (λ (ws : List (List ℕ)). packets.0 ∷ ws)
-    (bytes.1 ∙ ap (λ (ws : List (List ℕ)). bytes.0 ∷ ws) wrong.1)))))
-    c.in_ok-group.ensures.address address c.in_ok-iif.ensures.digits
-    (sym c.in_ok-iif-2.ensures) packets.2 bytes.2 wrong.2 read
+    (third ∙ ap (λ (ws : List (List ℕ)). iif ∷ ws) counters.words)))
+    c.in_ok-group.ensures.address address incoming.2 incoming.3 counters.packets_count
+    counters.bytes_count counters.wrong_count read

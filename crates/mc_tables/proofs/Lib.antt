@@ -19,6 +19,7 @@ pub mod CacheLemmas
 pub mod CacheLookupLemmas
 pub mod CacheMapLemmas
 pub mod CacheStepLemmas
+pub mod ApartLemmas
 pub mod OtherRowLemmas
 pub mod SortedRowLemmas
 pub mod ListedLemmas

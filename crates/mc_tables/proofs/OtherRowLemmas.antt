@@ -4,11 +4,11 @@ use Rattle.std.proofs.Common.{[], ◌∷◌, ◌++◌, length, get_or, Option, S
 use Rattle.std.proofs.Common.{◌∙◌, arith, inl, inr}
 use Rattle.std.specs.Prelude.{nat_lt, nat_le, ◌&&◌, ◌||◌, map, filter}
 use Rattle.std.specs.Cmp.{Equal-is, IsEquivalence}
-use Rattle.std.specs.List.{list_any, AllByRecursion, IsAllAdjacentAnswer, IsDistinct}
-use Rattle.std.specs.List.Sorted.{IsPermutation, IsStrictlyIncreasing}
+use Rattle.std.specs.List.{list_any, AllByRecursion, IsDistinct}
+use Rattle.std.specs.List.Sorted.{IsPermutation}
 use Rattle.std.specs.Ordering.{nat_cmp, eq_by_cmp}
 use Rattle.std.proofs.lemmas.Bool.{cases_Bool, cases_lt, le-ltb, lt-ltb, and_right}
-use Rattle.std.proofs.lemmas.Bool.{true≢false, leb-true, le-leb, ltb-true}
+use Rattle.std.proofs.lemmas.Bool.{true≢false, leb-true, le-leb}
 use Rattle.std.proofs.lemmas.Bool.Decides.{nat_tests}
 use Rattle.std.proofs.lemmas.List.{append-nil, get_or-map, get_or_default, length-map, map-append}
 use Rattle.std.proofs.lemmas.List.Elements.{filter-append}
@@ -16,9 +16,10 @@ use Rattle.std.proofs.lemmas.List.Folds.{list_any-append, list_any_none}
 use Rattle.std.proofs.lemmas.List.Sorted.{list_any-IsPermutation, IsPermutation-append_left}
 use Rattle.std.proofs.lemmas.List.Sorted.{IsPermutation-map, IsPermutation-sym, IsPermutation-trans}
 use Rattle.std.proofs.lemmas.Cmp.{nat_cmp_total, eq_by_cmp_equiv}
-use Rattle.std.proofs.lemmas.Map.Keys.{IsDistinct-IsPermutation, IsDistinct-from_sorted}
-use Rattle.std.proofs.lemmas.Map.Keys.{apart_from_distinct, sorted_from_strictly_increasing}
+use Rattle.std.proofs.lemmas.Map.Keys.{IsDistinct-IsPermutation}
+use Rattle.std.proofs.lemmas.Map.Keys.{apart_from_distinct}
 use Rattle.mc_text.specs.Pair.{pair_number}
+use Rattle.mc_tables.specs.Apart.{AreApart}
 use Rattle.mc_tables.specs.CacheTable.{key_cmp, same_key}
 use Rattle.mc_tables.specs.OtherRows.{OtherRow, repeats, is_repeat, lesser, least, first_repeat}
 use Rattle.mc_tables.specs.OtherRows.{row_number}
@@ -334,24 +335,14 @@ module _ (rows : List OtherRow) (apart : IsDistinct same_number (map row_number 
       list_any_none (repeats (get_or rows i d)) rows (λ j e lt.
       ap (repeats (get_or rows i d)) (get_or_default rows j e d lt) ∙ repeats_none i j d fits lt)
 
--- rows whose numbers ascend, in some order, repeat none
+-- rows whose numbers, in some order, are apart repeat none
 pub none_repeated : (rows : List OtherRow) (numbers : List ℕ)
-    → IsPermutation (map row_number rows) numbers → IsStrictlyIncreasing numbers
-    → first_repeat rows ≡ None
-none_repeated rows numbers same up =
+    → IsPermutation (map row_number rows) numbers → AreApart numbers → first_repeat rows ≡ None
+none_repeated rows numbers same numbers_apart =
     let apart : IsDistinct same_number (map row_number rows) =
     IsDistinct-IsPermutation same_number number_laws.symm numbers (map row_number rows)
-    (IsPermutation-sym (map row_number rows) numbers same)
-    (IsDistinct-from_sorted nat_cmp numbers (sorted_from_strictly_increasing numbers up)) in
+    (IsPermutation-sym (map row_number rows) numbers same) numbers_apart in
     one_least (first_repeat rows) None (λ most.
     repeat_within rows most
     ∙ list_any_none (λ r. is_repeat rows r && nat_le r.1 most) rows (λ k d lt.
     ap (λ b. b && nat_le (get_or rows k d).1 most) (no_repeats rows apart k d lt)))
-
--- numbers of which each was found less than the next
-pub ascending : (numbers : List ℕ) (r : Bool)
-    → IsAllAdjacentAnswer (λ x y b. b ≡ nat_lt x y) numbers r → r ≡ true
-    → IsStrictlyIncreasing numbers
-ascending numbers true each is = λ k lt.
-    ltb-true (get_or numbers k 0) (get_or numbers (k + 1) 0) (sym (each k 0 lt))
-ascending numbers false each is = absurd cc

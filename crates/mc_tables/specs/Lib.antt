@@ -17,6 +17,7 @@ pub mod CacheSteps
 pub mod CacheNumbers
 pub mod ListedRows
 pub mod OtherRows
+pub mod Apart
 pub mod RowsSoFar
 pub use Rattle.mc_text.specs.Addr
 pub use Rattle.mc_text.specs.AddressReading

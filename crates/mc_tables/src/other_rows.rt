@@ -1,11 +1,12 @@
 //! The rows of a cache that are not kept, by what finds a repeated one.
 
 ghost use Rattle.std.specs.Prelude.{◌≡◌, [], ◌∷◌, ◌++◌, true, OnOk, OnErr, IfErr};
-ghost use Rattle.std.specs.List.Sorted.{IsSorted, IsStrictlyIncreasing};
+ghost use Rattle.std.specs.List.Sorted.{IsSorted};
 ghost use Rattle.mc_tables.specs.declared.fault.TableFaultKind.TheVariants.{Memory};
 ghost use Rattle.mc_tables.specs.OtherRows.{row_cmp, repeats, lesser, first_repeat};
 ghost use Rattle.mc_tables.specs.OtherRows.{without_repeat};
 
+use crate::apart::are_apart;
 use crate::fault::{TableFault, TableFaultKind};
 use mc_text::{Addr, pair_number};
 use std::alloc::Global;
@@ -61,8 +62,8 @@ impl OtherRows {
     pub fn check_repeats(&mut self) -> Result<(), TableFault>
         ensures { result ≡ without_repeat self.old }
     {
-        self.keys.sort_unstable();
-        if ascend(&self.keys) {
+        let alloc = *self.keys.allocator();
+        if are_apart(alloc, &self.keys).unwrap_or(false) {
             return Ok(());
         }
         // Of those that are repeated the lines are needed too.
@@ -72,13 +73,6 @@ impl OtherRows {
             None => Ok(()),
         }
     }
-}
-
-/// Whether each number is less than the next.
-fn ascend(numbers: &[u64]) -> bool
-    ensures { result ≡ true → IsStrictlyIncreasing numbers.now }
-{
-    numbers.is_sorted_by(|x, y| x < y)
 }
 
 /// The first line whose row repeats an earlier one, where the rows stand by source and group, and

@@ -1,33 +1,26 @@
-use Rattle.std.proofs.Common.{ℕ, ◌≡◌, List, Err, sym, ◌∙◌, ap, subst}
-use Rattle.std.specs.List.Sorted.{IsStrictlyIncreasing}
+use Rattle.std.proofs.Common.{◌≡◌, Err, sym, ◌∙◌, ap, subst}
 use Rattle.std.proofs.lemmas.List.Sorted.{IsPermutation-refl}
+use Rattle.mc_tables.specs.Apart.{AreApart}
 use Rattle.mc_tables.specs.OtherRows.{first_repeat, repeat_fault}
+use Rattle.mc_tables.proofs.ApartLemmas.{if_found}
 use Rattle.mc_tables.proofs.OtherRowLemmas.{none_repeated, numbers_moved, repeat_permuted}
 use Rattle.mc_tables.proofs.other_rows.OtherRows.check_repeats.Goals as goal
 use Rattle.mc_tables.proofs.other_rows.OtherRows.check_repeats.Goals.{in-Some, in-None}
 
 pub invariant_of-self : goal.invariant_of-self
 invariant_of-self c =
-    let rows = c.self.inside.rows.items in
-    numbers_moved rows rows c.self.inside.keys.items c.sort_unstable.new.self.items c.self.invariant
-    (IsPermutation-refl rows) c.sort_unstable.ensures.permutation
+    let keys = c.self.inside.keys.items in
+    numbers_moved c.self.inside.rows.items c.sort_unstable.new.self.items keys keys
+    c.self.invariant c.sort_unstable.ensures.permutation (IsPermutation-refl keys)
 
-pub invariant_of-self-2 : goal.invariant_of-self-2
-invariant_of-self-2 c =
-    numbers_moved c.self.inside.rows.items c.sort_unstable-2.new.self.items c.self.inside.keys.items
-    c.sort_unstable.new.self.items c.self.invariant c.sort_unstable-2.ensures.permutation
-    c.sort_unstable.ensures.permutation
-
-pub returns-then-ascend : goal.returns-then-ascend
-returns-then-ascend c =
-    let rows = c.self.inside.rows.items in
-    let sorted = c.sort_unstable.new.self.items in
-    let up : IsStrictlyIncreasing sorted =
-    subst (λ (l : List ℕ). IsStrictlyIncreasing l) c.deref.ensures.value
-    (c.ascend.ensures c.if-ascend.true) in
-    ap repeat_fault (sym (none_repeated rows sorted
-    (numbers_moved rows rows c.self.inside.keys.items sorted c.self.invariant
-    (IsPermutation-refl rows) c.sort_unstable.ensures.permutation) up)
+pub returns-then-unwrap_or : goal.returns-then-unwrap_or
+returns-then-unwrap_or c =
+    let apart : AreApart c.self.inside.keys.items =
+    subst AreApart c.deref.ensures.value
+    (if_found c.are_apart.result (AreApart c.deref.result.now) c.are_apart.ensures
+    (sym c.unwrap_or.ensures ∙ c.if-unwrap_or.true)) in
+    ap repeat_fault
+    (sym (none_repeated c.self.inside.rows.items c.self.inside.keys.items c.self.invariant apart)
     ∙ ap first_repeat c.self.view_is)
 
 pub returns : goal.returns
@@ -35,8 +28,8 @@ returns c =
     let found : c.first_of_sorted.result ≡ first_repeat c.args.self.now =
     c.first_of_sorted.ensures
     ∙ ap first_repeat c.as_slice.ensures.value
-    ∙ repeat_permuted c.self.inside.rows.items c.sort_unstable-2.new.self.items
-    c.sort_unstable-2.ensures.permutation
+    ∙ repeat_permuted c.self.inside.rows.items c.sort_unstable.new.self.items
+    c.sort_unstable.ensures.permutation
     ∙ ap first_repeat c.self.view_is in
     elim c.match-first_of_sorted.branch [
       | in-Some w ↦

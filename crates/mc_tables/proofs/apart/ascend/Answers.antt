@@ -1,8 +1,8 @@
 use Rattle.std.proofs.Common.{rules}
 use Rattle.std.specs.Prelude.{nat_lt}
 use Rattle.std.proofs.lemmas.List.Sorted.{answers_always}
-use Rattle.mc_tables.proofs.OtherRowLemmas.{ascending}
-use Rattle.mc_tables.proofs.other_rows.ascend.Goals as goal
+use Rattle.mc_tables.proofs.ApartLemmas.{ascending}
+use Rattle.mc_tables.proofs.apart.ascend.Goals as goal
 
 pub returns : goal.returns
 returns c =

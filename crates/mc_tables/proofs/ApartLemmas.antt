@@ -1,0 +1,204 @@
+-- Numbers that are told apart by the slots that they are put in.
+use Rattle.std.proofs.Common.{◌≡◌, ℕ, ◌+◌, ◌-◌, ◌<◌, ◌≤◌, Bool, true, false, List, [], ◌∷◌, ◌++◌, ◌⊎◌}
+use Rattle.std.proofs.Common.{length, get_or, Ok, Err, refl, sym, ap, subst, ◌∙◌, arith, inl, inr}
+use Rattle.std.specs.Prelude.{◌≢◌, nat_lt, slice_set, Result, IfOk}
+use Rattle.std.specs.Result.{result_unwrap_or}
+use Rattle.std.specs.Cmp.{IsEquivalence}
+use Rattle.std.specs.List.{IsAllAdjacentAnswer}
+use Rattle.std.specs.List.Sorted.{IsPermutation, IsStrictlyIncreasing}
+use Rattle.std.specs.Ordering.{nat_cmp, eq_by_cmp}
+use Rattle.std.proofs.lemmas.Bool.{cases_lt, ltb-true, true≢false}
+use Rattle.std.proofs.lemmas.Bool.Decides.{nat_tests}
+use Rattle.std.proofs.lemmas.List.{get_or-append_right, get_or_append_left, get_or-set_other, get_or-set_same, get_or_default}
+use Rattle.std.proofs.lemmas.List.{length-append, length-set}
+use Rattle.std.proofs.lemmas.List.Sorted.{IsPermutation-sym}
+use Rattle.std.proofs.lemmas.Cmp.{nat_cmp_total, eq_by_cmp_equiv}
+use Rattle.std.proofs.lemmas.Map.Keys.{IsDistinct-IsPermutation, IsDistinct-from_sorted, IsDistinct-from_apart}
+use Rattle.std.proofs.lemmas.Map.Keys.{apart_from_distinct, sorted_from_strictly_increasing}
+use Rattle.mc_tables.specs.Apart.{AreApart, slot_among, in_slot, IsPut}
+
+-- ---- two numbers
+
+-- numbers that differ are told apart
+other_number : (x y : ℕ) → x ≢ y → eq_by_cmp nat_cmp x y ≡ false
+other_number x y other = grind (arith, nat_tests)
+
+number_laws : IsEquivalence (eq_by_cmp nat_cmp)
+number_laws = eq_by_cmp_equiv nat_cmp_total
+
+-- no two places have one number
+abbrev Differ : List ℕ → Type 0
+Differ numbers = (a b : ℕ) → a < b → b < length numbers → get_or numbers a 0 ≢ get_or numbers b 0
+
+differ : (numbers : List ℕ) → AreApart numbers → Differ numbers
+differ numbers apart a b less within is =
+    true≢false (sym (number_laws.refl (get_or numbers b 0))
+    ∙ ap (λ n. eq_by_cmp nat_cmp n (get_or numbers b 0)) (sym is)
+    ∙ apart_from_distinct (eq_by_cmp nat_cmp) numbers a b 0 apart less within)
+
+-- ---- the slots
+
+-- a number stands somewhere
+abbrev IsAmong : List ℕ → ℕ → Type 0
+IsAmong others number = (j : ℕ) × (j < length others) × (get_or others j 0 ≡ number)
+
+-- each of the first numbers has its slot or is among the others, and if those differ they do
+pub record AreTold (slots others numbers : List ℕ) (i : ℕ) : Type 0 where
+  pub full : (k : ℕ) → k < i → in_slot slots (get_or numbers k 0) ≢ 0
+  pub told : (k : ℕ) → k < i → (in_slot slots (get_or numbers k 0) ≡ get_or numbers k 0)
+      ⊎ IsAmong others (get_or numbers k 0)
+  pub apart : Differ others → (a b : ℕ) → a < b → b < i
+      → get_or numbers a 0 ≢ get_or numbers b 0
+
+pub none_told : (slots numbers : List ℕ) → AreTold slots [] numbers 0
+none_told slots numbers = record {
+  full = λ k less. absurd (omega (arith, less));
+  told = λ k less. absurd (omega (arith, less));
+  apart = λ all a b before less. absurd (omega (arith, less));
+}
+
+module _ (slots : List ℕ) (n : ℕ) (within : slot_among (length slots) n < length slots) where
+  abbrev slot : ℕ
+  slot = slot_among (length slots) n
+
+  -- what is in a number's slot afterwards
+  seen : (m : ℕ) → in_slot (slice_set slots slot n) m
+      ≡ get_or (slice_set slots slot n) (slot_among (length slots) m) 0
+  seen m = ap (λ (count : ℕ). get_or (slice_set slots slot n) (slot_among count m) 0)
+      (length-set slots slot n)
+
+  slot_kept : (m : ℕ) → slot_among (length slots) m ≢ slot
+      → in_slot (slice_set slots slot n) m ≡ in_slot slots m
+  slot_kept m other =
+      seen m ∙ get_or-set_other slots slot (slot_among (length slots) m) n 0 other
+
+  slot_taken : (m : ℕ) → slot_among (length slots) m ≡ slot
+      → in_slot (slice_set slots slot n) m ≡ n
+  slot_taken m same =
+      seen m ∙ ap (λ (p : ℕ). get_or (slice_set slots slot n) p 0) same
+      ∙ get_or-set_same slots slot n 0 within
+
+module _ (slots others numbers : List ℕ) (i : ℕ) (before : AreTold slots others numbers i) where
+  -- the number after the first ones
+  abbrev number : ℕ
+  number = get_or numbers i 0
+
+  last_is : (k : ℕ) → i ≤ k → k < i + 1 → get_or numbers k 0 ≡ number
+  last_is k late less = let is : k ≡ i = omega arith in ap (λ (j : ℕ). get_or numbers j 0) is
+
+  told_in_slot : slot_among (length slots) number < length slots → in_slot slots number ≡ 0
+      → number ≢ 0
+      → AreTold (slice_set slots (slot_among (length slots) number) number) others numbers (i + 1)
+  told_in_slot within empty some =
+      let place = slot_among (length slots) number in
+      -- the slot of an earlier one is another
+      let elsewhere = λ (k : ℕ) (early : k < i)
+      (is : slot_among (length slots) (get_or numbers k 0) ≡ place).
+      before.full k early (ap (λ (p : ℕ). get_or slots p 0) is ∙ empty) in
+      record {
+        full = λ k less none. elim (cases_lt k i) [
+          | inl early ↦ before.full k early
+              (sym (slot_kept slots number within (get_or numbers k 0) (elsewhere k early)) ∙ none)
+          | inr late ↦ some (sym (slot_taken slots number within (get_or numbers k 0)
+              (ap (slot_among (length slots)) (last_is k late less))) ∙ none)
+        ];
+        told = λ k less. elim (cases_lt k i) [
+          | inl early ↦ elim (before.told k early) [
+            | inl here ↦ inl
+                (slot_kept slots number within (get_or numbers k 0) (elsewhere k early) ∙ here)
+            | inr among ↦ inr among
+          ]
+          | inr late ↦ inl (slot_taken slots number within (get_or numbers k 0)
+              (ap (slot_among (length slots)) (last_is k late less)) ∙ sym (last_is k late less))
+        ];
+        apart = λ all a b less below is. elim (cases_lt b i) [
+          | inl early ↦ before.apart all a b less early is
+          | inr late ↦ before.full a (omega arith)
+              (ap (in_slot slots) (is ∙ last_is b late below) ∙ empty)
+        ];
+      }
+
+  told_with_others : in_slot slots number ≢ 0 → in_slot slots number ≢ number
+      → AreTold slots (others ++ number ∷ []) numbers (i + 1)
+  told_with_others full other =
+      let more = others ++ number ∷ [] in
+      let size = length-append others (number ∷ []) in
+      let kept = λ (j : ℕ) (less : j < length others).
+      get_or_append_left others (number ∷ []) 0 j less in
+      let last : get_or more (length others) 0 ≡ number =
+      get_or-append_right others (number ∷ []) (length others) (length others) 0 refl (omega arith)
+      ∙ (let none : length others - length others ≡ 0 = omega arith in
+      ap (λ (j : ℕ). get_or (number ∷ []) j 0) none) in
+      record {
+        full = λ k less none. elim (cases_lt k i) [
+          | inl early ↦ before.full k early none
+          | inr late ↦ full (ap (in_slot slots) (sym (last_is k late less)) ∙ none)
+        ];
+        told = λ k less. elim (cases_lt k i) [
+          | inl early ↦ elim (before.told k early) [
+            | inl here ↦ inl here
+            | inr among ↦ inr (among.0, omega (arith, among.1, size), kept among.0 among.1 ∙ among.2)
+          ]
+          | inr late ↦ inr
+              (length others, omega (arith, size), last ∙ sym (last_is k late less))
+        ];
+        apart = λ all a b less below is.
+            let front : Differ others = λ x y up within same.
+            all x y up (omega (arith, within, size))
+            (kept x (omega (arith, up, within)) ∙ same ∙ sym (kept y within)) in
+            elim (cases_lt b i) [
+              | inl early ↦ before.apart front a b less early is
+              | inr late ↦
+                  let one = is ∙ last_is b late below in
+                  elim (before.told a (omega arith)) [
+                    | inl here ↦ other (ap (in_slot slots) (sym one) ∙ here ∙ one)
+                    | inr among ↦ all among.0 (length others) among.1 (omega (arith, size))
+                        (kept among.0 among.1 ∙ among.2 ∙ one ∙ sym last)
+                  ]
+            ];
+      }
+
+  -- a number more that was put
+  pub put_more : (slots' others' : List ℕ) → IsPut slots others number slots' others'
+      → AreTold slots' others' numbers (i + 1) × (length slots' ≡ length slots)
+  put_more slots' others' (inl put) = (
+    subst (λ (o : List ℕ). AreTold slots' o numbers (i + 1)) (sym put.same)
+        (subst (λ (s : List ℕ). AreTold s others numbers (i + 1)) (sym put.put)
+        (told_in_slot put.within put.empty put.some)),
+    ap length put.put ∙ length-set slots (slot_among (length slots) number) number,
+  )
+  put_more slots' others' (inr put) = (
+    subst (λ (o : List ℕ). AreTold slots' o numbers (i + 1)) (sym put.put)
+        (subst (λ (s : List ℕ). AreTold s (others ++ number ∷ []) numbers (i + 1)) (sym put.same)
+        (told_with_others put.full put.other)),
+    ap length put.same,
+  )
+
+-- where the others ascend, in their order, all are apart
+pub all_apart : (slots others sorted numbers : List ℕ) (i : ℕ) → AreTold slots others numbers i
+    → length numbers ≤ i → IsPermutation others sorted → IsStrictlyIncreasing sorted
+    → AreApart numbers
+all_apart slots others sorted numbers i told all moved up =
+    let apart : AreApart others =
+    IsDistinct-IsPermutation (eq_by_cmp nat_cmp) number_laws.symm sorted others
+    (IsPermutation-sym others sorted moved)
+    (IsDistinct-from_sorted nat_cmp sorted (sorted_from_strictly_increasing sorted up)) in
+    IsDistinct-from_apart (eq_by_cmp nat_cmp) numbers (λ a b d less within.
+    other_number (get_or numbers a d) (get_or numbers b d) (λ is.
+    told.apart (differ others apart) a b less (omega (arith, within, all))
+    (get_or_default numbers a 0 d (omega (arith, less, within)) ∙ is
+    ∙ get_or_default numbers b d 0 within)))
+
+-- numbers of which each was found less than the next
+pub ascending : (numbers : List ℕ) (r : Bool)
+    → IsAllAdjacentAnswer (λ x y b. b ≡ nat_lt x y) numbers r → r ≡ true
+    → IsStrictlyIncreasing numbers
+ascending numbers true each is = λ k lt.
+    ltb-true (get_or numbers k 0) (get_or numbers (k + 1) 0) (sym (each k 0 lt))
+ascending numbers false each is = absurd cc
+
+-- what is said where it was found out is so
+pub if_found : {E : Type 0} (found : Result Bool E) (P : Type 0) → IfOk found (λ apart. apart ≡ true → P)
+    → result_unwrap_or found false ≡ true → P
+if_found (Ok apart) P so is = so is
+if_found (Err e) P so is = absurd cc

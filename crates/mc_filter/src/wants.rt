@@ -1,13 +1,13 @@
 //! What the hosts of a LAN want of a group.
 
-ghost use Rattle.std.specs.Prelude.{◌↔◌, ℕ, IfOk};
-ghost use Rattle.mc_igmp.specs.Wants.{Wants};
+ghost use Rattle.std.specs.Prelude.{◌↔◌, ℕ, IfOk, IsTrue};
+ghost use Rattle.mc_igmp.specs.Wants.{Admits, Wants};
 ghost use Rattle.mc_filter.specs.SourceFilter.{FilterAdmits};
 ghost use Rattle.mc_filter.specs.Merged.{IsMergedValue};
 
 use crate::filter::Filter;
 use crate::gathered::Gathered;
-use mc_igmp::ReportList;
+use mc_igmp::{Kind, Record, ReportList};
 use mc_text::{Addr, Memory};
 use std::alloc::Global;
 
@@ -26,4 +26,26 @@ pub fn wants_of(alloc: Global, reports: &ReportList, group: Addr) -> Result<Filt
         }
     }
     gathered.into_filter()
+}
+
+/// Whether a record admits a source.
+fn admits(group_record: &Record<'_>, source: Addr) -> bool
+    ensures { IsTrue result ↔ Admits group_record.now source }
+{
+    let is_listed = group_record.sources.iter().any(|listed| listed == source);
+    match group_record.kind {
+        Kind::Include => is_listed,
+        Kind::Exclude => !is_listed,
+        Kind::Change(_) | Kind::Unknown(_) => false,
+    }
+}
+
+/// Whether some record for a group admits a source. Nothing is merged for that, so that it takes
+/// one walk over the records, up to the first that admits it, and no memory.
+pub fn is_wanted(reports: &ReportList, group: Addr, source: Addr) -> bool
+    ensures { IsTrue result ↔ Wants reports.now group source }
+{
+    reports
+        .records()
+        .any(|group_record| group_record.group == group && admits(&group_record, source))
 }

@@ -4,3 +4,4 @@ pub mod ChecksumLemmas
 pub mod DigitLemmas
 pub mod MessageLemmas
 pub mod ListLemmas
+pub mod PieceLemmas

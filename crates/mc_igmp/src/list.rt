@@ -127,6 +127,24 @@ impl Model for ReportList {
 }
 
 impl ReportList {
+    /// The list without a record.
+    pub(crate) fn none(alloc: Global) -> ReportList
+        ensures { result ≡ [] }
+    {
+        ReportList {
+            count: 0,
+            bytes: Vec::new(alloc),
+        }
+    }
+
+    /// Takes all records away.
+    pub(crate) fn clear(&mut self)
+        ensures { self.new ≡ [] }
+    {
+        self.count = 0;
+        self.bytes.clear();
+    }
+
     /// Reads a report list: a message in hexadecimal on each line, with nothing else on it. The
     /// empty text is a list without a record, and so is one of messages that are no reports. A
     /// report of version 1 or 2 counts as one record, as [`Message`] has it.
@@ -148,10 +166,7 @@ impl ReportList {
         if text.len() > MAX_TEXT {
             return Err(ListFaultKind::TooLarge.at(0, 0));
         }
-        let mut list = ReportList {
-            count: 0,
-            bytes: Vec::new(alloc),
-        };
+        let mut list = ReportList::none(alloc);
         let mut message = Vec::new(alloc);
         for line in Lines::new(text) {
             list.push_line(&line, &mut message)?;
@@ -160,7 +175,11 @@ impl ReportList {
     }
 
     // Appends the records of the message on a line, whose bytes are kept in `message` meanwhile.
-    fn push_line(&mut self, line: &Line<'_>, message: &mut Vec<u8>) -> Result<(), ListFault>
+    pub(crate) fn push_line(
+        &mut self,
+        line: &Line<'_>,
+        message: &mut Vec<u8>,
+    ) -> Result<(), ListFault>
         ensures ok { OnOk result ((records : List Record) ×
             (read_line (line_text line.now) ≡ Ok records) × (self.new ≡ self.old ++ records)) }
         ensures err { IfErr result (λ fault.

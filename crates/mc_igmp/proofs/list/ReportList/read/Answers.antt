@@ -1,11 +1,9 @@
-use Rattle.std.proofs.Common.{[], Err, ap, refl}
+use Rattle.std.proofs.Common.{Err, ap}
 use Rattle.std.proofs.lemmas.Result.{err_from_is_err_and}
 use Rattle.mc_text.proofs.StepLemmas.{with_front-none}
 use Rattle.mc_text.specs.LineView.{line_text}
 use Rattle.mc_text.specs.Lines.{lines_of}
 use Rattle.mc_igmp.specs.ReadingList.{read_lines}
-use Rattle.mc_igmp.specs.Records.{records_in}
-use Rattle.mc_igmp.proofs.RecordsLemmas.{after_records-none}
 use Rattle.mc_igmp.proofs.ListLemmas.{lines_go_on, read_list-large, list_read, list_refused}
 use Rattle.mc_igmp.proofs.list.ReportList.read.Goals as goal
 
@@ -13,13 +11,9 @@ pub returns-then-text-gt-MAX_TEXT : goal.returns-then-text-gt-MAX_TEXT
 returns-then-text-gt-MAX_TEXT c =
     read_list-large c.args.text.now _ c.if-text-gt-MAX_TEXT.true (ap Err c.at.ensures)
 
-pub invariant_of-list : goal.invariant_of-list
-invariant_of-list c = rw c.new.ensures.items (after_records-none 0 1 [] refl)
-
 pub loop-line-init : goal.loop-line-init
-unfolding records_in
 loop-line-init c =
-    rw (c.into_iter-line-iterator.ensures.into_iter_gives, c.new-line-items.ensures)
+    rw (c.into_iter-line-iterator.ensures.into_iter_gives, c.new-line-items.ensures, c.none-list.ensures)
     (with_front-none (read_lines (lines_of c.args.text.now)))
 
 pub loop-line-preserved : goal.loop-line-preserved

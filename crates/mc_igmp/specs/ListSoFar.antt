@@ -1,0 +1,64 @@
+-- A report list whose text comes in pieces: how far reading has come.
+use Rattle.std.specs.Prelude.{ℕ, ◌+◌, ◌≤◌, ◌==◌, nat_lt, true, false, ◌≡◌, List, [], ◌++◌, length, Option}
+use Rattle.std.specs.Prelude.{Some, None, Result, Ok, Err, if◌then◌else◌}
+use Rattle.std.specs.List.{AllByRecursion}
+use Rattle.mc_text.specs.Lines.{LineText, lines_from}
+use Rattle.mc_text.specs.Steps.{◌>>=◌}
+use Rattle.mc_igmp.specs.declared.record.Record.{Record}
+use Rattle.mc_igmp.specs.declared.fault.ListFault.{ListFault}
+use Rattle.mc_igmp.specs.declared.fault.ListFaultKind.TheVariants.{TooLarge}
+use Rattle.mc_igmp.specs.ReadingList.{fault_at, read_lines}
+
+-- no line feed stands there
+abbrev pub WithoutLineFeed : List ℕ → Type 0
+WithoutLineFeed bytes = AllByRecursion (λ b. (b == 10) ≡ false) bytes
+
+-- these records, and those of the lines of these bytes, which come after so many lines
+abbrev pub read_on : List Record → ℕ → List ℕ → Result (List Record) ListFault
+read_on records ended bytes =
+    read_lines (lines_from (ended + 1) bytes) >>= λ others. Ok (records ++ others)
+
+-- a line whose line feed comes next, after so many lines
+abbrev pub line_after : ℕ → List ℕ → LineText
+line_after ended bytes = record { number = ended + 1; bytes = bytes; ended = true }
+
+-- where no fault was met and the text is within the limit, the lines can be read on
+abbrev pub GoOn : ℕ → ℕ → List ℕ → Option ListFault → Type 0
+GoOn size ended begun fault = size ≤ 16777216 → fault ≡ None →
+    WithoutLineFeed begun × (ended + length begun ≤ size)
+
+-- how many bytes have come and how many lines have ended, the bytes after the last line feed, the
+-- records of the lines that have ended, and the first fault of one
+pub record ListSoFar : Type 0 where
+  pub size : ℕ
+  pub ended : ℕ
+  pub begun : List ℕ
+  pub records : List Record
+  pub fault : Option ListFault
+
+-- nothing has come
+abbrev pub no_list : ListSoFar
+no_list = record { size = 0; ended = 0; begun = []; records = []; fault = None }
+
+-- the records of the lines that have ended were handed on
+abbrev pub without_records : ListSoFar → ListSoFar
+without_records so_far = record {
+  size = so_far.size;
+  ended = so_far.ended;
+  begun = so_far.begun;
+  records = [];
+  fault = so_far.fault;
+}
+
+abbrev pub unless_fault : Option ListFault → Result (List Record) ListFault
+    → Result (List Record) ListFault
+unless_fault None read = read
+unless_fault (Some fault) read = Err fault
+
+-- What reading ends with if these bytes come: a text past the limit is refused whatever its lines
+-- are, as in one piece.
+abbrev pub list_if : ListSoFar → List ℕ → Result (List Record) ListFault
+list_if so_far more =
+    if nat_lt 16777216 (so_far.size + length more) then Err (fault_at 0 0 TooLarge)
+    else unless_fault so_far.fault
+    (read_on so_far.records so_far.ended (so_far.begun ++ more))

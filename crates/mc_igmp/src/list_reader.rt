@@ -1,0 +1,195 @@
+//! Reading a report list from pieces of its text.
+
+ghost use Rattle.std.specs.Prelude.{◌≡◌, ◌+◌, ◌<◌, ◌≤◌, ◌⊎◌, ℕ, List, [], ◌++◌, length, min};
+ghost use Rattle.std.specs.Prelude.{Ok, Err, OnOk, IfErr};
+ghost use Rattle.mc_text.specs.Lines.{max_text};
+ghost use Rattle.mc_igmp.specs.declared.record.Record.{Record};
+ghost use Rattle.mc_igmp.specs.ReadingList.{IsMemory, read_line, read_list};
+ghost use Rattle.mc_igmp.specs.ListSoFar.{WithoutLineFeed, line_after, read_on};
+ghost use Rattle.mc_igmp.specs.ListSoFar.{no_list, without_records, list_if};
+
+use crate::fault::{ListFault, ListFaultKind};
+use crate::list::{ListRecords, ReportList};
+use mc_text::{Line, MAX_TEXT, Memory, first_place_of};
+use std::alloc::Global;
+use std::marker::Model;
+
+/// The lines that have come.
+#[derive(Debug, Drop)]
+struct LinesRead {
+    /// How many have ended.
+    ended: u32,
+    /// The bytes after the last line feed.
+    begun: Vec<u8>,
+    /// The records of those that have ended.
+    list: ReportList,
+    /// The bytes of a line's message, as long as it is read.
+    message: Vec<u8>,
+}
+
+impl LinesRead {
+    // The line that has begun ends here.
+    fn end_line(&mut self) -> Result<(), ListFault>
+        requires { self.old.ended < u32.MAX }
+        ensures records { OnOk result ((records : List Record)
+            × (read_line (line_after self.old.ended self.old.begun.items) ≡ Ok records)
+            × (self.new.list ≡ self.old.list ++ records)) }
+        ensures ended { OnOk result (self.new.ended ≡ self.old.ended + 1) }
+        ensures begun { OnOk result (self.new.begun.items ≡ []) }
+        ensures fault { IfErr result (λ fault. IsMemory fault
+            ⊎ (read_line (line_after self.old.ended self.old.begun.items) ≡ Err fault)) }
+    {
+        let line = Line {
+            number: self.ended + 1,
+            bytes: &self.begun,
+            ended: true,
+        };
+        self.list.push_line(&line, &mut self.message)?;
+        self.ended += 1;
+        self.begun.clear();
+        Ok(())
+    }
+
+    // Reads the lines that end in a piece.
+    fn read_piece(&mut self, piece: &[u8]) -> Result<(), ListFault>
+        requires few { self.old.ended + (length self.old.begun.items + length piece.now)
+            < u32.MAX }
+        requires begun { WithoutLineFeed self.old.begun.items }
+        ensures reads { (more : List ℕ) → OnOk result
+            (read_on self.old.list self.old.ended (self.old.begun.items ++ (piece.now ++ more))
+            ≡ read_on self.new.list self.new.ended (self.new.begun.items ++ more)) }
+        ensures fault { (more : List ℕ) → IfErr result (λ fault. IsMemory fault
+            ⊎ (read_on self.old.list self.old.ended
+            (self.old.begun.items ++ (piece.now ++ more)) ≡ Err fault)) }
+        ensures few { OnOk result (self.new.ended + length self.new.begun.items
+            ≤ self.old.ended + (length self.old.begun.items + length piece.now)) }
+        ensures begun { OnOk result (WithoutLineFeed self.new.begun.items) }
+    {
+        let mut rest = piece;
+        'lines: while let Some(end) = first_place_of(b'\n', rest) {
+            self.begun.extend_from_slice(&rest[..end])?;
+            self.end_line()?;
+            rest = &rest[end + 1..];
+        }
+        self.begun.extend_from_slice(rest)?;
+        Ok(())
+    }
+}
+
+/// A reader of a report list that is fed the text in pieces of any size, and holds no more of it
+/// than the line that has begun. The records can be looked at as they come, and forgotten.
+#[derive(Debug, Drop)]
+pub struct ListReader {
+    /// How many bytes have come, or one more than a text may have.
+    size: usize,
+    lines: LinesRead,
+    /// The first fault of a line, or that memory ran out.
+    fault: Option<ListFault>,
+}
+
+impl Model for ListReader {
+    ghost use Rattle.std.specs.Prelude.{◌≤◌, ◌+◌};
+    ghost use Rattle.mc_igmp.specs.ListSoFar.{ListSoFar, GoOn};
+
+    ghost Value = { ListSoFar };
+
+    ghost view = { λ s. record {
+      size = s.size;
+      ended = s.lines.ended;
+      begun = s.lines.begun.items;
+      records = s.lines.list;
+      fault = s.fault;
+    } };
+
+    ghost invariant = { λ s. (s.size ≤ 16777216 + 1)
+        × GoOn s.size s.lines.ended s.lines.begun.items s.fault };
+}
+
+impl ListReader {
+    /// A reader that was fed nothing.
+    pub fn new(alloc: Global) -> ListReader
+        ensures start { result ≡ no_list }
+        // A text of any bytes ends with what the whole text is read as.
+        ensures reads { (text : List ℕ) → list_if result text ≡ read_list text }
+    {
+        ListReader {
+            size: 0,
+            lines: LinesRead {
+                ended: 0,
+                begun: Vec::new(alloc),
+                list: ReportList::none(alloc),
+                message: Vec::new(alloc),
+            },
+            fault: None,
+        }
+    }
+
+    /// How many bytes may still be fed until the text is known to be too large.
+    pub fn room(&self) -> usize
+        ensures { self.now.size + result ≡ max_text + 1 }
+    {
+        MAX_TEXT + 1 - self.size
+    }
+
+    /// Takes the next piece of the text. A fault of a line is kept until the text ends, since a text
+    /// that is too large is refused for that.
+    ///
+    /// # Errors
+    ///
+    /// `Memory` where a growth was refused. The reader is of no use then.
+    pub fn feed(&mut self, piece: &[u8]) -> Result<(), Memory>
+        // Whatever bytes come then, reading ends as it would have with this piece before them.
+        ensures goes_on { (more : List ℕ) → OnOk result
+            (list_if self.new more ≡ list_if self.old (piece.now ++ more)) }
+        ensures size { self.new.size ≡ min (self.old.size + length piece.now) (max_text + 1) }
+    {
+        self.size = self.size.saturating_add(piece.len()).min(MAX_TEXT + 1);
+        if self.size > MAX_TEXT || self.fault.is_some() {
+            return Ok(());
+        }
+        let Err(fault) = self.lines.read_piece(piece) else {
+            return Ok(());
+        };
+        self.fault = Some(fault);
+        if fault.kind == ListFaultKind::Memory {
+            Err(Memory)
+        } else {
+            Ok(())
+        }
+    }
+
+    /// The records of the lines that have ended, but those that were forgotten.
+    pub fn records(&self) -> ListRecords<'_>
+        ensures { result ≡ self.now.records }
+    {
+        self.lines.list.records()
+    }
+
+    /// Forgets the records that have come.
+    pub fn forget_records(&mut self)
+        ensures { self.new ≡ without_records self.old }
+    {
+        self.lines.list.clear();
+    }
+
+    /// The records, if the text ends here.
+    ///
+    /// # Errors
+    ///
+    /// The first fault, as `ReportList::read` has it.
+    pub fn finish(self) -> Result<ReportList, ListFault>
+        ensures { result ≡ list_if self [] }
+    {
+        let ListReader { size, lines, fault } = self;
+        if size > MAX_TEXT {
+            return Err(ListFaultKind::TooLarge.at(0, 0));
+        }
+        if let Some(fault) = fault {
+            return Err(fault);
+        }
+        if !lines.begun.is_empty() {
+            return Err(ListFaultKind::Unended.at(lines.ended + 1, 0));
+        }
+        Ok(lines.list)
+    }
+}

@@ -13,4 +13,4 @@ mod wants;
 pub use channels::Channels;
 pub use filter::{Filter, Mode};
 pub use laws::{merged_filter_admits_what_is_wanted, order_of_records_does_not_matter};
-pub use wants::wants_of;
+pub use wants::{is_wanted, wants_of};

@@ -7,7 +7,7 @@ ghost use Rattle.mc_filter.specs.Merged.{IsMergedValue};
 
 use crate::filter::Filter;
 use crate::gathered::Gathered;
-use mc_igmp::{Kind, Record, ReportList};
+use mc_igmp::{Kind, ListRecords, Record, ReportList};
 use mc_text::{Addr, Memory};
 use std::alloc::Global;
 
@@ -40,12 +40,10 @@ fn admits(group_record: &Record<'_>, source: Addr) -> bool
     }
 }
 
-/// Whether some record for a group admits a source. Nothing is merged for that, so that it takes
-/// one walk over the records, up to the first that admits it, and no memory.
-pub fn is_wanted(reports: &ReportList, group: Addr, source: Addr) -> bool
-    ensures { IsTrue result ↔ Wants reports.now group source }
+/// Whether some of the records is for the group and admits the source. Nothing is merged for that:
+/// the records are walked over up to the first that does, and no memory is taken.
+pub fn is_wanted(mut records: ListRecords<'_>, group: Addr, source: Addr) -> bool
+    ensures { IsTrue result ↔ Wants records.entry group source }
 {
-    reports
-        .records()
-        .any(|group_record| group_record.group == group && admits(&group_record, source))
+    records.any(|group_record| group_record.group == group && admits(&group_record, source))
 }

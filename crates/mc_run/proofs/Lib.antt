@@ -3,6 +3,7 @@ pub mod AuditLemmas
 pub mod AuditLines
 pub mod CertifiedLemmas
 pub mod CheckLemmas
+pub mod LookLemmas
 pub mod MakeLemmas
 pub mod PackingLemmas
 pub mod ReplayLemmas

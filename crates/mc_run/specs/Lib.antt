@@ -44,3 +44,4 @@ pub use Rattle.mc_replay.specs.Travels
 pub use Rattle.mc_replay.specs.TravelText
 pub use Rattle.mc_cert.specs.CertificateText
 pub use Rattle.mc_maker.specs.Examined
+pub mod WantsSoFar

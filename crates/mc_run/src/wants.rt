@@ -1,31 +1,97 @@
 //! `mcaudit wants`: whether the LAN whose reports are read wants what a source sends to a group.
 
-ghost use Rattle.std.specs.Prelude.{◌≡◌, ◌≢◌, ◌+◌, ◌<◌, ◌↔◌, IsTrue, IfOk, IfErr, IfSome, Err};
-ghost use Rattle.std.specs.Io.KnownBytes.{Appends};
-ghost use Rattle.mc_igmp.specs.Wants.{Wants};
+ghost use Rattle.std.specs.Prelude.{◌≡◌, ◌≢◌, ◌⊎◌, ◌+◌, ◌<◌, IfOk, IfErr, IfSome, OnOk, Err};
+ghost use Rattle.std.specs.Prelude.{length, min};
+ghost use Rattle.std.specs.Io.KnownBytes.{Appends, IsAtEnd};
 ghost use Rattle.mc_text.specs.Lines.{max_text};
 ghost use Rattle.mc_text.specs.ReadFault.{ConsumesUpTo};
 ghost use Rattle.mc_text.specs.Device.{counted};
 ghost use Rattle.mc_run.specs.Failures.{is_read, is_write};
 ghost use Rattle.mc_run.specs.WantsRun.{answer_line, Answers, WritesPart};
+ghost use Rattle.mc_run.specs.WantsSoFar.{Looks, LooksThrough};
 
 use crate::fault::RunFault;
-use mc_filter::wants_of;
-use mc_igmp::ReportList;
-use mc_text::{Addr, Input, MAX_TEXT, Memory as NoMemory, Output, read_to_limit, write_all};
+use mc_filter::is_wanted;
+use mc_igmp::ListReader;
+use mc_text::{Addr, Input, Memory as NoMemory, Output, write_all};
 use std::alloc::Global;
 
-/// Whether some record for the group admits the source.
-fn is_wanted(
-    alloc: Global,
-    reports: &ReportList,
+/// How many bytes are asked of the input at once.
+const PIECE: usize = 65_536;
+
+/// Looks at the records of the lines that end in a piece, and tells whether one of them wants what
+/// the source sends to the group.
+fn look_at(
+    reader: &mut ListReader,
+    piece: &[u8],
     group: Addr,
     source: Addr,
 ) -> Result<bool, NoMemory>
-    ensures { IfOk result (λ wanted. IsTrue wanted ↔ Wants reports.now group source) }
+    ensures looks { IfOk result (λ wanted.
+        Looks reader.old reader.new piece.now group source wanted) }
+    ensures size { OnOk result
+        (reader.new.size ≡ min (reader.old.size + length piece.now) (max_text + 1)) }
 {
-    let filter = wants_of(alloc, reports, group)?;
-    Ok(filter.admits(source))
+    reader.feed(piece)?;
+    let wanted = is_wanted(reader.records(), group, source);
+    reader.forget_records();
+    Ok(wanted)
+}
+
+/// Looks at the records of all lines that end, until the input ends or the list is too large.
+fn look_through<R: Input>(
+    input: &mut R,
+    buffer: &mut [u8],
+    reader: &mut ListReader,
+    group: Addr,
+    source: Addr,
+) -> Result<bool, RunFault>
+    requires room { 0 < length buffer.old }
+    requires start { reader.old.size ≡ 0 }
+    requires failures { R.failed input.old < u64.MAX }
+    ensures same { R.names input.new ≡ R.names input.old }
+    ensures looks { IfOk result (λ wanted. LooksThrough (R.told input.old) (R.told input.new)
+        reader.old reader.new group source wanted) }
+    ensures end { OnOk result (reader.new.size < max_text + 1 → IsAtEnd (R.told input.new)) }
+    ensures consumed { ConsumesUpTo (max_text + 1) (R.told input.old) (R.told input.new) }
+    ensures kind { IfErr result (λ fault.
+        (fault ≡ RunFault.Read) ⊎ (fault ≡ RunFault.Memory)) }
+    ensures failures { R.failed input.new ≡ counted is_read result (R.failed input.old) }
+{
+    let mut wanted = false;
+    'reading: while 0 < reader.room() {
+        let room = buffer.len().min(reader.room());
+        match input.read(&mut buffer[..room]) {
+            Ok(0) => return Ok(wanted),
+            Ok(count) => wanted |= look_at(reader, &buffer[..count], group, source)?,
+            Err(_) => return Err(RunFault::Read),
+        }
+    }
+    Ok(wanted)
+}
+
+/// Whether some record of the list that the input has wants what the source sends to the group.
+fn wanted_in<R: Input>(
+    alloc: Global,
+    group: Addr,
+    source: Addr,
+    input: &mut R,
+) -> Result<bool, RunFault>
+    requires { R.failed input.old < u64.MAX }
+    ensures same { R.names input.new ≡ R.names input.old }
+    ensures answer { IfSome (R.told input.old) (λ text. Answers text group source result) }
+    ensures consumed { ConsumesUpTo (max_text + 1) (R.told input.old) (R.told input.new) }
+    ensures kind { IfErr result (λ fault. fault ≢ RunFault.Write) }
+    ensures failures { R.failed input.new ≡ counted is_read result (R.failed input.old) }
+{
+    let Ok(mut buffer) = Vec::from_elem(alloc, 0u8, PIECE) else {
+        return Err(RunFault::Memory);
+    };
+    let mut reader = ListReader::new(alloc);
+    let wanted = look_through(input, &mut buffer, &mut reader, group, source)?;
+    let last = reader.finish()?;
+    let wanted_by_last = is_wanted(last.records(), group, source);
+    Ok(wanted | wanted_by_last)
 }
 
 /// The line that tells the answer.
@@ -63,9 +129,7 @@ pub fn run_wants<R: Input, W: Output>(
     ensures read_failures { R.failed input.new ≡ counted is_read result (R.failed input.old) }
     ensures write_failures { W.failed output.new ≡ counted is_write result (W.failed output.old) }
 {
-    let text = read_to_limit(alloc, input, MAX_TEXT + 1)?;
-    let reports = ReportList::read(alloc, &text)?;
-    let wanted = is_wanted(alloc, &reports, group, source)?;
+    let wanted = wanted_in(alloc, group, source, input)?;
     match write_all(output, line_of(wanted).as_bytes()) {
         Ok(()) => Ok(wanted),
         Err(_) => Err(RunFault::Write),

@@ -1,0 +1,144 @@
+-- A report list that is looked at as it comes.
+use Rattle.std.proofs.Common.{◌≡◌, ℕ, Bool, false, ◌||◌, List, [], ◌++◌, refl, sym, ap, ◌∙◌}
+use Rattle.std.proofs.Common.{append_assoc, arith, ◌+◌, ◌<◌, ◌⊎◌, ◌≢◌, inl, inr, length, Ok, Err}
+use Rattle.std.proofs.Common.{Option, Some, None}
+use Rattle.std.specs.Prelude.{IsTrue, ◌↔◌, IfSome}
+use Rattle.std.specs.Io.KnownBytes.{IsAtEnd}
+use Rattle.std.proofs.lemmas.Bool.{cases_lt, lt-ltb}
+use Rattle.std.proofs.lemmas.Bool.Decides.{nat_tests}
+use Rattle.std.proofs.lemmas.List.Folds.{list_any-append}
+use Rattle.mc_text.proofs.StepLemmas.{with_front-none, with_front-more}
+use Rattle.mc_igmp.specs.declared.record.Record.{Record}
+use Rattle.mc_igmp.specs.declared.fault.ListFault.{ListFault}
+use Rattle.mc_igmp.specs.declared.fault.ListFaultKind.{ListFaultKind}
+use Rattle.mc_igmp.specs.declared.fault.ListFaultKind.TheVariants.{TooLarge}
+use Rattle.mc_igmp.specs.ReadingList.{fault_at, read_list}
+use Rattle.mc_igmp.specs.ListSoFar.{ListSoFar, list_if}
+use Rattle.mc_igmp.proofs.ListLemmas.{read_list-found}
+use Rattle.mc_igmp.specs.Wants.{Wants}
+use Rattle.mc_filter.specs.Gathering.{wanted_by}
+use Rattle.mc_filter.proofs.MergedLemmas.{Decides-wanted}
+use Rattle.mc_run.specs.declared.fault.RunFault.{RunFault}
+use Rattle.mc_run.specs.declared.fault.RunFault.TheVariants.{Read, Write, Memory}
+use Rattle.mc_run.specs.Failures.{is_read}
+use Rattle.mc_run.specs.RunFault.{of_list, of_list_kind}
+use Rattle.mc_run.specs.WantsRun.{Answers, IsAnswer}
+use Rattle.mc_run.specs.WantsSoFar.{Looks, LooksThrough, behind}
+use Rattle.mc_run.proofs.WantsLemmas.{refused}
+
+-- some record of two lists wants it if some of one does
+wants_both : (xs ys : List Record) (group source : ℕ) (v w : Bool)
+    → IsTrue v ↔ Wants xs group source → IsTrue w ↔ Wants ys group source
+    → IsTrue (v || w) ↔ Wants (xs ++ ys) group source
+wants_both xs ys group source v w here there =
+    grind (
+      arith,
+      nat_tests,
+      list_any-append (wanted_by group source) xs ys,
+      Decides-wanted xs group source,
+      Decides-wanted ys group source,
+      Decides-wanted (xs ++ ys) group source,
+    )
+
+-- no record wants it
+wants_none : (group source : ℕ) → IsTrue false ↔ Wants [] group source
+wants_none group source = grind (arith, nat_tests, Decides-wanted [] group source)
+
+-- no byte came
+pub looks_none : (so_far : ListSoFar) (group source : ℕ)
+    → Looks so_far so_far [] group source false
+looks_none so_far group source = record {
+  seen = [];
+  goes_on = λ more. sym (with_front-none (list_if so_far more));
+  wants = wants_none group source;
+}
+
+-- bytes came, and then others
+pub looks_more : (old mid new : ListSoFar) (bytes more : List ℕ) (group source : ℕ) (v w : Bool)
+    → Looks old mid bytes group source v → Looks mid new more group source w
+    → Looks old new (bytes ++ more) group source (v || w)
+looks_more old mid new bytes more group source v w first then = record {
+  seen = first.seen ++ then.seen;
+  goes_on = λ rest. ap (list_if old) (append_assoc bytes more rest)
+      ∙ first.goes_on (more ++ rest)
+      ∙ ap (behind first.seen) (then.goes_on rest)
+      ∙ with_front-more first.seen then.seen (list_if new rest);
+  wants = wants_both first.seen then.seen group source v w first.wants then.wants;
+}
+
+-- ---- a whole input
+
+-- past the limit it is of no account what comes
+past_limit : (so_far : ListSoFar) (more : List ℕ) → 16777216 < so_far.size
+    → list_if so_far more ≡ Err (fault_at 0 0 TooLarge)
+past_limit so_far more past =
+    rw (lt-ltb 16777216 (so_far.size + length more) (omega arith)) refl
+
+-- so reading ends as it would if nothing more came, where the input is at its end or past the limit
+ends_here : (so_far : ListSoFar) (rest : List ℕ) → (so_far.size < 16777217 → rest ≡ [])
+    → list_if so_far rest ≡ list_if so_far []
+ends_here so_far rest end = elim (cases_lt so_far.size 16777217) [
+  | inl within ↦ ap (list_if so_far) (end within)
+  | inr past ↦ past_limit so_far rest (omega arith) ∙ sym (past_limit so_far [] (omega arith))
+]
+
+-- what is known of the text, once it was looked through
+abbrev ReadsBehind : ListSoFar → ℕ → ℕ → Bool → List ℕ → Type 0
+ReadsBehind new group source wanted text =
+    (seen : List Record) × (read_list text ≡ behind seen (list_if new []))
+    × (IsTrue wanted ↔ Wants seen group source)
+
+looked_through : (told left : Option (List ℕ)) (old new : ListSoFar) (group source : ℕ) (w : Bool)
+    → ((text : List ℕ) → list_if old text ≡ read_list text)
+    → LooksThrough told left old new group source w → (new.size < 16777217 → IsAtEnd left)
+    → IfSome told (ReadsBehind new group source w)
+looked_through None left old new group source w reads looks end = tt
+looked_through (Some text) None old new group source w reads (bytes, came, looks) end = absurd came
+looked_through (Some text) (Some rest) old new group source w reads (bytes, came, looks) end = (
+  looks.seen,
+  ap read_list came ∙ sym (reads (bytes ++ rest)) ∙ looks.goes_on rest
+      ∙ ap (behind looks.seen) (ends_here new rest end),
+  looks.wants,
+)
+
+-- the answer, where reading ends with records
+pub looked_answer : (told left : Option (List ℕ)) (old new : ListSoFar) (group source : ℕ)
+    (w v : Bool) (last : List Record) → ((text : List ℕ) → list_if old text ≡ read_list text)
+    → LooksThrough told left old new group source w → (new.size < 16777217 → IsAtEnd left)
+    → list_if new [] ≡ Ok last → (IsTrue v ↔ Wants last group source)
+    → IfSome told (λ text. IsAnswer text group source (w || v))
+looked_answer None left old new group source w v last reads looks end is wants = tt
+looked_answer (Some text) left old new group source w v last reads looks end is wants =
+    let known = looked_through (Some text) left old new group source w reads looks end in (
+      known.0 ++ last,
+      read_list-found text (known.0 ++ last) (known.1 ∙ ap (behind known.0) is),
+      wants_both known.0 last group source w v known.2 wants,
+    )
+
+-- and where it ends with a fault
+pub looked_refused : (told left : Option (List ℕ)) (old new : ListSoFar) (group source : ℕ)
+    (w : Bool) (fault : ListFault) → ((text : List ℕ) → list_if old text ≡ read_list text)
+    → LooksThrough told left old new group source w → (new.size < 16777217 → IsAtEnd left)
+    → list_if new [] ≡ Err fault
+    → IfSome told (λ text. Answers text group source (Err (of_list fault)))
+looked_refused None left old new group source w fault reads looks end is = tt
+looked_refused (Some text) left old new group source w fault reads looks end is =
+    let known = looked_through (Some text) left old new group source w reads looks end in
+    refused text group source fault (inl (known.1 ∙ ap (behind known.0) is))
+
+-- where the input failed, or memory ran out, nothing is claimed
+pub failed_run : (told : Option (List ℕ)) (group source : ℕ) (fault : RunFault)
+    → (fault ≡ Read) ⊎ (fault ≡ Memory)
+    → IfSome told (λ text. Answers text group source (Err fault))
+failed_run None group source fault why = tt
+failed_run (Some text) group source fault (inl is) = rw is tt
+failed_run (Some text) group source fault (inr is) = rw is tt
+
+-- and the output did not fail
+pub not_written : (fault : RunFault) → (fault ≡ Read) ⊎ (fault ≡ Memory) → fault ≢ Write
+not_written fault why = grind arith
+
+-- a list's fault is none of a device
+pub of_list_kind-own : (f : ListFault) (kind : ListFaultKind)
+    → (of_list_kind f kind ≢ Write) × (is_read (of_list_kind f kind) ≡ false)
+of_list_kind-own f kind = grind arith

@@ -1,0 +1,26 @@
+-- A report list that is looked at as it comes. Only the contracts of private functions speak of it.
+use Rattle.std.specs.Prelude.{◌≡◌, ◌↔◌, ℕ, Bool, IsTrue, List, ◌++◌, Option, Result, Ok}
+use Rattle.std.specs.Io.KnownBytes.{Consumes}
+use Rattle.mc_text.specs.Steps.{◌>>=◌}
+use Rattle.mc_igmp.specs.declared.record.Record.{Record}
+use Rattle.mc_igmp.specs.declared.fault.ListFault.{ListFault}
+use Rattle.mc_igmp.specs.ListSoFar.{ListSoFar, list_if}
+use Rattle.mc_igmp.specs.Wants.{Wants}
+
+-- the records that were looked at stand before those that reading ends with
+abbrev pub behind : List Record → Result (List Record) ListFault → Result (List Record) ListFault
+behind seen read = read >>= λ rest. Ok (seen ++ rest)
+
+-- These bytes came. Records of theirs were looked at and forgotten, and this says whether one of
+-- them wants what the source sends to the group.
+pub record Looks (old new : ListSoFar) (bytes : List ℕ) (group source : ℕ) (wanted : Bool)
+    : Type 0 where
+  pub seen : List Record
+  pub goes_on : (more : List ℕ) → list_if old (bytes ++ more) ≡ behind seen (list_if new more)
+  pub wants : IsTrue wanted ↔ Wants seen group source
+
+-- the same of the bytes that an input gave
+abbrev pub LooksThrough : Option (List ℕ) → Option (List ℕ) → ListSoFar → ListSoFar → ℕ → ℕ → Bool
+    → Type 0
+LooksThrough told left old new group source wanted =
+    (bytes : List ℕ) × Consumes told left bytes × Looks old new bytes group source wanted

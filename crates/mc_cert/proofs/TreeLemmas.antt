@@ -2,10 +2,7 @@
 use Rattle.std.proofs.Common.{◌≡◌, ℕ, zero, suc, ◌<◌, ◌≤◌, Bool, true, false, cond, List, []}
 use Rattle.std.proofs.Common.{◌∷◌, ◌++◌, length, map, All, Some, None, refl, sym, ap, ap₂, subst}
 use Rattle.std.proofs.Common.{◌∙◌, arith, length-append}
-use Rattle.std.proofs.Common.{nat_lt}
-use Rattle.std.specs.Prelude.{unwrap_or, slice_get}
-use Rattle.std.proofs.lemmas.Bool.Decides.{nat_tests}
-use Rattle.std.proofs.lemmas.Option.{slice_get_within}
+use Rattle.std.specs.Prelude.{unwrap_or}
 use Rattle.std.specs.Cmp.Lexicographic.{slice_cmp, lists_ties}
 use Rattle.std.specs.declared.cmp.Ordering.{Ordering}
 use Rattle.std.specs.Ordering.{is_eq}
@@ -19,39 +16,14 @@ use Rattle.mc_cert.specs.contracts.reached.ReachedOrd.TheImpl.Laws.{matches_eq-l
 use Rattle.mc_cert.specs.Certificate.{Tree, tree_at, IsList}
 use Rattle.mc_cert.specs.CertificateText.{text_of, certificate_text}
 use Rattle.mc_cert.specs.Distinct.{same_tree, place_in, with_tree, distinct_trees, place_of}
-use Rattle.mc_cert.specs.Trees.{trees_of, AreNumbered, AreShared, IsKept, StandOnce}
-use Rattle.mc_cert.proofs.DistinctLemmas.{tree_decides, unlike_trees, place_of_new, position_past, with_new}
+use Rattle.mc_cert.specs.Trees.{trees_of, AreNumbered, AreShared}
+use Rattle.mc_cert.proofs.DistinctLemmas.{tree_decides, unlike_trees, place_of_new, position_past}
 use Rattle.mc_cert.proofs.DistinctLemmas.{place_with, tree_with, few_from, at_place, all_with}
 
 -- ---- trees in the map
 
 trees_tie : (a b : Tree) → same_tree a b ≡ is_eq (slice_cmp by_order.cmp a b)
 trees_tie = lists_ties by_order.cmp (λ x y. matches_eq-law x y)
-
--- a tree has the number of the place at which it stands
-pub known_at : (trees : List Tree) (n : ℕ) (es : Tree) → StandOnce trees
-    → slice_get trees n ≡ Some es → place_in trees es ≡ Some n
-known_at trees n es once e =
-    let at : tree_at trees n ≡ es = ap (λ o. unwrap_or o []) e in
-    ap (place_in trees) (sym at) ∙ once n (slice_get_within trees n es e)
-
-once_pushed : (trees : List Tree) (es : Tree) → StandOnce trees → place_in trees es ≡ None
-    → StandOnce (trees ++ es ∷ [])
-once_pushed trees es once none n lt = by (nat_lt n (length trees)) refl
-  where
-    now : with_tree trees es ≡ trees ++ es ∷ []
-    now = with_new trees es none
-
-    by : (b : Bool) → nat_lt n (length trees) ≡ b
-        → place_in (trees ++ es ∷ []) (tree_at (trees ++ es ∷ []) n) ≡ Some n
-    by true e = subst (λ (ts : List Tree). place_in ts (tree_at ts n) ≡ Some n) now
-        (ap (place_in (with_tree trees es)) (tree_with trees es n (grind (arith, nat_tests)))
-        ∙ place_with trees (tree_at trees n) es n (once n (grind (arith, nat_tests))))
-    by false e =
-        let last : n ≡ length trees = grind (arith, nat_tests, length-append trees (es ∷ [])) in
-        let here : place_in (trees ++ es ∷ []) es ≡ Some n = place_of_new trees es none ∙ ap Some (sym last) in
-        ap (place_in (trees ++ es ∷ []))
-        (ap (λ o. unwrap_or o []) (at_place (trees ++ es ∷ []) es n here).1) ∙ here
 
 module _ {K : Type 0} (tree : K → Tree) where
   -- the order of keys
@@ -78,23 +50,21 @@ module _ {K : Type 0} (tree : K → Tree) where
 
   -- a tree that the map has no number for, put behind the others and into the map
   pub put : (numbers now : BTreeMap K ℕ) (old new : List K) (x key : K) (n : ℕ)
-      → IsKept by_order.cmp tree numbers (map tree old)
+      → AreNumbered by_order.cmp tree numbers (map tree old)
       → get_by (λ k. slice_cmp by_order.cmp (tree x) (tree k)) numbers ≡ None
       → new ≡ old ++ x ∷ [] → tree key ≡ tree x → n ≡ length old
       → Updates tree_order numbers now key (Some n)
-      → IsKept by_order.cmp tree now (map tree new) × (place_in (map tree new) (tree x) ≡ Some n)
-  put numbers now old new x key n kept absent made same last updates =
+      → AreNumbered by_order.cmp tree now (map tree new) × (place_in (map tree new) (tree x) ≡ Some n)
+  put numbers now old new x key n are absent made same last updates =
       let trees = map tree old in
       let none : place_in trees (tree key) ≡ None =
-      ap (place_in trees) same ∙ sym (kept.numbered x) ∙ absent in
+      ap (place_in trees) same ∙ sym (are x) ∙ absent in
       let grown : trees ++ tree key ∷ [] ≡ map tree new =
       ap (λ t. trees ++ t ∷ []) same ∙ sym (map-append tree old (x ∷ []))
       ∙ ap (map tree) (sym made) in
       let long : n ≡ length trees = omega (arith, last, length-map old tree) in (
-        subst (λ (ts : List Tree). IsKept by_order.cmp tree now ts) grown (record {
-          numbered = numbered_pushed numbers now key n trees kept.numbered none long updates;
-          once = once_pushed trees (tree key) kept.once none;
-        }),
+        subst (λ (ts : List Tree). AreNumbered by_order.cmp tree now ts) grown
+            (numbered_pushed numbers now key n trees are none long updates),
         ap₂ place_in (sym grown) (sym same) ∙ place_of_new trees (tree key) none
             ∙ ap Some (sym long),
       )

@@ -1,5 +1,5 @@
 -- What is kept of trees that come one after another, one a flow: each different one once.
-use Rattle.std.specs.Prelude.{◌≡◌, ℕ, ◌<◌, ◌≤◌, All, List, length, map, Some}
+use Rattle.std.specs.Prelude.{◌≡◌, ℕ, ◌≤◌, All, List, length, map, Some}
 use Rattle.std.specs.declared.cmp.Ordering.{Ordering}
 use Rattle.std.specs.BTreeMap.{BTreeMap, get_by}
 use Rattle.std.specs.Cmp.Lexicographic.{slice_cmp}
@@ -17,16 +17,6 @@ abbrev pub AreNumbered : {K : Type 0} → (Entry → Entry → Ordering) → (K 
     → List Tree → Type 0
 AreNumbered {K} order tree numbers different = (key : K)
     → get_by (λ k. slice_cmp order (tree key) (tree k)) numbers ≡ place_in different (tree key)
-
--- each tree stands at one place alone
-abbrev pub StandOnce : List Tree → Type 0
-StandOnce trees = (n : ℕ) → n < length trees → place_in trees (tree_at trees n) ≡ Some n
-
--- The map has the number of each tree, and no two trees are the same.
-pub record IsKept {K : Type 0} (order : Entry → Entry → Ordering) (tree : K → Tree)
-    (numbers : BTreeMap K ℕ) (different : List Tree) : Type 0 where
-  pub numbered : AreNumbered order tree numbers different
-  pub once : StandOnce different
 
 -- The trees are the different ones of the flows, in the order of first use, and each flow has the
 -- number of its own. There are at most 4,096 flows, such as a certificate can hold.

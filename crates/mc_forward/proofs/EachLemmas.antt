@@ -17,6 +17,19 @@ push-cases (x ∷ xs) y z zero e = inl e
 push-cases (x ∷ xs) y z (suc k) e = elim (push-cases xs y z k e)
     [ inl h ↦ inl h | inr p ↦ inr (ap suc p.0, p.1) ]
 
+-- what holds of each item by its place, and of one more at the end
+pub numbered-pushed : {A : Type 0} (R : ℕ → A → Type 0) (xs now : List A) (y : A) (k : ℕ)
+    → now ≡ xs ++ y ∷ [] → length xs ≡ k → R k y
+    → ((i : ℕ) (z : A) → slice_get xs i ≡ Some z → R i z) → (i : ℕ) (z : A)
+    → slice_get now i ≡ Some z → R i z
+numbered-pushed {A} R xs now y k more size here each i z at =
+    let found : slice_get (xs ++ y ∷ []) i ≡ Some z =
+    subst (λ (ys : List A). slice_get ys i ≡ Some z) more at in
+    elim (push-cases xs y z i found) [
+      | inl old ↦ each i z old
+      | inr last ↦ subst (R i) last.1 (subst (λ n. R n y) (sym size ∙ last.0) here)
+    ]
+
 same-item : {A : Type 0} (o : Option A) (x z : A) → o ≡ Some x → o ≡ Some z → x ≡ z
 same-item o x z a b = cc
 

@@ -15,6 +15,7 @@ use crate::copy::{Carried, Stray, WaitingCopy};
 use crate::event::{Event, Outcome};
 use crate::flow_view::FlowView;
 use crate::row::RowFor;
+use crate::seen_flow::SeenFlow;
 use mc_tables::Oif;
 use mc_text::Memory;
 use mc_topology::RouterNo;
@@ -122,6 +123,7 @@ impl Copies {
     }
 
     /// A copy is put on its LAN.
+    #[inline(always)]
     pub(crate) fn put(&mut self, view: &FlowView<'_>, copy: &Carried) -> Result<(), Memory>
         requires { copy.now.lan < length view.now.domain.topology.lans }
         ensures ok { OnOk result (self.new ≡ put (net_in view.now) copy.now self.old) }
@@ -189,16 +191,16 @@ impl Copies {
     }
 
     /// What a router does with a copy that waits at its vif. The copy still waits afterwards.
-    fn forward(&mut self, view: &FlowView<'_>, taken: &WaitingCopy) -> Result<Outcome, Memory>
-        ensures ok { OnOk result (self.new ≡ handle (net_in view.now) (Some taken.now) self.old) }
+    fn forward(&mut self, flow: &SeenFlow<'_>, taken: &WaitingCopy) -> Result<Outcome, Memory>
+        ensures ok { OnOk result (self.new ≡ handle (net_in flow.now) (Some taken.now) self.old) }
         ensures outcome { IfOk result (λ outcome. outcome_seen outcome ≡
-            outcome_by (net_in view.now) taken.now ((net_in view.now).row taken.now.router)) }
+            outcome_by (net_in flow.now) taken.now ((net_in flow.now).row taken.now.router)) }
         ensures kept { Extends self.old self.new }
     {
-        match view.row(taken.router) {
+        match flow.row(taken.router) {
             RowFor::Exact(entry) => {
                 if entry.iif == taken.vif {
-                    self.send_all(view, taken, entry.oifs)
+                    self.send_all(flow.view(), taken, entry.oifs)
                 } else {
                     Ok(Outcome::OtherVif)
                 }
@@ -216,11 +218,12 @@ impl Copies {
 
     /// The waiting copy with this index is taken away and handled. All that grows does so before,
     /// so that nothing is changed where memory runs out.
-    pub(crate) fn handle(&mut self, view: &FlowView<'_>, index: usize) -> Result<Event, Memory>
+    #[inline(always)]
+    pub(crate) fn handle(&mut self, flow: &SeenFlow<'_>, index: usize) -> Result<Event, Memory>
         requires { index < length self.old.waiting }
-        ensures ok { OnOk result (self.new ≡ step (net_in view.now) index self.old) }
+        ensures ok { OnOk result (self.new ≡ step (net_in flow.now) index self.old) }
         ensures event { IfOk result (λ event.
-            option_map (event_of (net_in view.now)) (slice_get self.old.waiting index)
+            option_map (event_of (net_in flow.now)) (slice_get self.old.waiting index)
             ≡ Some event) }
         ensures err { OnErr result (self.new ≡ self.old) }
     {
@@ -228,7 +231,7 @@ impl Copies {
         let waiting = self.waiting.len();
         let strays = self.strays.len();
         let taken = self.waiting[index];
-        match self.forward(view, &taken) {
+        match self.forward(flow, &taken) {
             Ok(outcome) => {
                 take_away(&mut self.waiting, index);
                 Ok(Event {

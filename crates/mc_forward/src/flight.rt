@@ -12,6 +12,7 @@ use crate::copy::{Carried, Stray};
 use crate::domain::Domain;
 use crate::event::Event;
 use crate::flow_view::FlowView;
+use crate::seen_flow::SeenFlow;
 use mc_text::Memory;
 use mc_topology::LanNo;
 use std::alloc::Global;
@@ -21,7 +22,7 @@ use std::marker::Model;
 /// caller picks. Its value in contracts is the domain, the flow's number and the flight.
 #[derive(Drop)]
 pub struct Flight<'d> {
-    view: FlowView<'d>,
+    flow: SeenFlow<'d>,
     copies: Copies,
 }
 
@@ -32,9 +33,9 @@ impl<'d> Model for Flight<'d> {
 
     ghost coded = { journey_code };
 
-    ghost view = { λ f. record { domain = f.view.domain; flow = f.view.flow; flight = f.copies } };
+    ghost view = { λ f. record { domain = f.flow.domain; flow = f.flow.flow; flight = f.copies } };
 
-    ghost invariant = { λ f. IsFlight f.view f.copies };
+    ghost invariant = { λ f. IsFlight f.flow f.copies };
 }
 
 /// How many of the copies a LAN carried, 4,294,967,295 where there are more.
@@ -78,14 +79,15 @@ impl<'d> Flight<'d> {
             sender: None,
         };
         copies.put(&view, &first)?;
-        Ok(Flight { view, copies })
+        let flow = SeenFlow::new(alloc, view)?;
+        Ok(Flight { flow, copies })
     }
 
     /// The flow whose packet it is.
     pub fn flow_view(&self) -> &FlowView<'d>
         ensures { result.now ≡ record { domain = self.now.domain; flow = self.now.flow } }
     {
-        &self.view
+        self.flow.view()
     }
 
     /// How many copies wait.
@@ -126,6 +128,7 @@ impl<'d> Flight<'d> {
     /// # Errors
     ///
     /// `Memory` where a growth was refused. The flight is then as it was.
+    #[inline(always)]
     pub fn handle(&mut self, index: usize) -> Result<Event, Memory>
         requires { index < length self.old.flight.waiting }
         ensures ok { OnOk result (self.new ≡
@@ -134,7 +137,7 @@ impl<'d> Flight<'d> {
             (slice_get self.old.flight.waiting index) ≡ Some event) }
         ensures err { OnErr result (self.new ≡ self.old) }
     {
-        self.copies.handle(&self.view, index)
+        self.copies.handle(&self.flow, index)
     }
 
     /// The waiting copy with this index is lost: no router handles it. Nothing else changes.

@@ -19,6 +19,7 @@ mod per_lan;
 mod places;
 mod refused;
 mod row;
+mod seen_flow;
 mod tables;
 mod wants;
 

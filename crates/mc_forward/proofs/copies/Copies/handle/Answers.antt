@@ -9,7 +9,7 @@ pub take_away-requires : goal.take_away-requires
 take_away-requires c =
     let ok = c.in-Ok.ensures.ok in
     subst (λ (f : Flight). c.args.index < length f.waiting) (sym c.self-2.view_is)
-    (still-waits (net_in c.args.view.now) c.args.self.now c.forward.new.self c.args.index
+    (still-waits (net_in c.args.flow.now) c.args.self.now c.forward.new.self c.args.index
     c.index.result.now c.requires ok)
 
 pub returns-in-Ok-clause-ok : goal.returns-in-Ok-clause-ok
@@ -19,12 +19,12 @@ returns-in-Ok-clause-ok c =
     ap (λ (ws : List Waiting). flight_of c.self-2.inside.carried.items ws
     c.self-2.inside.strays.items) c.take_away.ensures
     ∙ ap (without c.args.index) c.self-2.view_is
-    ∙ handled-late (net_in c.args.view.now) c.args.self.now c.forward.new.self c.args.index
+    ∙ handled-late (net_in c.args.flow.now) c.args.self.now c.forward.new.self c.args.index
     c.index.result.now c.requires read c.in-Ok.ensures.ok
 
 pub returns-in-Ok-clause-event : goal.returns-in-Ok-clause-event
 returns-in-Ok-clause-event c =
     let read = subst (λ (f : Flight). c.index.result.now ≡ get_or f.waiting c.args.index
     c.index.result.now) c.self.view_is c.index.ensures in
-    event-seen (net_in c.args.view.now) c.args.self.now.waiting c.args.index c.index.result.now _ _
+    event-seen (net_in c.args.flow.now) c.args.self.now.waiting c.args.index c.index.result.now _ _
     c.requires read c.taken.view_is c.in-Ok.ensures.outcome

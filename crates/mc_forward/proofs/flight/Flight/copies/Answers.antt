@@ -9,9 +9,9 @@ pub returns-clause-lans : goal.returns-clause-lans
 returns-clause-lans c =
     subst (λ (j : Journey). All (λ x. x.lan < length j.domain.topology.lans) c.carried.result.now)
     c.self.view_is
-    (subst (λ (xs : List Copy). All (λ x. x.lan < length c.self.inside.view.domain.topology.lans) xs)
+    (subst (λ (xs : List Copy). All (λ x. x.lan < length c.self.inside.flow.domain.topology.lans) xs)
     (sym c.carried.ensures)
-    (all-among (λ (x : Copy). x.lan < length c.self.inside.view.domain.topology.lans) _
+    (all-among (λ (x : Copy). x.lan < length c.self.inside.flow.domain.topology.lans) _
     (λ x h. (c.self.invariant.listed x h).lan)))
 
 pub returns-clause-senders : goal.returns-clause-senders
@@ -19,8 +19,8 @@ returns-clause-senders c =
     subst (λ (j : Journey). All (λ x. IfSome x.sender (λ i. i.0 < length j.domain.topology.routers))
     c.carried.result.now) c.self.view_is
     (subst (λ (xs : List Copy). All
-    (λ x. IfSome x.sender (λ i. i.0 < length c.self.inside.view.domain.topology.routers)) xs)
+    (λ x. IfSome x.sender (λ i. i.0 < length c.self.inside.flow.domain.topology.routers)) xs)
     (sym c.carried.ensures)
     (all-among (λ (x : Copy). IfSome x.sender (λ i. i.0 < length
-    c.self.inside.view.domain.topology.routers)) _
+    c.self.inside.flow.domain.topology.routers)) _
     (λ x h. (c.self.invariant.listed x h).sender)))

@@ -8,7 +8,7 @@ use Rattle.mc_forward.proofs.flight.Flight.handle.Goals as goal
 
 pub invariant_of-self : goal.invariant_of-self
 invariant_of-self c =
-    let n = c.self.inside.view in
+    let n = c.self.inside.flow in
     let f = c.self.inside.copies in
     let was = c.self.invariant in
     let net = net-of_domain n.domain n.flow was.flow.domain in

@@ -5,11 +5,11 @@ use Rattle.mc_forward.proofs.flight.Flight.lose.Goals as goal
 
 pub invariant_of-self : goal.invariant_of-self
 invariant_of-self c =
-    let routers = length c.self.inside.view.domain.topology.routers in
+    let routers = length c.self.inside.flow.domain.topology.routers in
     record {
       flow = c.self.invariant.flow;
       routers = subst (AtRouters routers) (sym c.lose.ensures)
           (at-without routers c.args.index c.self.inside.copies c.self.invariant.routers);
-      listed = subst (AreListed (length c.self.inside.view.domain.topology.lans) routers)
+      listed = subst (AreListed (length c.self.inside.flow.domain.topology.lans) routers)
           (sym c.lose.ensures) c.self.invariant.listed;
     }

@@ -1,5 +1,5 @@
 -- What the copies of a clean travel at TTL 255 make.
-use Rattle.std.proofs.Common.{◌≡◌, ℕ, ◌<◌, ◌≤◌, inl, inr, All, false, List, [], ◌∷◌, ◌++◌, map}
+use Rattle.std.proofs.Common.{◌≡◌, ℕ, ◌<◌, ◌≤◌, inl, inr, All, true, false, List, [], ◌∷◌, ◌++◌, map}
 use Rattle.std.proofs.Common.{length, Option, Some, None, refl, ap, sym, subst, ◌∙◌, arith}
 use Rattle.std.specs.Prelude.{IfSome}
 use Rattle.std.proofs.lemmas.List.{length-map}
@@ -14,10 +14,11 @@ use Rattle.mc_theory.specs.Made.{entry_after, entries_after, entries_of, need_af
 use Rattle.mc_theory.specs.Made.{pairs_of, threshold_of}
 use Rattle.mc_theory.proofs.InLists.{in-map, in-map_cases, in-push_cases, same-by_image}
 use Rattle.mc_theory.proofs.Delivery.{safe}
+use Rattle.mc_theory.proofs.Shown.{shown}
 use Rattle.mc_theory.proofs.Travels.{travel-range, tree_made}
 use Rattle.mc_forward.specs.Domains.{DomainValue, IsDomain, net_of}
 use Rattle.mc_forward.proofs.BelowLemmas.{few-different}
-use Rattle.mc_forward.proofs.DomainLemmas.{net-of_domain}
+use Rattle.mc_forward.proofs.DomainLemmas.{net-of_domain, wanting-within}
 use Rattle.mc_cert.specs.Certificate.{IsWritable, IsList, IsEntryOf}
 use Rattle.mc_replay.specs.declared.travel.Travel.{Travel}
 use Rattle.mc_replay.specs.Travels.{replay_of, IsRunTo}
@@ -98,6 +99,9 @@ clean-copies d a flow t g cs ok same is none carried on by =
           (in-all (λ (e : Entry). e.need ≤ 255) (entries_of n
           (run n (handles is.picks) (start n 255)).carried)
           (needs-small n (length d.topology.lans) is.picks net travel));
+      reached = subst (λ xs. (l : ℕ) → n.wants l ≡ true → In l (lans xs)) (sym all)
+          (shown n (length d.topology.lans) 255 [] false is.picks Clean
+          (λ l w. wanting-within d flow l ok w) travel).2;
       lans = subst (λ (x : DomainValue). All (λ (c : Copy). c.lan < length x.topology.lans) cs) same
           on;
       senders = subst (λ (x : DomainValue). All (λ (c : Copy). IfSome c.sender
@@ -119,6 +123,13 @@ pub made-listed : (d : DomainValue) (flow : ℕ) (cs : List Copy) (es : List Ent
     → All (IsEntryOf d.topology) es
 made-listed d flow cs es clean made = in-all (IsEntryOf d.topology) es
     (λ e h. entry-of d flow cs clean e (made.from e h))
+
+pub made-within : (d : DomainValue) (flow : ℕ) (cs : List Copy) (es : List Entry)
+    → AreClean d flow cs → IsReordering (entries_of (net_of d flow) cs) es
+    → All (λ (e : Entry). e.lan < length d.topology.lans) es
+made-within d flow cs es clean made =
+    in-all (λ (e : Entry). e.lan < length d.topology.lans) es
+    (λ e h. (entry-of d flow cs clean e (made.from e h)).lan)
 
 small-vif : (n : Net) (es : List Entry) (e : Entry) (o : Option Interface) → IsNet n → IsTree n es
     → In e es → e.forwarder ≡ o → IfSome o (λ i. i.1 ≤ 31)

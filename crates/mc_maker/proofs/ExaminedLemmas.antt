@@ -1,8 +1,9 @@
 -- What an examination says, by the travels that were made.
-use Rattle.std.proofs.Common.{◌≡◌, ◌≢◌, ℕ, ◌≤◌, ◌<◌, Bool, true, false, List, [], ◌∷◌, map, length}
+use Rattle.std.proofs.Common.{◌≡◌, ◌≢◌, ℕ, ◌≤◌, ◌<◌, All, Bool, true, false, List, [], ◌∷◌, map, length}
 use Rattle.std.proofs.Common.{Option, Some, None, refl, ap, sym, subst, ◌∙◌}
 use Rattle.std.specs.Prelude.{option_map, slice_get, unwrap_or}
 use Rattle.std.specs.List.Sorted.{IsStrictlyIncreasing}
+use Rattle.mc_theory.specs.Lists.{In}
 use Rattle.mc_theory.specs.Nets.{Net}
 use Rattle.mc_theory.specs.Flights.{Copy, Flight, run, start, step}
 use Rattle.mc_theory.specs.Certificates.{Entry, IsAccepted, IsServed, IsReordering, IsRight}
@@ -192,21 +193,20 @@ ascends-by_lan f cs by_lan es is held =
 
 -- where each wanting LAN is served, they are accepted
 pub accepted-by_lan : (f : FlowIn) (cs : List Copy) (by_lan : List (Option Entry))
-    (es : List Entry) → IsDomain f.domain → AreClean f.domain f.flow cs
+    (es : List Entry) → AreClean f.domain f.flow cs
     → IsByLan by_lan (entries_of (net_in f) cs) → es ≡ held_entries by_lan
-    → ((l : ℕ) → l < length f.domain.topology.lans → serves (net_in f) by_lan l ≡ true)
-    → IsAccepted (net_in f) es
-accepted-by_lan f cs by_lan es ok clean is held each =
-    made-accepted f.domain f.flow cs es clean (reordered-by_lan f cs by_lan es clean is held)
-    (served-each (net_in f) (length f.domain.topology.lans) by_lan (entries_of (net_in f) cs) is
-    (λ l w. wanting-within f.domain f.flow l ok w) each)
+    → All (λ (e : Entry). serves (net_in f) e ≡ true) es → IsAccepted (net_in f) es
+accepted-by_lan f cs by_lan es clean is held all =
+    let made = reordered-by_lan f cs by_lan es clean is held in
+    made-accepted f.domain f.flow cs es clean made
+    (served-each (net_in f) cs es made clean.reached all)
 
 -- and where one isn't, the travel at the flow's TTL finds a fault
-pub fault-by_lan : (f : FlowIn) (cs : List Copy) (by_lan : List (Option Entry)) → IsFlowIn f
-    → AreClean f.domain f.flow cs → IsByLan by_lan (entries_of (net_in f) cs)
-    → (l : ℕ) × (serves (net_in f) by_lan l ≡ false)
+pub fault-by_lan : (f : FlowIn) (cs : List Copy) (by_lan : List (Option Entry)) (es : List Entry)
+    → IsFlowIn f → AreClean f.domain f.flow cs → IsByLan by_lan (entries_of (net_in f) cs)
+    → es ≡ held_entries by_lan → (e : Entry) × In e es × (serves (net_in f) e ≡ false)
     → (t : Travel) → IsTravelOfFirst f.domain f.flow (net_in f).ttl t → FindsFault t
-fault-by_lan f cs by_lan rules clean is low t travel =
+fault-by_lan f cs by_lan es rules clean is held low t travel =
     fault-at_least f.domain f.flow cs t rules.domain rules.flow clean
-    (served-not (net_in f) by_lan (entries_of (net_in f) cs) low.0 is clean.tree.one_entry low.1)
-    travel
+    (served-not (net_in f) cs es (reordered-by_lan f cs by_lan es clean is held) low.0
+    clean.tree.one_entry low.1 low.2) travel

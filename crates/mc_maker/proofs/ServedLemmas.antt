@@ -1,49 +1,69 @@
--- Whether each wanting LAN is served, by the entries of the LANs.
-use Rattle.std.proofs.Common.{◌≡◌, ℕ, ◌<◌, ◌≤◌, Bool, true, false, not, ◌||◌, nat_le, List, map}
-use Rattle.std.proofs.Common.{Option, Some, None, refl, ap, sym, subst, ◌∙◌, arith}
+-- Whether each wanting LAN is served, by the entries of the copies.
+use Rattle.std.proofs.Common.{◌≡◌, ℕ, Bool, true, false, not, ◌||◌, nat_le, All, inl, inr, List, []}
+use Rattle.std.proofs.Common.{◌∷◌, ◌++◌, map, refl, ap, ◌∙◌, arith}
 use Rattle.std.proofs.lemmas.Bool.{leb-true, leb-false}
 use Rattle.mc_theory.specs.Lists.{In, Distinct}
-use Rattle.mc_theory.specs.Nets.{Net, WantsBelow}
-use Rattle.mc_theory.specs.Certificates.{Entry, IsServed}
-use Rattle.mc_theory.specs.Reasons.{entry_on}
-use Rattle.mc_theory.proofs.Judged.{entry-in}
-use Rattle.mc_forward.specs.PerLan.{held}
-use Rattle.mc_forward.proofs.FirstLemmas.{first-entry}
-use Rattle.mc_maker.specs.ByLan.{IsByLan, meets_need, serves}
-use Rattle.mc_maker.proofs.ListedLemmas.{on-found}
+use Rattle.mc_theory.specs.Nets.{Net}
+use Rattle.mc_theory.specs.Flights.{Copy}
+use Rattle.mc_theory.specs.Certificates.{Entry, IsReordering, IsServed, lans}
+use Rattle.mc_theory.specs.Made.{entry_after, entries_after, entries_of}
+use Rattle.mc_theory.proofs.InLists.{in-map_cases, in-push, same-by_image}
+use Rattle.mc_maker.specs.ByLan.{serves}
+use Rattle.mc_maker.proofs.FilledLemmas.{all-in, in-later}
 
--- what is served of a LAN that wants the flow
-wanted : (w m : Bool) → w ≡ true → (not w || m) ≡ m
-wanted true m e = refl
-wanted false m e = absurd cc
+-- ---- the entry of a LAN that carried a copy
 
-unserved : (w m : Bool) → (not w || m) ≡ false → (w ≡ true) × (m ≡ false)
-unserved true m e = (refl, e)
-unserved false m e = absurd cc
+entry-for : (n : Net) (es : List Entry) (cs : List Copy) (c : Copy) → In c cs
+    → (e : Entry) × In e (entries_after n es cs) × (e.lan ≡ c.lan)
+entry-for n es [] c h = absurd h
+entry-for n es (x ∷ cs) c (inl q) = (
+  entry_after n es x,
+  in-later n (es ++ entry_after n es x ∷ []) cs (entry_after n es x)
+      (in-push es (entry_after n es x)),
+  ap (λ (y : Copy). y.lan) q,
+)
+entry-for n es (x ∷ cs) c (inr h) = entry-for n (es ++ entry_after n es x ∷ []) cs c h
 
-served-by : (n : Net) (es : List Entry) (l : ℕ) (o : Option Entry) → o ≡ entry_on es l
-    → meets_need n o ≡ true → (e : Entry) × In e es × (e.lan ≡ l) × (e.need ≤ n.ttl)
-served-by n es l None q met = absurd cc
-served-by n es l (Some e) q met = let found = on-found es l e
-    (sym q) in (e, found.0, found.1, leb-true e.need n.ttl met)
+lan-entry : (n : Net) (cs : List Copy) (l : ℕ) → In l (lans cs)
+    → (e : Entry) × In e (entries_of n cs) × (e.lan ≡ l)
+lan-entry n cs l h =
+    let c = in-map_cases (λ (x : Copy). x.lan) l cs h in
+    let e = entry-for n [] cs c.0 c.1 in (e.0, e.1, e.2 ∙ c.2)
 
-pub served-each : (n : Net) (count : ℕ) (by_lan : List (Option Entry)) (es : List Entry)
-    → IsByLan by_lan es → WantsBelow n count
-    → ((l : ℕ) → l < count → serves n by_lan l ≡ true) → IsServed n es
-served-each n count by_lan es is small each l w =
-    let met : meets_need n (held by_lan l) ≡ true =
-    sym (wanted (n.wants l) (meets_need n (held by_lan l)) w)
-    ∙ each l (small l w) in
-    served-by n es l (held by_lan l) (is l ∙ first-entry es l) met
+-- ---- what is served
 
-pub served-not : (n : Net) (by_lan : List (Option Entry)) (es : List Entry) (l : ℕ)
-    → IsByLan by_lan es → Distinct (map (λ (e : Entry). e.lan) es)
-    → serves n by_lan l ≡ false → ¬ IsServed n es
-served-not n by_lan es l is once low served =
-    let un = unserved (n.wants l) (meets_need n (held by_lan l)) low in
-    let s = served l un.0 in
-    let at : held by_lan l ≡ Some s.0 = (is l ∙ first-entry es l)
-    ∙ subst (λ (k : ℕ). entry_on es k ≡ Some s.0) s.2 (entry-in es s.0 once s.1) in
-    let short : nat_le s.0.need n.ttl ≡ false = sym (ap (meets_need n) at) ∙ un.1 in
-    let lt = leb-false s.0.need n.ttl short in
-    absurd (omega (arith, lt, s.3))
+met : (m w : Bool) → w ≡ true → (m || not w) ≡ true → m ≡ true
+met true w q e = refl
+met false true q e = absurd cc
+met false false q e = absurd cc
+
+unmet : (m w : Bool) → (m || not w) ≡ false → (m ≡ false) × (w ≡ true)
+unmet true w e = absurd cc
+unmet false true e = (refl, refl)
+unmet false false e = absurd cc
+
+module _ (n : Net) (cs : List Copy) (es : List Entry) (made : IsReordering (entries_of n cs) es)
+  where
+    pub served-each : ((l : ℕ) → n.wants l ≡ true → In l (lans cs))
+        → All (λ (e : Entry). serves n e ≡ true) es → IsServed n (entries_of n cs)
+    served-each reached all l w =
+        let e = lan-entry n cs l (reached l w) in
+        let wanted : n.wants e.0.lan ≡ true = ap n.wants e.2 ∙ w in
+        let good = all-in (λ (x : Entry). serves n x ≡ true) es all e.0 (made.to e.0 e.1) in (
+          e.0,
+          e.1,
+          e.2,
+          leb-true e.0.need n.ttl (met (nat_le e.0.need n.ttl) (n.wants e.0.lan) wanted good),
+        )
+
+    pub served-not : (e : Entry) → Distinct (map (λ (x : Entry). x.lan) (entries_of n cs)) → In e es
+        → serves n e ≡ false → ¬ IsServed n (entries_of n cs)
+    served-not e once h low served =
+        let un = unmet (nat_le e.need n.ttl) (n.wants e.lan) low in
+        let s = served e.lan un.1 in
+        let same : s.0 ≡ e = same-by_image (λ (x : Entry). x.lan) s.0 e (entries_of n cs) once s.1
+        (made.from e h) s.2 in
+        let short : nat_le s.0.need n.ttl ≡ false =
+        ap (λ (x : Entry). nat_le x.need n.ttl) same ∙ un.0 in
+        let lt = leb-false s.0.need n.ttl short in
+        absurd (omega (arith, lt, s.3))

@@ -1,5 +1,5 @@
 -- The entry of each LAN, by the LAN's number.
-use Rattle.std.specs.Prelude.{ℕ, ◌-◌, Bool, false, not, ◌||◌, nat_le, List, [], ◌∷◌, Option}
+use Rattle.std.specs.Prelude.{ℕ, ◌-◌, Bool, not, ◌||◌, nat_le, List, [], ◌∷◌, Option}
 use Rattle.std.specs.Prelude.{Some, None}
 use Rattle.mc_theory.specs.Nets.{Net, Interface}
 use Rattle.mc_theory.specs.Flights.{Copy}
@@ -38,11 +38,6 @@ entry_by n by_lan c = record {
   forwarder = c.sender;
 }
 
--- an entry with a need that all packets of the flow meet
-abbrev pub meets_need : Net → Option Entry → Bool
-meets_need n None = false
-meets_need n (Some e) = nat_le e.need n.ttl
-
--- a LAN that wants the flow has such an entry
-abbrev pub serves : Net → List (Option Entry) → ℕ → Bool
-serves n by_lan lan = not (n.wants lan) || meets_need n (held by_lan lan)
+-- all packets of the flow meet the entry's need, or its LAN doesn't want the flow
+abbrev pub serves : Net → Entry → Bool
+serves n e = nat_le e.need n.ttl || not (n.wants e.lan)

@@ -1,7 +1,8 @@
 -- What an examination of a flow says.
 use Rattle.std.specs.Prelude.{◌≡◌, ◌≢◌, ℕ, Bool, true, false, List, [], ⊤}
 use Rattle.mc_theory.specs.Flights.{Flight}
-use Rattle.mc_theory.specs.Certificates.{Entry, IsReordering}
+use Rattle.mc_theory.specs.Lists.{In}
+use Rattle.mc_theory.specs.Certificates.{Entry, IsReordering, lans}
 use Rattle.mc_theory.specs.Findings.{Choices}
 use Rattle.mc_theory.specs.Findings.Finding.{Clean}
 use Rattle.mc_theory.specs.Made.{entries_of}
@@ -15,11 +16,12 @@ use Rattle.std.specs.Prelude.{◌<◌, ◌≤◌, All, IfSome, length}
 use Rattle.mc_theory.specs.Flights.{Copy}
 use Rattle.mc_theory.specs.Certificates.{IsTree}
 
--- The copies are of the domain's LANs and routers, and their entries meet all conditions of a
--- certificate but the last, with needs up to 255.
+-- The copies are of the domain's LANs and routers, each LAN that wants the flow carried one, and
+-- their entries meet all conditions of a certificate but the last, with needs up to 255.
 pub record AreClean (d : DomainValue) (flow : ℕ) (cs : List Copy) : Type 0 where
   pub tree : IsTree (net_of d flow) (entries_of (net_of d flow) cs)
   pub needs : All (λ e. e.need ≤ 255) (entries_of (net_of d flow) cs)
+  pub reached : (l : ℕ) → (net_of d flow).wants l ≡ true → In l (lans cs)
   pub lans : All (λ c. c.lan < length d.topology.lans) cs
   pub senders : All (λ c. IfSome c.sender (λ i. i.0 < length d.topology.routers)) cs
 

@@ -56,10 +56,10 @@ fn certificate_of(
         IsTravelOfFirst view.now.domain view.now.flow (net_in view.now).ttl travel → FindsFault travel)) }
 {
     let by_lan = entries_by_lan(alloc, view, copies)?;
-    if !serves_all(view, &by_lan) {
+    let entries = listed(alloc, &by_lan, copies.len())?;
+    if !serves_all(view, &entries) {
         return Ok(None);
     }
-    let entries = listed(alloc, &by_lan, copies.len())?;
     Ok(Some(entries))
 }
 

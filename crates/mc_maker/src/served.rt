@@ -1,38 +1,36 @@
-//! Whether the entries reach each LAN that wants the flow.
+//! Whether the entries serve each LAN that wants the flow.
 
-ghost use Rattle.std.specs.Prelude.{◌≡◌, ◌<◌, IsFalse, IsTrue, ℕ, false, length, true};
+ghost use Rattle.std.specs.Prelude.{◌≡◌, ◌<◌, All, IsFalse, IsTrue, false, length, true};
+ghost use Rattle.mc_theory.specs.Certificates.{Entry};
+ghost use Rattle.mc_theory.specs.Lists.{In};
 ghost use Rattle.mc_maker.specs.ByLan.{serves};
 ghost use Rattle.mc_forward.specs.Journeys.{IsFlowIn, net_in};
 
-use crate::entries::entry_at;
 use mc_cert::Reached;
-use mc_forward::{FlowView, PerLan};
-use mc_topology::LanNo;
+use mc_forward::FlowView;
 
-/// Whether a LAN that wants the flow is named, with a need that all its packets meet.
-fn serves(view: &FlowView<'_>, by_lan: &PerLan<Reached>, lan: LanNo) -> bool
-    requires { lan < length view.now.domain.topology.lans }
-    ensures { result ≡ serves (net_in view.now) by_lan.now lan }
+/// Whether all packets of the flow meet the need of an entry, if its LAN wants the flow.
+fn serves(view: &FlowView<'_>, entry: &Reached) -> bool
+    requires { entry.now.lan < length view.now.domain.topology.lans }
+    ensures { result ≡ serves (net_in view.now) entry.now }
 {
-    let reaches = match entry_at(by_lan, Some(lan)) {
-        Some(entry) => entry.need <= view.ttl(),
-        None => false,
-    };
-    !view.wants(lan) | reaches
+    entry.need <= view.ttl() || !view.wants(entry.lan)
 }
 
-/// Whether each LAN that wants the flow is. All LANs are asked, without a branch for each, since a
-/// processor doesn't foresee which of them want a flow.
-pub(crate) fn serves_all(view: &FlowView<'_>, by_lan: &PerLan<Reached>) -> bool
+/// Whether each LAN of these entries is served, if it wants the flow. Where a travel found nothing,
+/// each LAN that wants the flow has an entry.
+pub(crate) fn serves_all(view: &FlowView<'_>, entries: &[Reached]) -> bool
+    requires { All (λ e. e.lan < length view.now.domain.topology.lans) entries.now }
     ensures rules { IsFlowIn view.now }
-    ensures each { IsTrue result → (lan : ℕ) → lan < length view.now.domain.topology.lans →
-        serves (net_in view.now) by_lan.now lan ≡ true }
+    ensures each { IsTrue result → All (λ e. serves (net_in view.now) e ≡ true) entries.now }
     ensures some { IsFalse result →
-        (lan : ℕ) × (serves (net_in view.now) by_lan.now lan ≡ false) }
+        (e : Entry) × In e entries.now × (serves (net_in view.now) e ≡ false) }
 {
-    let mut all = true;
-    for number in 0..view.lans() {
-        all &= serves(view, by_lan, LanNo(number));
+    let _rules = view.topology();
+    for entry in entries {
+        if !serves(view, entry) {
+            return false;
+        }
     }
-    all
+    true
 }

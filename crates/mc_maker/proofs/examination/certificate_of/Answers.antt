@@ -1,19 +1,31 @@
-use Rattle.mc_maker.proofs.CleanLemmas.{made-listed, made-list}
+use Rattle.std.proofs.Common.{◌∙◌, List, subst}
+use Rattle.mc_theory.specs.Certificates.{Entry, IsAccepted}
+use Rattle.mc_forward.specs.Journeys.{net_in}
+use Rattle.mc_maker.proofs.CleanLemmas.{made-listed, made-list, made-within}
 use Rattle.mc_maker.proofs.ExaminedLemmas.{fault-by_lan, reordered-by_lan, ascends-by_lan}
 use Rattle.mc_maker.proofs.ExaminedLemmas.{accepted-by_lan}
 use Rattle.mc_maker.proofs.examination.certificate_of.Goals as goal
 
+pub serves_all-requires : goal.serves_all-requires
+serves_all-requires c =
+    made-within c.args.view.now.domain c.args.view.now.flow c.args.copies.now c.deref.result.now
+    c.requires (reordered-by_lan c.args.view.now c.args.copies.now c.in_ok-by_lan.by_lan
+    c.deref.result.now c.requires c.in_ok-by_lan.ensures
+    (c.deref.ensures.value ∙ c.in_ok-entries.ensures))
+
 pub returns-then-not-serves_all-clause-none : goal.returns-then-not-serves_all-clause-none
 returns-then-not-serves_all-clause-none c =
-    fault-by_lan c.args.view.now c.args.copies.now c.in_ok-by_lan.by_lan c.serves_all.ensures.rules
-    c.requires c.in_ok-by_lan.ensures (c.serves_all.ensures.some c.if-not-serves_all.true)
+    fault-by_lan c.args.view.now c.args.copies.now c.in_ok-by_lan.by_lan c.deref.result.now
+    c.serves_all.ensures.rules c.requires c.in_ok-by_lan.ensures
+    (c.deref.ensures.value ∙ c.in_ok-entries.ensures)
+    (c.serves_all.ensures.some c.if-not-serves_all.true)
 
 pub returns-clause-accepted : goal.returns-clause-accepted
 returns-clause-accepted c =
-    accepted-by_lan c.args.view.now c.args.copies.now c.in_ok-by_lan.by_lan
-    c.in_ok-entries.entries.items c.serves_all.ensures.rules.domain c.requires
-    c.in_ok-by_lan.ensures c.in_ok-entries.ensures
-    (c.serves_all.ensures.each c.if-not-serves_all.false)
+    subst (λ (es : List Entry). IsAccepted (net_in c.args.view.now) es) c.deref.ensures.value
+    (accepted-by_lan c.args.view.now c.args.copies.now c.in_ok-by_lan.by_lan c.deref.result.now
+    c.requires c.in_ok-by_lan.ensures (c.deref.ensures.value ∙ c.in_ok-entries.ensures)
+    (c.serves_all.ensures.each c.if-not-serves_all.false))
 
 pub returns-clause-ascending : goal.returns-clause-ascending
 returns-clause-ascending c =

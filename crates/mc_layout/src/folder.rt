@@ -1,12 +1,14 @@
 //! The files of a folder of the file system.
 
-ghost use Rattle.std.specs.Prelude.{◌≡◌, ◌≢◌, ◌<◌, ◌≤◌, ◌+◌, IfErr, IfOk, None, false, vec_len};
+ghost use Rattle.std.specs.Prelude.{◌≡◌, ◌≢◌, ◌<◌, ◌≤◌, ◌+◌, IfOk, None, cond, false, vec_len};
+ghost use Rattle.mc_layout.specs.Files.{is_failure};
 
 use crate::fault::FileFault;
 use crate::piece_source::PieceSource;
 use crate::source::FileSource;
+use crate::unread::Unread;
 use mc_text::{FromReader, ReadFault, read_to_limit};
-use std::alloc::Global;
+use std::alloc::{AllocError, Global};
 use std::fs;
 use std::io::Read;
 use std::marker::Model;
@@ -20,6 +22,7 @@ pub struct Folder<'a, R: Files> {
     folder: &'a str,
     file: Option<R::File>,
     failures: u64,
+    unread: Option<Unread>,
 }
 
 impl<'a, R: Files> Model for Folder<'a, R> {
@@ -36,6 +39,21 @@ impl<'a, R: Files> Model for Folder<'a, R> {
     } };
 }
 
+/// Why a file isn't opened.
+#[derive(Drop)]
+enum Unopened {
+    /// It can't be.
+    Unread(Unread),
+    /// Memory ran out.
+    Memory,
+}
+
+impl From<AllocError> for Unopened {
+    fn from(_refused: AllocError) -> Unopened {
+        Unopened::Memory
+    }
+}
+
 impl<'a, R: Files> Folder<'a, R> {
     /// A source over the folder, or over the present directory where its path is empty. No file is
     /// opened yet.
@@ -47,18 +65,44 @@ impl<'a, R: Files> Folder<'a, R> {
             folder,
             file: None,
             failures: 0,
+            unread: None,
         }
     }
 
-    /// A call fails.
-    fn fail(&mut self) -> FileFault
+    /// A call fails, since a file can't be read.
+    fn fail(&mut self, unread: Unread) -> FileFault
         requires { self.old.failed < u64.MAX }
         ensures state { self.new ≡ record self.old { failed = self.old.failed + 1 } }
         ensures fault { result ≡ FileFault.Failed }
     {
         self.failures += 1;
+        self.unread = Some(unread);
         FileFault::Failed
     }
+
+    /// A file isn't opened.
+    fn fail_to_open(&mut self, unopened: Unopened) -> FileFault
+        requires { self.old.failed < u64.MAX }
+        ensures state { self.new ≡ record self.old {
+          failed = cond (is_failure result) (self.old.failed + 1) self.old.failed;
+        } }
+        ensures fault { result ≢ FileFault.TooLarge }
+    {
+        match unopened {
+            Unopened::Unread(unread) => self.fail(unread),
+            Unopened::Memory => FileFault::Memory,
+        }
+    }
+}
+
+/// The regular file with this path, or the one that it links to, opened.
+fn regular_file<R: Files>(system: &R, path: Path<'_>) -> Result<R::File, Unread> {
+    match fs::metadata(system, path) {
+        Ok(found) if found.is_file() => {}
+        Ok(_) => return Err(Unread::NotRegular),
+        Err(error) => return Err(Unread::of(error)),
+    }
+    fs::open(system, path).map_err(Unread::of)
 }
 
 /// The file of a folder, opened. A name with a `/` in it is none of the folder's files.
@@ -67,30 +111,21 @@ fn file_in<R: Files>(
     system: &R,
     folder: &str,
     name: &str,
-) -> Result<R::File, FileFault>
-    ensures { IfErr result (λ fault. fault ≢ FileFault.TooLarge) }
-{
+) -> Result<R::File, Unopened> {
     if name.as_bytes().contains(&b'/') {
-        return Err(FileFault::Failed);
+        return Err(Unopened::Unread(Unread::NoSuchFile));
     }
     let path = Path::new(folder).join(alloc, name)?;
-    match fs::open(system, path.as_path()) {
+    match regular_file(system, path.as_path()) {
         Ok(file) => Ok(file),
-        Err(_) => Err(FileFault::Failed),
+        Err(unread) => Err(Unopened::Unread(unread)),
     }
 }
 
-/// The bytes of the file of a folder. No more is read of it than its limit and a byte.
-fn bytes_in<R: Files>(
-    alloc: Global,
-    system: &R,
-    folder: &str,
-    name: &str,
-    limit: usize,
-) -> Result<Vec<u8>, FileFault>
+/// The bytes of an open file. No more is read of it than the limit and a byte.
+fn bytes_in<R: Read + Drop>(alloc: Global, file: R, limit: usize) -> Result<Vec<u8>, FileFault>
     ensures bound { IfOk result (λ bytes. vec_len bytes ≤ limit) }
 {
-    let file = file_in(alloc, system, folder, name)?;
     let bytes = read_to_limit(alloc, &mut FromReader::new(file), limit.saturating_add(1))?;
     if bytes.len() > limit {
         return Err(FileFault::TooLarge);
@@ -104,11 +139,13 @@ impl<'a, R: Files> FileSource for Folder<'a, R> {
     ghost failed = { λ s. s.failed };
 
     fn read(&mut self, alloc: Global, name: &str, limit: usize) -> Result<Vec<u8>, FileFault> {
-        let answer = bytes_in(alloc, self.system, self.folder, name, limit);
-        if matches!(answer, Err(FileFault::Failed)) {
-            self.failures += 1;
+        match file_in(alloc, self.system, self.folder, name) {
+            Ok(file) => match bytes_in(alloc, file, limit) {
+                Err(FileFault::Failed) => Err(self.fail(Unread::Failed)),
+                answer => answer,
+            },
+            Err(unopened) => Err(self.fail_to_open(unopened)),
         }
-        answer
     }
 
     fn failures(&self) -> u64 {
@@ -128,8 +165,7 @@ impl<'a, R: Files> PieceSource for Folder<'a, R> {
                 self.file = Some(file);
                 Ok(())
             }
-            Err(FileFault::Failed) => Err(self.fail()),
-            Err(fault) => Err(fault),
+            Err(unopened) => Err(self.fail_to_open(unopened)),
         }
     }
 
@@ -139,11 +175,15 @@ impl<'a, R: Files> PieceSource for Folder<'a, R> {
         };
         match file.read(buffer) {
             Ok(count) => Ok(count),
-            Err(_) => Err(self.fail()),
+            Err(error) => Err(self.fail(Unread::of(error))),
         }
     }
 
     fn close(&mut self) {
         self.file = None;
+    }
+
+    fn unread(&self) -> Option<Unread> {
+        self.unread
     }
 }

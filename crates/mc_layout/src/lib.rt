@@ -14,6 +14,7 @@ mod packing;
 mod piece_source;
 mod slot;
 mod source;
+mod unread;
 
 pub use fault::{FileFault, PackFault};
 pub use file_part::{FilePart, part_of_file};
@@ -27,3 +28,4 @@ pub use packing::pack;
 pub use piece_source::PieceSource;
 pub use slot::{Slot, slot_at, slot_count};
 pub use source::FileSource;
+pub use unread::Unread;

@@ -6,6 +6,7 @@ ghost use Rattle.mc_layout.specs.Files.{file_named, file_text};
 use crate::fault::FileFault;
 use crate::piece_source::PieceSource;
 use crate::source::FileSource;
+use crate::unread::Unread;
 use std::alloc::Global;
 use std::marker::Model;
 
@@ -115,5 +116,9 @@ impl<'a> PieceSource for MapFiles<'a> {
 
     fn close(&mut self) {
         self.left = None;
+    }
+
+    fn unread(&self) -> Option<Unread> {
+        (self.failures > 0).then_some(Unread::NoSuchFile)
     }
 }

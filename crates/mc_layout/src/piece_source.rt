@@ -9,6 +9,7 @@ ghost use Rattle.mc_layout.specs.Files.{file_named, is_failure};
 
 use crate::fault::FileFault;
 use crate::source::FileSource;
+use crate::unread::Unread;
 use std::alloc::Global;
 
 /// What files are read from in pieces, one file at a time, by its name. Of these calls too
@@ -65,6 +66,9 @@ pub trait PieceSource: FileSource {
         ensures closed { is_open self.new ≡ false }
         ensures none { left self.new ≡ None }
         ensures failures { Self.failed self.new ≡ Self.failed self.old };
+
+    /// Why the last call that answered `Failed` did, for whoever has to mend it.
+    fn unread(&self) -> Option<Unread>;
 }
 
 impl<F: PieceSource> PieceSource for &mut F {
@@ -82,5 +86,9 @@ impl<F: PieceSource> PieceSource for &mut F {
 
     fn close(&mut self) {
         PieceSource::close(&mut **self)
+    }
+
+    fn unread(&self) -> Option<Unread> {
+        PieceSource::unread(&**self)
     }
 }

@@ -150,6 +150,16 @@ def run(program, table, words, text):
         return done.returncode, done.stdout.decode(), done.stderr.decode()
 
 
+def is_refusal(error, line, of_files):
+    """Whether standard error says the line, and behind it the same of the file, where files were read."""
+    first, *more = error.splitlines()
+    if not of_files:
+        return error == f"{line}\n"
+    file, _, fault = line.removeprefix("refused: ").partition(": ")
+    told = f"  {file.replace('/', '-')}: {fault}" if line.startswith("refused: ") and file != "bundle" else "  "
+    return first == line and bool(more) and more[0].startswith(told) and all(each.startswith("  ") for each in more)
+
+
 def fault_of(program, table, answer, words, text):
     """What is wrong with the program's answer to a row, or nothing."""
     line = table.line_of(answer)
@@ -157,7 +167,7 @@ def fault_of(program, table, answer, words, text):
     if status != status_of(line):
         return f"status {status}, not {status_of(line)}: {error or output}"
     if status in (2, 3):
-        is_right = (output, error) == ("", f"{line}\n")
+        is_right = output == "" and is_refusal(error, line, words.startswith("audit "))
     elif table.are_whole:
         is_right = (output, error) == (f"{answer}\n", "")
     else:

@@ -37,6 +37,7 @@ FILE_CUTS = 500  # no file of the folders that are tried has so many bytes
 NO_MEMORY = (4, b"", b"no memory\n")
 READ_FAILED = (3, b"", b"failed: read\n")
 GAVE_UP = re.compile(rb"error: .*(Memory|AllocError|AllocFailed).*\nthe test failed: its result gives status 1\n\Z")
+REFUSED_FILES = f"{TOP}/tests/cli/cases/audit_file_before_the_next_one/folder"
 ABOUT_MEMORY = re.compile(r"\b(memory|pieces)::|refused_growth")  # what the tests that are run are called
 
 
@@ -101,6 +102,17 @@ class Tried:
         if self.is_allowed(found, allowed):
             return None
         return f"{' '.join(self.whole[1:])}: {name}={value}: {found[0]} {found[1][:80]} {found[2][:80]}"
+
+
+class TriedRefusal(Tried):
+    """A run that refuses files: without memory it may tell less of them, or that it has none."""
+
+    def refusals(self):
+        status, _, error = self.answer
+        first = error[: error.index(b"\n") + 1]
+        for name in ("REFUSE_GROWTH", "REFUSE_FROM"):
+            for growth in range(1, self.growths + 1):
+                yield name, growth, (self.answer, NO_MEMORY, (status, b"", first))
 
 
 class TriedTest(Tried):
@@ -181,6 +193,7 @@ def tries(program, programs_of_tests, library):
     """Yields each run that is tried, of the program and of its tests."""
     for run in runs_of(program):
         yield Tried(program, library, *run)
+    yield TriedRefusal(program, library, ["audit", REFUSED_FILES], None)
     for tests in programs_of_tests:
         yield from tests_about_memory(tests, library)
 

@@ -5,6 +5,7 @@
 mod bundle;
 mod bundle_part;
 mod domain;
+mod each_file;
 mod fault;
 mod file_part;
 mod files;
@@ -16,6 +17,7 @@ mod table_part;
 mod told;
 
 pub use domain::{DomainRead, domain_in, domain_of};
+pub use each_file::{Refusal, RefusedFile, refused_files};
 pub use fault::InputFault;
 pub use laws::{
     files_stand_for_one_input, packed_files_stand_for_their_input, texts_stand_for_one_input,

@@ -9,7 +9,9 @@ mod failure;
 use failure::Failure;
 use mc_layout::Folder;
 use mc_replay::{First, Last, Picker};
-use mc_run::{RunFault, run_audit, run_check, run_make, run_pack, run_replay, run_wants};
+use mc_run::{
+    RunFault, refusal_lines, run_audit, run_check, run_make, run_pack, run_replay, run_wants,
+};
 use mc_text::{Addr, FromReader, ToWriter};
 use mc_words::{Task, borrowed, command_of, words_of};
 use std::env::Env;
@@ -118,16 +120,64 @@ fn run(rt: &(impl AllocGlobal + Files + Input + Print), task: Task<'_>) -> Resul
     }
 }
 
-/// Does the task that the words ask for.
-fn run_words(
-    rt: &(impl Env + AllocGlobal + Files + Input + Print),
-    words: &[&str],
-) -> Result<bool, Failure> {
-    let task = command_of(rt.alloc(), words)?;
-    Ok(run(rt, task)?)
+/// Ends with the status of an answer. What gives none is told on standard error.
+fn end(rt: &impl Eprint, answer: Result<bool, Failure>) -> ExitCode {
+    match answer {
+        Ok(true) => ExitCode::SUCCESS,
+        Ok(false) => ExitCode::from(1),
+        Err(failure) => {
+            let _ = eprintln!(rt; "{failure}");
+            ExitCode::from(failure.status())
+        }
+    }
 }
 
-fn try_main(rt: &(impl Env + AllocGlobal + Files + Input + Print)) -> Result<bool, Failure> {
+/// Tells on standard error which files of a folder are refused, and where. Where memory runs out,
+/// nothing more is told.
+fn tell_refused_files(rt: &(impl AllocGlobal + Files + Eprint), folder: &str) {
+    let mut files = Folder::new(rt, folder);
+    if let Ok(lines) = refusal_lines(rt.alloc(), &mut files) {
+        let _ = eprint!(rt; "{lines}");
+    }
+}
+
+/// The folder that is audited, if the task is that.
+fn folder_of_audit<'a>(task: &Task<'a>) -> Option<&'a str> {
+    match task {
+        Task::Audit { folder, .. } => Some(*folder),
+        _ => None,
+    }
+}
+
+/// Whether no answer is given for what was read, or for what couldn't be.
+fn is_of_input(answer: &Result<bool, RunFault>) -> bool {
+    match answer {
+        Ok(_) | Err(RunFault::Write | RunFault::Memory) => false,
+        Err(_) => true,
+    }
+}
+
+/// Does the task that the words ask for.
+fn run_words<'a>(
+    rt: &(impl Env + AllocGlobal + Files + Input + Print + Eprint),
+    words: &'a [&'a str],
+) -> Result<ExitCode, Failure> {
+    let task = command_of(rt.alloc(), words)?;
+    let audited = folder_of_audit(&task);
+    let answer = run(rt, task);
+    let is_refused = is_of_input(&answer);
+    let code = end(rt, answer.map_err(Failure::from));
+    if let Some(folder) = audited {
+        if is_refused {
+            tell_refused_files(rt, folder);
+        }
+    }
+    Ok(code)
+}
+
+fn try_main(
+    rt: &(impl Env + AllocGlobal + Files + Input + Print + Eprint),
+) -> Result<ExitCode, Failure> {
     let words = words_of(rt)?;
     let words = borrowed(rt.alloc(), &words)?;
     run_words(rt, &words)
@@ -135,11 +185,7 @@ fn try_main(rt: &(impl Env + AllocGlobal + Files + Input + Print)) -> Result<boo
 
 fn main(rt: HostRuntime) -> ExitCode {
     match try_main(&rt) {
-        Ok(true) => ExitCode::SUCCESS,
-        Ok(false) => ExitCode::from(1),
-        Err(failure) => {
-            let _ = eprintln!(rt; "{failure}");
-            ExitCode::from(failure.status())
-        }
+        Ok(code) => code,
+        Err(failure) => end(&rt, Err(failure)),
     }
 }

@@ -9,13 +9,17 @@ use Rattle.mc_text.specs.Steps.{◌>>=◌, refused_as}
 use Rattle.mc_text.specs.Lines.{max_text}
 use Rattle.mc_text.specs.declared.text.addr.Order.{Order}
 use Rattle.mc_tables.specs.CacheReading.{cache_in}
-use Rattle.mc_tables.specs.CacheTable.{CacheText}
+use Rattle.mc_tables.specs.CacheTable.{CacheText, key_cmp}
 use Rattle.mc_tables.specs.ListedRows.{IsListedPart, listed_in}
-use Rattle.mc_tables.specs.RowsSoFar.{CacheSoFar, cache_if}
+use Rattle.mc_tables.specs.RowsSoFar.{CacheSoFar, cache_if, no_cache, nothing_so_far}
 use Rattle.mc_tables.specs.declared.fault.TableFault.{TableFault}
+use Rattle.mc_tables.proofs.ListedPairLemmas.{same_set}
 use Rattle.mc_tables.proofs.ListedPartLemmas.{listed_part, listed_fault}
+use Rattle.mc_tables.proofs.RowsSoFarLemmas.{reads_whole}
 use Rattle.mc_topology.specs.Topology.{TopologyValue}
 use Rattle.mc_layout.specs.Layout.{slots}
+use Rattle.std.specs.FinSet as set
+use Rattle.mc_domain.specs.Kept.{AreSamePairs}
 use Rattle.mc_domain.specs.PartsInTurn.{IsAt, IsToldOf, Refuses, Tells, coming, once_named, names_from}
 use Rattle.mc_domain.specs.PartsInTurn.{of_first}
 use Rattle.mc_domain.specs.PartsReading.{cache_of}
@@ -136,6 +140,27 @@ listed_is order pairs name bytes (Err own) (Err fault) e is = by own is
         (refused_as (input.Cache name) (cache_in order bytes))
     by input.Memory is = tt
     by other is = ap (refused_as (input.Cache name)) ((listed_fault order (Some pairs) bytes fault).0 e) ∙ is
+
+-- a reader that keeps the rows of these sources and groups keeps those of the same in another order
+pub starts_same : (order : Order) (listed pairs : List (ℕ × ℕ)) (reader : CacheSoFar)
+    → reader ≡ no_cache order (Some listed) → AreSamePairs listed pairs
+    → reader ≡ no_cache order (Some pairs)
+starts_same order listed pairs reader start same =
+    start ∙ ap (λ (s : set.FinSet key_cmp). nothing_so_far order (Some s)) (same_set listed pairs same)
+
+-- the order of its router's machine is its own
+pub own_order : (order : Order) (pairs : List (ℕ × ℕ)) (reader : CacheSoFar)
+    → reader ≡ no_cache order (Some pairs) → reader ≡ no_cache reader.rows.order (Some pairs)
+own_order order pairs reader start =
+    start ∙ ap (λ (o : Order). no_cache o (Some pairs))
+    (sym (ap (λ (s : CacheSoFar). s.rows.order) start))
+
+-- and reads a text so
+pub reads_flows : (order : Order) (pairs : List (ℕ × ℕ)) (reader : CacheSoFar)
+    → reader ≡ no_cache order (Some pairs) → (text : List ℕ) → length text ≤ max_text
+    → cache_if reader text ≡ listed_in order (Some pairs) text
+reads_flows order pairs reader start text small =
+    ap (λ (s : CacheSoFar). cache_if s text) start ∙ reads_whole order (Some pairs) text small
 
 pub listed_told : (order : Order) (pairs : List (ℕ × ℕ)) (certified : Bool) (t : TopologyValue)
     (n : ℕ) (s new : PartsState) (reader : CacheSoFar) (told : Result CacheText InputFault)

@@ -1,15 +1,24 @@
 -- What is kept of a domain's texts: of the tables what they say of the flows, and which LAN wants
 -- which flow.
-use Rattle.std.specs.Prelude.{◌≡◌, Bool, List, Option, Some, Result, Ok, Err}
+use Rattle.std.specs.Prelude.{◌≡◌, ◌↔◌, ℕ, Bool, Contains, List, Option, Some, Result, Ok, Err}
 use Rattle.mc_igmp.specs.declared.record.Record.{Record}
 use Rattle.mc_layout.specs.Files.{FileText}
 use Rattle.mc_topology.specs.Topology.{TopologyValue}
+use Rattle.mc_topology.specs.declared.flow.Flow.{Flow}
 use Rattle.mc_forward.specs.Assembling.{AreWanted}
 use Rattle.mc_forward.specs.Domains.{DomainValue, TablesValue}
-use Rattle.mc_forward.specs.ListedTables.{AreListed, Pairwise}
+use Rattle.mc_forward.specs.ListedTables.{AreListed, Pairwise, flow_pairs}
 use Rattle.mc_domain.specs.Input.{InputValue}
 use Rattle.mc_domain.specs.SourceFault.{IsSilent}
 use Rattle.mc_domain.specs.declared.source_fault.SourceFault.{SourceFault}
+
+-- these are the sources and groups of the other list, in any order
+abbrev pub AreSamePairs : List (ℕ × ℕ) → List (ℕ × ℕ) → Type 0
+AreSamePairs pairs others = (pair : ℕ × ℕ) → Contains pairs pair ↔ Contains others pair
+
+-- these are the sources and groups of the flows
+abbrev pub AreFlowPairs : List Flow → List (ℕ × ℕ) → Type 0
+AreFlowPairs flows pairs = AreSamePairs pairs (flow_pairs flows)
 
 -- these LANs' reports want these flows
 abbrev pub AreWantedBy : TopologyValue → List (List Record) → List (List Bool) → Type 0

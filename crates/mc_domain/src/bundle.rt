@@ -8,7 +8,7 @@ ghost use Rattle.mc_forward.specs.Assembling.{AreAnswers};
 ghost use Rattle.mc_forward.specs.Domains.{TablesValue};
 ghost use Rattle.mc_domain.specs.Input.{InputValue};
 ghost use Rattle.mc_domain.specs.InputView.{text_seen};
-ghost use Rattle.mc_domain.specs.Kept.{IsListedOf};
+ghost use Rattle.mc_domain.specs.Kept.{AreFlowPairs, IsListedOf};
 ghost use Rattle.mc_domain.specs.PartsInTurn.{Refuses, TakesAllTables, TakesReports, TakesTables};
 ghost use Rattle.mc_domain.specs.PartsInTurn.{coming, once_named, last_number, last_then, reports_then};
 ghost use Rattle.mc_domain.specs.PartsInTurn.{tables_then};
@@ -18,8 +18,10 @@ ghost use Rattle.mc_domain.specs.SourceFault.{is_read};
 use crate::bundle_part::{cache_in, certificate_in, vifs_in, wanted_in};
 use crate::slot_part::read_on;
 use crate::source_fault::SourceFault;
+use crate::told::listed_flows;
 use mc_forward::{FlowChannels, Items, Tables};
 use mc_layout::slot_count;
+use mc_tables::{CacheReader, ListedPairs};
 use mc_text::{Input, Parts};
 use mc_topology::{RouterNo, Topology};
 use std::alloc::Global;
@@ -35,19 +37,19 @@ pub(crate) struct Listed {
     pub(crate) certificate: Option<Vec<u8>>,
 }
 
-/// Both tables of a router, in the part of the slot with a number and the next.
+/// Both tables of a router, in the parts of two slots.
 fn tables_of<R: Input>(
     alloc: Global,
     parts: &mut Parts<R>,
     buffer: &mut [u8],
     topology: &Topology,
     certified: bool,
+    listed: &ListedPairs,
     router: u32,
-    number: u32,
 ) -> Result<Tables, SourceFault>
+    requires listed { AreFlowPairs topology.now.flows listed.now }
     requires router { router < length topology.now.routers }
-    requires number { number ≡ 1 + 2 * router }
-    requires few { number + 1 < u32.MAX }
+    requires few { 2 + 2 * router < u32.MAX }
     requires room { 0 < length buffer.old }
     requires failures { parts.old.failed < u64.MAX }
     ensures tables { IfOk result
@@ -58,9 +60,11 @@ fn tables_of<R: Input>(
     ensures goes_on { GoesOn parts.old parts.new }
     ensures failures { parts.new.failed ≡ counted is_read result parts.old.failed }
 {
+    let number = 1 + 2 * router;
     let order = topology.order(RouterNo(router));
+    let reader = CacheReader::new(alloc, order, listed.clone()?);
     let vifs = vifs_in(alloc, parts, buffer, topology, certified, number)?;
-    let cache = cache_in(alloc, parts, buffer, topology, certified, number + 1, order)?;
+    let cache = cache_in(parts, buffer, topology, certified, number + 1, reader)?;
     Ok(Tables { vifs, cache })
 }
 
@@ -82,10 +86,10 @@ fn tables_in<R: Input>(
     ensures goes_on { GoesOn parts.old parts.new }
     ensures failures { parts.new.failed ≡ counted is_read result parts.old.failed }
 {
+    let listed = listed_flows(alloc, topology)?;
     let mut tables = Vec::new(alloc);
     for router in 0..topology.routers() {
-        let number = 1 + 2 * router;
-        tables.push(tables_of(alloc, parts, buffer, topology, certified, router, number)?)?;
+        tables.push(tables_of(alloc, parts, buffer, topology, certified, &listed, router)?)?;
     }
     Ok(tables)
 }

@@ -7,7 +7,7 @@ ghost use Rattle.mc_text.specs.Device.{counted};
 ghost use Rattle.mc_text.specs.PartsToCome.{GoesOn, Passes};
 ghost use Rattle.mc_text.specs.Steps.{refused_as};
 ghost use Rattle.mc_tables.specs.ListedRows.{IsListedPart};
-ghost use Rattle.mc_tables.specs.RowsSoFar.{cache_if};
+ghost use Rattle.mc_tables.specs.RowsSoFar.{cache_if, no_cache};
 ghost use Rattle.mc_text.specs.Lines.{max_text};
 ghost use Rattle.mc_layout.specs.Layout.{part_name, slots, topology_slot};
 ghost use Rattle.mc_forward.specs.Assembling.{AreChannelsWanted};
@@ -25,11 +25,11 @@ use crate::fault::InputFault;
 use crate::slot_part::{open_named, open_slot, read_on, read_to_end};
 use crate::source_fault::SourceFault;
 use crate::table_part::feed_part;
-use crate::told::{cache_told, reader_of_flows, topology_of, vifs_told, wanted_of};
+use crate::told::{cache_told, topology_of, vifs_told, wanted_of};
 use mc_forward::{FlowChannels, Items};
 use mc_layout::Slot;
 use mc_tables::{CacheReader, CacheTable, VifReader, VifTable};
-use mc_text::{Input, Order, Part, Parts, collect_part};
+use mc_text::{Input, Part, Parts, collect_part};
 use mc_topology::Topology;
 use std::alloc::Global;
 
@@ -145,29 +145,28 @@ fn read_cache<R: Input>(
     Ok(cache_told(parts.name(), reader.finish()))
 }
 
-/// The forwarding cache of a router of this byte order, in the part of the slot with a number, of
-/// which the rows of listed flows are kept.
+/// The forwarding cache of a router, in the part of the slot with a number, of which this reader
+/// keeps the rows of listed flows.
 pub(crate) fn cache_in<R: Input>(
-    alloc: Global,
     parts: &mut Parts<R>,
     buffer: &mut [u8],
     topology: &Topology,
     certified: bool,
     number: u32,
-    order: Order,
+    reader: CacheReader,
 ) -> Result<CacheTable, SourceFault>
     requires within { number < length (slots certified topology.now) }
     requires few { number < u32.MAX }
     requires room { 0 < length buffer.old }
+    requires reader { reader ≡ no_cache reader.rows.order (Some (flow_pairs topology.now.flows)) }
     requires failures { parts.old.failed < u64.MAX }
     ensures cache { IfOk result (λ kept. Tells parts.old parts.new certified topology.now number
-        (told_cache order) (IsListedPart (Some (flow_pairs topology.now.flows)) kept)) }
+        (told_cache reader.rows.order) (IsListedPart (Some (flow_pairs topology.now.flows)) kept)) }
     ensures fault { IfErr result (Refuses parts.old
-        (once_named certified topology.now number (of_first (told_cache order)))) }
+        (once_named certified topology.now number (of_first (told_cache reader.rows.order)))) }
     ensures goes_on { GoesOn parts.old parts.new }
     ensures failures { parts.new.failed ≡ counted is_read result parts.old.failed }
 {
-    let reader = reader_of_flows(alloc, topology, order)?;
     let told = read_cache(parts, buffer, topology, certified, number, reader)?;
     kept(parts, topology, certified, number + 1, told)
 }

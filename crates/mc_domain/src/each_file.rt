@@ -7,9 +7,11 @@ ghost use Rattle.mc_topology.specs.Names.{is_name};
 use crate::fault::InputFault;
 use crate::file_part::{cache_in, topology_in, vifs_in, wanted_in};
 use crate::source_fault::SourceFault;
+use crate::told::listed_flows;
 use mc_forward::FlowChannels;
 use mc_layout::{PieceSource, Slot, Unread, may_be_asked};
-use mc_text::Memory;
+use mc_tables::ListedPairs;
+use mc_text::{Memory, Order};
 use mc_topology::{LanNo, RouterNo, Topology};
 use std::alloc::Global;
 
@@ -89,25 +91,24 @@ fn judge_vifs<F: PieceSource>(
     put(alloc, files, &Slot::vifs(router), fault, refused)
 }
 
-/// Judges the forwarding cache of a router.
+/// Judges the forwarding cache of a router, whose machine has this byte order.
 fn judge_cache<F: PieceSource>(
     alloc: Global,
     files: &mut F,
     buffer: &mut [u8],
-    topology: &Topology,
-    router: RouterNo,
+    listed: &ListedPairs,
+    router: &str,
+    order: Order,
     refused: &mut Vec<RefusedFile>,
 ) -> Result<(), Memory>
-    requires router { router < length topology.now.routers }
+    requires name { IsTrue (is_name router.now) }
     requires room { 0 < length buffer.old }
 {
     if !may_be_asked(files) {
         return Ok(());
     }
-    let name = topology.router_name(router);
-    let order = topology.order(router);
-    let fault = cache_in(alloc, files, buffer, topology, name, order).err();
-    put(alloc, files, &Slot::cache(name), fault, refused)
+    let fault = cache_in(alloc, files, buffer, listed, router, order).err();
+    put(alloc, files, &Slot::cache(router), fault, refused)
 }
 
 /// Judges the reports of a LAN.
@@ -137,10 +138,12 @@ fn judge_routers<F: PieceSource>(
 ) -> Result<(), Memory>
     requires room { 0 < length buffer.old }
 {
-    for number in 0..topology.routers() {
-        let router = RouterNo(number);
-        judge_vifs(alloc, files, buffer, topology.router_name(router), refused)?;
-        judge_cache(alloc, files, buffer, topology, router, refused)?;
+    let listed = listed_flows(alloc, topology)?;
+    for router in 0..topology.routers() {
+        let name = topology.router_name(RouterNo(router));
+        let order = topology.order(RouterNo(router));
+        judge_vifs(alloc, files, buffer, name, refused)?;
+        judge_cache(alloc, files, buffer, &listed, name, order, refused)?;
     }
     Ok(())
 }

@@ -2,22 +2,25 @@
 //! before the next one is asked for, its text is let go, and of a table the rows of listed flows are
 //! kept.
 
-ghost use Rattle.std.specs.Prelude.{◌≡◌, ◌<◌, ℕ, IfOk, IsTrue, length};
+ghost use Rattle.std.specs.Prelude.{◌≡◌, ◌<◌, ℕ, List, IfOk, IsTrue, length};
 ghost use Rattle.mc_text.specs.Device.{counted};
 ghost use Rattle.mc_topology.specs.Names.{is_name};
+ghost use Rattle.mc_topology.specs.declared.flow.Flow.{Flow};
 ghost use Rattle.mc_forward.specs.Assembling.{AreAnswers};
 ghost use Rattle.mc_forward.specs.ListedTables.{AreListed, AreListedTables};
 ghost use Rattle.mc_domain.specs.SourceFault.{is_read};
 ghost use Rattle.mc_domain.specs.FilesReading.{part_filed};
-ghost use Rattle.mc_domain.specs.Kept.{AreWantedBy, IsListedOf, GivesKeptOf};
+ghost use Rattle.mc_domain.specs.Kept.{AreFlowPairs, AreWantedBy, IsListedOf, GivesKeptOf};
 ghost use Rattle.mc_domain.specs.PartsReading.{all_reports, all_tables, contents, lans_number};
 ghost use Rattle.mc_domain.specs.PartsReading.{router_tables};
 ghost use Rattle.mc_domain.specs.declared.source_fault.SourceFault.TheVariants.{Input};
 
 use crate::file_part::{cache_in, vifs_in, wanted_in};
 use crate::source_fault::SourceFault;
+use crate::told::listed_flows;
 use mc_forward::{FlowChannels, Items, Tables};
 use mc_layout::{FileSource, PieceSource};
+use mc_tables::ListedPairs;
 use mc_text::Order;
 use mc_topology::{LanNo, RouterNo, Topology};
 use std::alloc::Global;
@@ -27,7 +30,7 @@ fn tables_of<F: PieceSource>(
     alloc: Global,
     files: &mut F,
     buffer: &mut [u8],
-    topology: &Topology,
+    listed: &ListedPairs,
     router: &str,
     order: Order,
 ) -> Result<Tables, SourceFault>
@@ -36,12 +39,13 @@ fn tables_of<F: PieceSource>(
     requires reads { F.failed files.old < u64.MAX }
     ensures same { F.names files.new ≡ F.names files.old }
     ensures kept { F.told files.new ≡ F.told files.old }
-    ensures tables { (n : ℕ) → GivesKeptOf (F.told files.old) (AreListedTables topology.now.flows) result
+    ensures tables { (n : ℕ) (flows : List Flow) → AreFlowPairs flows listed.now →
+        GivesKeptOf (F.told files.old) (AreListedTables flows) result
         (λ told. router_tables Input (part_filed told) n router.now order) }
     ensures failures { F.failed files.new ≡ counted is_read result (F.failed files.old) }
 {
     let vifs = vifs_in(alloc, files, buffer, router)?;
-    let cache = cache_in(alloc, files, buffer, topology, router, order)?;
+    let cache = cache_in(alloc, files, buffer, listed, router, order)?;
     Ok(Tables { vifs, cache })
 }
 
@@ -63,11 +67,12 @@ fn tables_in<F: PieceSource>(
         length tables.items ≡ length topology.now.routers) }
     ensures failures { F.failed files.new ≡ counted is_read result (F.failed files.old) }
 {
+    let listed = listed_flows(alloc, topology)?;
     let mut tables = Vec::new(alloc);
     for router in 0..topology.routers() {
         let name = topology.router_name(RouterNo(router));
         let order = topology.order(RouterNo(router));
-        tables.push(tables_of(alloc, files, buffer, topology, name, order)?)?;
+        tables.push(tables_of(alloc, files, buffer, &listed, name, order)?)?;
     }
     Ok(tables)
 }

@@ -2,11 +2,7 @@
 
 ghost use Rattle.std.specs.FinMap.{FinMap};
 ghost use Rattle.std.specs.Ordering.{nat_cmp};
-ghost use Rattle.std.specs.Prelude.{◌≡◌, ◌≢◌, ◌≤◌, ℕ, List, Err, IfErr, IfOk, Result, Some, length};
-ghost use Rattle.mc_text.specs.Lines.{max_text};
-ghost use Rattle.mc_tables.specs.ListedRows.{listed_in};
-ghost use Rattle.mc_tables.specs.RowsSoFar.{cache_if, no_cache};
-ghost use Rattle.mc_forward.specs.ListedTables.{flow_pairs};
+ghost use Rattle.std.specs.Prelude.{◌≡◌, ◌≢◌, Err, IfErr, IfOk, Result, length};
 ghost use Rattle.mc_text.specs.BundleView.{part_text};
 ghost use Rattle.mc_text.specs.Steps.{refused_as};
 ghost use Rattle.mc_tables.specs.CacheTable.{CacheText};
@@ -14,6 +10,7 @@ ghost use Rattle.mc_tables.specs.Steps.{out_of_memory};
 ghost use Rattle.mc_tables.specs.VifTable.{VifText};
 ghost use Rattle.mc_tables.specs.declared.fault.TableFault.{TableFault as FaultOfTable};
 ghost use Rattle.mc_forward.specs.Assembling.{AreChannelsWanted};
+ghost use Rattle.mc_domain.specs.Kept.{AreFlowPairs};
 ghost use Rattle.mc_domain.specs.PartsInTurn.{IsToldOf};
 ghost use Rattle.mc_domain.specs.declared.fault.InputFault.TheVariants.{Cache as RefusedCache};
 ghost use Rattle.mc_domain.specs.declared.fault.InputFault.TheVariants.{Vif as RefusedVif};
@@ -21,10 +18,10 @@ ghost use Rattle.mc_domain.specs.InputReading.{Gives};
 ghost use Rattle.mc_domain.specs.PartsReading.{reports_of, topology_of};
 
 use crate::fault::InputFault;
-use mc_forward::{FlowChannels, Items};
+use mc_forward::{FlowChannels, Items, pairs_of};
 use mc_igmp::{ListFault, ListFaultKind, ReportList};
-use mc_tables::{CacheReader, CacheTable, TableFault, TableFaultKind, VifTable};
-use mc_text::{Order, Part, PartName};
+use mc_tables::{CacheTable, ListedPairs, TableFault, TableFaultKind, VifTable};
+use mc_text::{Part, PartName};
 use mc_topology::{Topology, TopologyFault, TopologyFaultKind};
 use std::alloc::Global;
 
@@ -81,24 +78,12 @@ pub(crate) fn vifs_told(
     }
 }
 
-/// A reader of a router's cache that keeps what it says of the flows.
-pub(crate) fn reader_of_flows(
-    alloc: Global,
-    topology: &Topology,
-    order: Order,
-) -> Result<CacheReader, InputFault>
-    ensures start { IfOk result (λ reader.
-        reader ≡ no_cache order (Some (flow_pairs topology.now.flows))) }
-    ensures reads { IfOk result (λ reader. (text : List ℕ) → length text ≤ max_text →
-        cache_if reader text ≡ listed_in order (Some (flow_pairs topology.now.flows)) text) }
+/// The sources and the groups of the flows, of which the readers of caches keep the rows.
+pub(crate) fn listed_flows(alloc: Global, topology: &Topology) -> Result<ListedPairs, InputFault>
+    ensures listed { IfOk result (AreFlowPairs topology.now.flows) }
     ensures memory { IfErr result (λ fault. fault ≡ InputFault.Memory) }
 {
-    let mut listed = Vec::with_capacity(alloc, topology.flows() as usize)?;
-    for flow in 0..topology.flows() {
-        let flow = topology.flow(flow);
-        listed.push((flow.source, flow.group))?;
-    }
-    Ok(CacheReader::new(alloc, order, listed))
+    Ok(ListedPairs::of(alloc, &pairs_of(alloc, topology)?)?)
 }
 
 /// The forwarding cache of a router, as the reader of the part with this name found it.

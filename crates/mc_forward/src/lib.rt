@@ -42,4 +42,4 @@ pub use per_lan::PerLan;
 pub use refused::{DomainFault, Refused};
 pub use row::RowFor;
 pub use tables::Tables;
-pub use wants::FlowChannels;
+pub use wants::{FlowChannels, pairs_of};

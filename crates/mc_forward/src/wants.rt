@@ -13,7 +13,11 @@ use std::alloc::Global;
 use std::marker::Model;
 
 /// The source and the group of each flow.
-fn pairs_of(alloc: Global, topology: &Topology) -> Result<Vec<(Addr, Addr)>, Memory>
+///
+/// # Errors
+///
+/// `Memory` where a growth was refused.
+pub fn pairs_of(alloc: Global, topology: &Topology) -> Result<Vec<(Addr, Addr)>, Memory>
     ensures { IfOk result (λ pairs. pairs.items ≡ flow_pairs topology.now.flows) }
 {
     let mut pairs = Vec::with_capacity(alloc, topology.flows() as usize)?;

@@ -3,7 +3,9 @@
 //! growth after the other: the reader answers that again, and the text is then read by another one.
 
 use super::memory::{has_any, has_entry, has_vif, is_wildcard, oif, wants_memory};
-use mc_tables::{CacheReader, CacheTable, TableFault, TableFaultKind, VifReader, VifTable};
+use mc_tables::{
+    CacheReader, CacheTable, ListedPairs, TableFault, TableFaultKind, VifReader, VifTable,
+};
 use mc_text::{Addr, Order};
 use std::alloc::Global;
 use std::process::Abort;
@@ -65,7 +67,13 @@ fn vifs_are_read_in_pieces(rt: HostRuntime) -> Result<(), Fail> {
 /// answered again by what is called after it.
 fn rows_of(rt: &impl Abort, alloc: Global, pieces: &str) -> Result<CacheTable, TableFault> {
     let (source, group) = ([10, 0, 0, 5], [239, 1, 2, 4]);
-    let listed = vec![in alloc; (Addr::from_octets(source), Addr::from_octets(group))]?;
+    let pairs = [(Addr::from_octets(source), Addr::from_octets(group))];
+    let Ok(listed) = ListedPairs::of(alloc, &pairs) else {
+        return Err(TableFault {
+            line: 0,
+            kind: TableFaultKind::Memory,
+        });
+    };
     let mut reader = CacheReader::new(alloc, Order::Little, listed);
     for piece in pieces.split('|') {
         if let Err(fault) = reader.feed(piece.as_bytes()) {

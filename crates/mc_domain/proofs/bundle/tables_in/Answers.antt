@@ -12,7 +12,7 @@ use Rattle.mc_domain.proofs.bundle.tables_in.Goals as goal
 
 pub returns-in_err-tables_of-clause-fault : goal.returns-in_err-tables_of-clause-fault
 returns-in_err-tables_of-clause-fault g c =
-    let p = err_from_is_err_and c.from_residual.result c.from_residual.ensures.1 in
+    let p = err_from_is_err_and c.from_residual-in_err-tables_of.result c.from_residual-in_err-tables_of.ensures.1 in
     rw (p.1, p.2) (λ text told loud.
     let known = c.loop-router.invariant.taken text told in
     ap (refused_as refused) known.4

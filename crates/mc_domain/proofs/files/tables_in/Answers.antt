@@ -11,14 +11,15 @@ use Rattle.mc_domain.proofs.files.tables_in.Goals as goal
 
 pub returns-in_err-tables_of-clause-tables : goal.returns-in_err-tables_of-clause-tables
 returns-in_err-tables_of-clause-tables g c =
-    let p = err_from_is_err_and c.from_residual.result c.from_residual.ensures.1 in
+    let p = err_from_is_err_and c.from_residual-in_err-tables_of.result c.from_residual-in_err-tables_of.ensures.1 in
     λ told is. rw (p.1 ∙ ap (λ f. Err f) p.2) (λ no.
     let left = c.loop-router.invariant.left told is in
     tables_refused Input (part_filed told)
     left.0 (1 + 2 * c.loop-router.router) c.args.topology.now.routers
     c.loop-router.router c.router_name-name.result.now c.order-order.result _
     c.in_err-tables_of.field-0.0 c.router_name-name.ensures.name c.order-order.ensures left.2
-    (c.in_err-tables_of.ensures.tables (1 + 2 * c.loop-router.router) told
+    (c.in_err-tables_of.ensures.tables (1 + 2 * c.loop-router.router) c.args.topology.now.flows
+    c.in_ok-listed.ensures.listed told
     (c.loop-router.invariant.kept ∙ is) no))
 
 pub loop-router-preserved : goal.loop-router-preserved
@@ -33,7 +34,8 @@ loop-router-preserved g c = record {
       let flows = c.args.topology.now.flows in
       let left = c.loop-router.invariant.left told is in
       let own = c.in_ok-tables_of.field-0 in
-      let next = c.in_ok-tables_of.ensures.tables (1 + 2 * c.loop-router.router) told
+      let next = c.in_ok-tables_of.ensures.tables (1 + 2 * c.loop-router.router) flows
+      c.in_ok-listed.ensures.listed told
       (c.loop-router.invariant.kept ∙ is) in (
         left.0 ++ next.0 ∷ [],
         subst (λ (ts : List TablesValue). AreListed flows ts (left.0 ++ next.0 ∷ []))

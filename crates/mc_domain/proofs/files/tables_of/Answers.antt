@@ -1,5 +1,6 @@
 use Rattle.std.proofs.Common.{◌∙◌, ◌+◌, ap, Err}
 use Rattle.std.proofs.lemmas.Result.{err_from_is_err_and}
+use Rattle.mc_forward.specs.ListedTables.{flow_pairs}
 use Rattle.mc_domain.specs.FilesReading.{part_filed}
 use Rattle.mc_domain.specs.declared.source_fault.SourceFault.TheVariants.{Input}
 use Rattle.mc_domain.proofs.ReadingLemmas.{vifs_refused, cache_refused, tables_read}
@@ -8,7 +9,7 @@ use Rattle.mc_domain.proofs.files.tables_of.Goals as goal
 pub returns-in_err-vifs-clause-tables : goal.returns-in_err-vifs-clause-tables
 returns-in_err-vifs-clause-tables g c =
     let p = err_from_is_err_and c.from_residual.result c.from_residual.ensures.1 in
-    λ n told is. rw (p.1 ∙ ap (λ f. Err f) p.2) (λ says. vifs_refused Input (part_filed told) n
+    λ n flows same told is. rw (p.1 ∙ ap (λ f. Err f) p.2) (λ says. vifs_refused Input (part_filed told) n
     c.args.router.now c.args.order c.in_err-vifs.field-0.0
     (c.in_err-vifs.ensures.vifs n told is says))
 
@@ -16,16 +17,16 @@ pub returns-in_err-cache-clause-tables : goal.returns-in_err-cache-clause-tables
 returns-in_err-cache-clause-tables g c =
     let p = err_from_is_err_and c.from_residual-in_err-cache.result
     c.from_residual-in_err-cache.ensures.1 in
-    λ n told is. rw (p.1 ∙ ap (λ f. Err f) p.2) (λ says.
+    λ n flows same told is. rw (p.1 ∙ ap (λ f. Err f) p.2) (λ says.
     let vifs = c.in_ok-vifs.ensures.vifs n told is in
     cache_refused Input (part_filed told) n c.args.router.now c.args.order vifs.0
     c.in_err-cache.field-0.0 vifs.1
-    (c.in_err-cache.ensures.cache (n + 1) told (c.in_ok-vifs.ensures.kept ∙ is) says))
+    (c.in_err-cache.ensures.cache (n + 1) (flow_pairs flows) same told (c.in_ok-vifs.ensures.kept ∙ is) says))
 
 pub returns-clause-tables : goal.returns-clause-tables
-returns-clause-tables g c = λ n told is.
+returns-clause-tables g c = λ n flows same told is.
     let vifs = c.in_ok-vifs.ensures.vifs n told is in
-    let cache = c.in_ok-cache.ensures.cache (n + 1) told (c.in_ok-vifs.ensures.kept ∙ is) in (
+    let cache = c.in_ok-cache.ensures.cache (n + 1) (flow_pairs flows) same told (c.in_ok-vifs.ensures.kept ∙ is) in (
       record { vifs = vifs.0; cache = cache.0 },
       tables_read Input (part_filed told) n c.args.router.now c.args.order vifs.0 cache.0 vifs.1
           cache.1,

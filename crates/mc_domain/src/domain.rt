@@ -29,8 +29,8 @@ use mc_layout::PieceSource;
 use mc_text::{Input, Parts};
 use std::alloc::Global;
 
-/// How many bytes of a part are read at once.
-const PIECE: usize = 65_536;
+/// How many bytes of a part or a file are read at once.
+pub const PIECE: usize = 65_536;
 
 /// A domain, and the text of the certificate where one was asked for.
 #[derive(Drop)]

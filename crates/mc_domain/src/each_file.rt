@@ -4,6 +4,7 @@
 ghost use Rattle.std.specs.Prelude.{◌<◌, IsTrue, length};
 ghost use Rattle.mc_topology.specs.Names.{is_name};
 
+use crate::domain::PIECE;
 use crate::fault::InputFault;
 use crate::file_part::{cache_in, topology_in, vifs_in, wanted_in};
 use crate::source_fault::SourceFault;
@@ -14,9 +15,6 @@ use mc_tables::ListedPairs;
 use mc_text::{Memory, Order};
 use mc_topology::{LanNo, RouterNo, Topology};
 use std::alloc::Global;
-
-/// How many bytes of a file are read at once.
-const PIECE: usize = 65_536;
 
 /// Why a file is refused.
 #[derive(Clone, Copy, Debug, Drop)]
@@ -138,7 +136,9 @@ fn judge_routers<F: PieceSource>(
 ) -> Result<(), Memory>
     requires room { 0 < length buffer.old }
 {
-    let listed = listed_flows(alloc, topology)?;
+    let Ok(listed) = listed_flows(alloc, topology) else {
+        return Err(Memory);
+    };
     for router in 0..topology.routers() {
         let name = topology.router_name(RouterNo(router));
         let order = topology.order(RouterNo(router));

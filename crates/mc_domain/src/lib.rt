@@ -16,7 +16,7 @@ mod table_file;
 mod table_part;
 mod told;
 
-pub use domain::{DomainRead, domain_in, domain_of};
+pub use domain::{DomainRead, PIECE, domain_in, domain_of};
 pub use each_file::{Refusal, RefusedFile, refused_files};
 pub use fault::InputFault;
 pub use laws::{

@@ -3,7 +3,7 @@
 
 ghost use Rattle.std.specs.Prelude.{◌<◌};
 
-use mc_domain::{InputFault, RefusedFile, Refusal, refused_files};
+use mc_domain::{InputFault, PIECE, RefusedFile, Refusal, refused_files};
 use mc_layout::{FileFault, PieceSource, may_be_asked};
 use mc_text::{MAX_PART, Memory as NoMemory};
 use std::alloc::Global;
@@ -14,9 +14,6 @@ const MAX_TOLD: usize = 50;
 
 /// How many bytes of a line are shown at most.
 const MAX_SHOWN: usize = 100;
-
-/// How many bytes of a file are read at once.
-const PIECE: usize = 65_536;
 
 /// Bytes as they are shown between quotes: those outside 0x20 to 0x7e, the quote and the backslash
 /// as `\xhh`.

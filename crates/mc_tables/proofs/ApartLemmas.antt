@@ -50,13 +50,6 @@ pub record AreTold (slots others numbers : List ℕ) (i : ℕ) : Type 0 where
   pub apart : Differ others → (a b : ℕ) → a < b → b < i
       → get_or numbers a 0 ≢ get_or numbers b 0
 
-pub none_told : (slots numbers : List ℕ) → AreTold slots [] numbers 0
-none_told slots numbers = record {
-  full = λ k less. absurd (omega (arith, less));
-  told = λ k less. absurd (omega (arith, less));
-  apart = λ all a b before less. absurd (omega (arith, less));
-}
-
 module _ (slots : List ℕ) (n : ℕ) (within : slot_among (length slots) n < length slots) where
   abbrev slot : ℕ
   slot = slot_among (length slots) n

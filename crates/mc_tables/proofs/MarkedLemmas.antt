@@ -15,7 +15,7 @@ use Rattle.std.proofs.lemmas.Simd.{bit_mask_l, length-chunk, get_or-chunk}
 use Rattle.std.proofs.lemmas.Nat.{trailing_le}
 use Rattle.std.proofs.lemmas.Nat.Bits.{bit_at-trailing_ones, bit_at_ones}
 use Rattle.mc_text.specs.Lines.{words_of}
-use Rattle.mc_tables.specs.MarkedBytes.{AreMarks}
+use Rattle.mc_tables.specs.Counters.{AreMarks}
 use Rattle.mc_tables.specs.TableWords.{is_counter, is_decimal}
 use Rattle.mc_tables.proofs.PlainLemmas.{counter_behind, rest_of}
 

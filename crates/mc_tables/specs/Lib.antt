@@ -7,7 +7,7 @@ pub mod LinesSoFar
 pub mod VifTable
 pub mod VifReading
 pub mod RowWords
-pub mod MarkedBytes
+pub mod Counters
 pub mod VifLookups
 pub mod VifsSoFar
 pub mod CacheTable

@@ -5,7 +5,7 @@ ghost use Rattle.std.specs.Prelude.{◌≡◌, ℕ, ◌<◌, ◌≤◌, ◌==◌
 ghost use Rattle.std.specs.Int.{bit_at};
 ghost use Rattle.std.specs.Char.{is_ascii_digit};
 ghost use Rattle.mc_text.specs.Lines.{words_of};
-ghost use Rattle.mc_tables.specs.MarkedBytes.{AreMarks, IsMarked};
+ghost use Rattle.mc_tables.specs.Counters.{AreMarks, IsMarked};
 ghost use Rattle.mc_tables.specs.TableWords.{is_counter};
 
 use std::simd::prelude::*;
@@ -45,7 +45,7 @@ fn spaces_of(line: &[u8]) -> u64
 
 /// How many bits from the lowest on are set.
 #[inline(always)]
-fn run_of(marks: u64) -> usize
+fn front_run(marks: u64) -> usize
     ensures { (k : ℕ) → k < result → bit_at marks k ≡ 1 }
 {
     marks.trailing_ones() as usize
@@ -92,7 +92,7 @@ impl<'a> MarkedLine<'a> {
             words_of after.bytes.now ≡ words_of self.entry.bytes.now) }
         ensures marked { IfSome result IsMarked }
     {
-        let count = run_of(self.spaces);
+        let count = front_run(self.spaces);
         if count >= LANES {
             return None;
         }
@@ -108,7 +108,7 @@ impl<'a> MarkedLine<'a> {
             × (is_counter word ≡ true)) }
         ensures marked { IfSome result IsMarked }
     {
-        let count = run_of(self.digits);
+        let count = front_run(self.digits);
         if count == 0 || count > 20 || (self.spaces >> count) & 1 == 0 {
             return None;
         }

@@ -11,7 +11,7 @@ ghost use Rattle.mc_tables.specs.declared.entry.Oif.{Oif};
 ghost use Rattle.mc_tables.specs.TableWords.{address_in, is_counter, is_decimal, number_in};
 ghost use Rattle.mc_tables.specs.CacheReading.{oif_in, oifs_in, row_in_words};
 ghost use Rattle.mc_tables.specs.FlatRows.{row_with};
-ghost use Rattle.mc_tables.specs.RowWords.{HasCounters};
+ghost use Rattle.mc_tables.specs.Counters.{HasCounters};
 
 use crate::cache_row::CacheRow;
 use crate::entry::Oif;

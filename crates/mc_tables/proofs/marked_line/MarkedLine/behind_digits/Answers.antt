@@ -9,13 +9,13 @@ pub returns-clause-word : goal.returns-clause-word
 returns-clause-word c =
     let line = c.args.self.bytes.now in
     let spaces = c.args.self.spaces in
-    let count = c.run_of-count.result in
+    let count = c.front_run-count.result in
     let bit = bit_at-lt spaces count in
     let tested = shr_and_one spaces count in
     let other = c.if-self-count-eq0.false in
     let set : bit_at spaces count ≡ 1 = one_of _ bit (λ none. other (tested ∙ none)) in
     let found = counter_marked line c.args.self.digits spaces count c.requires.digits
-    c.requires.spaces c.run_of-count.ensures set (omega (arith, c.if-count-eq0.false))
+    c.requires.spaces c.front_run-count.ensures set (omega (arith, c.if-count-eq0.false))
     c.if-count-gt20.false in (
       found.0,
       found.1 ∙ ap (λ r. found.0 ∷ words_of r) (sym c.behind.ensures.bytes),

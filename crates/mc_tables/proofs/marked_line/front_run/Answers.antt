@@ -1,5 +1,5 @@
 use Rattle.mc_tables.proofs.MarkedLemmas.{run_set}
-use Rattle.mc_tables.proofs.marked_line.run_of.Goals as goal
+use Rattle.mc_tables.proofs.marked_line.front_run.Goals as goal
 
 pub returns : goal.returns
 returns c k less =

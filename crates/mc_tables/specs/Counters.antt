@@ -1,0 +1,27 @@
+-- The counters of a row, which are read past: of them nothing is kept.
+use Rattle.std.specs.Prelude.{◌≡◌, ℕ, ◌<◌, ◌==◌, Bool, true, List, ◌∷◌, length, slice_index}
+use Rattle.std.specs.Int.{bit_at}
+use Rattle.std.specs.Char.{is_ascii_digit}
+use Rattle.mc_text.specs.Lines.{words_of}
+use Rattle.mc_tables.specs.TableWords.{is_counter}
+use Rattle.mc_tables.specs.declared.marked_line.MarkedLine.{MarkedLine}
+
+-- a line's first three words are counters, and the others are those of what stands behind them
+pub record HasCounters (line after : List ℕ) : Type 0 where
+  pub packets : List ℕ
+  pub bytes : List ℕ
+  pub wrong : List ℕ
+  pub words : words_of line ≡ packets ∷ bytes ∷ wrong ∷ words_of after
+  pub packets_count : is_counter packets ≡ true
+  pub bytes_count : is_counter bytes ≡ true
+  pub wrong_count : is_counter wrong ≡ true
+
+-- where a bit is set, a byte stands at its place, and passes
+abbrev pub AreMarks : (ℕ → Bool) → List ℕ → ℕ → Type 0
+AreMarks passes bytes marks =
+    (k : ℕ) → bit_at marks k ≡ 1 → (k < length bytes) × (passes (slice_index bytes k) ≡ true)
+
+-- the marked bytes are digits, or spaces
+pub record IsMarked (line : MarkedLine) : Type 0 where
+  pub digits : AreMarks is_ascii_digit line.bytes.now line.digits
+  pub spaces : AreMarks (λ b. b == 32) line.bytes.now line.spaces

@@ -113,8 +113,8 @@ pub(crate) fn wanted_of(
     channels: &FlowChannels,
     part: &Part<'_>,
 ) -> Result<Items<bool>, InputFault>
-    ensures wanted { IsToldOf (λ wanted records. AreChannelsWanted channels.now records wanted) result
-        (reports_of (part_text part.now)) }
+    ensures wanted { IsToldOf (λ wanted records. AreChannelsWanted channels.now records wanted)
+        result (reports_of (part_text part.now)) }
     ensures count { IfOk result (λ wanted. length wanted ≡ length channels.now) }
 {
     let reports = reports_of(alloc, part)?;

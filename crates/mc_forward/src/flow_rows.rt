@@ -63,7 +63,8 @@ impl RouterRows {
 fn push_row(rows: &mut FlatOifs<RowHead>, row: &RowFor<'_>) -> Result<(), Memory>
     requires count { length rows.old.lists < 65536 }
     requires stands { EntryStands row.now }
-    ensures { OnOk result (rows_of rows.new.lists ≡ rows_of rows.old.lists ++ row_seen row.now ∷ []) }
+    ensures { OnOk result
+        (rows_of rows.new.lists ≡ rows_of rows.old.lists ++ row_seen row.now ∷ []) }
 {
     match row {
         RowFor::Exact(entry) => rows.push(RowHead::Exact(entry.iif), entry.oifs)?,

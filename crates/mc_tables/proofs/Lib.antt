@@ -12,7 +12,7 @@ pub mod ColonLemmas
 pub mod RowWordLemmas
 pub mod OifLemmas
 pub mod EntryLemmas
-pub mod FlatOifLemmas
+pub mod FlatLemmas
 pub mod PlainLemmas
 pub mod MarkedLemmas
 pub mod CacheLemmas

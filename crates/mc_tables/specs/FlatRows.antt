@@ -1,9 +1,14 @@
--- A row whose outgoing vifs stand apart while it is read.
-use Rattle.std.specs.Prelude.{ℕ, List, Option}
+-- Outgoing vifs that stand apart: those of one row while it is read, and lists of them, each with a
+-- head, one after another.
+use Rattle.std.specs.Prelude.{ℕ, ◌+◌, ◌*◌, ◌<◌, ◌≤◌, List, length, map, take, drop, Option}
 use Rattle.std.specs.Option.{option_map}
+use Rattle.std.specs.List.{AllByRecursion}
 use Rattle.mc_tables.specs.declared.cache_row.CacheRow.{CacheRow}
 use Rattle.mc_tables.specs.declared.entry.Oif.{Oif}
+use Rattle.mc_tables.specs.declared.flat_oifs.FlatList.{FlatList}
 use Rattle.mc_tables.specs.CacheTable.{EntryText, RowText}
+
+-- ---- one row
 
 -- the entry of an incoming vif, if there is one, and outgoing ones
 abbrev pub entry_with : Option ℕ → List Oif → Option EntryText
@@ -13,3 +18,34 @@ entry_with iif oifs = option_map (λ i. record { iif = i; oifs = oifs }) iif
 abbrev pub row_with : CacheRow → List Oif → RowText
 row_with row oifs =
     record { group = row.group; origin = row.origin; entry = entry_with row.iif oifs }
+
+-- ---- lists
+
+-- the heads with their lists, and for how many more lists and outgoing vifs there is room
+pub record FlatText (H : Type 0) : Type 0 where
+  pub lists : List (H × List Oif)
+  pub lists_left : ℕ
+  pub oifs_left : ℕ
+
+-- there is room for one list more, of so many outgoing vifs
+abbrev pub HasRoom : {H : Type 0} → FlatText H → ℕ → Type 0
+HasRoom s oifs = (0 < s.lists_left) × (oifs ≤ s.oifs_left)
+
+-- the head and the outgoing vifs of a list
+abbrev pub list_of : {H : Type 0} → List Oif → FlatList H → H × List Oif
+list_of oifs l = (l.head, take l.count (drop l.start oifs))
+
+abbrev pub lists_of : {H : Type 0} → List (FlatList H) → List Oif → List (H × List Oif)
+lists_of ls oifs = map (list_of oifs) ls
+
+-- each list's outgoing vifs are among those of all, and no list has more than 32
+pub record AreFlat {H : Type 0} (ls : List (FlatList H)) (oifs : List Oif) : Type 0 where
+  pub within : AllByRecursion (λ l. l.start + l.count ≤ length oifs) ls
+  pub few : length oifs ≤ 32 * length ls
+
+-- the entries of lists of which the heads are the incoming vifs
+abbrev pub entry_of : ℕ × List Oif → EntryText
+entry_of list = record { iif = list.0; oifs = list.1 }
+
+abbrev pub entries_of : List (ℕ × List Oif) → List EntryText
+entries_of lists = map entry_of lists

@@ -2,7 +2,6 @@ pub mod Steps
 pub mod TableWords
 pub mod TableLines
 pub mod FlatRows
-pub mod FlatOifs
 pub mod LinesSoFar
 pub mod VifTable
 pub mod VifReading

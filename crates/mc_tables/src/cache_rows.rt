@@ -52,7 +52,7 @@ impl Model for CacheRows {
     ghost use Rattle.std.specs.FinSet as set;
     ghost use Rattle.mc_tables.specs.CacheTable.{cache_code};
     ghost use Rattle.mc_tables.specs.CacheNumbers.{entries_by, AreNumbers, KeptText};
-    ghost use Rattle.mc_tables.specs.FlatOifs.{entries_of};
+    ghost use Rattle.mc_tables.specs.FlatRows.{entries_of};
     ghost use Rattle.mc_tables.specs.ListedRows.{pairs_code};
 
     ghost Value = { KeptText };

@@ -1,21 +1,22 @@
 //! Lists of outgoing vifs, all in one vector.
 
-ghost use Rattle.std.specs.Prelude.{◌≡◌, ◌≤◌, ◌<◌, ◌+◌, ◌^◌, [], ◌∷◌, ◌++◌, length, IfOk, IsOk, OnErr};
-ghost use Rattle.std.specs.Prelude.{OnOk, Some, slice_get};
-ghost use Rattle.mc_tables.specs.FlatOifs.{HasRoom};
+ghost use Rattle.std.specs.Prelude.{◌≡◌, ◌≤◌, ◌<◌, ◌+◌, ◌^◌, [], ◌∷◌, ◌++◌, length, slice_get, Some};
+ghost use Rattle.std.specs.Prelude.{IfOk, IsOk, OnErr, OnOk};
+ghost use Rattle.mc_tables.specs.FlatRows.{HasRoom};
 
 use crate::entry::Oif;
 use std::alloc::{AllocError, Global};
 use std::marker::Model;
 
-/// The head of a list, and where its outgoing vifs stand among those of all lists.
+/// Where the outgoing vifs of a list stand among those of all lists, and its head. The head comes
+/// last, so that a list with a small one takes eight bytes: fields lie as they are written.
 #[derive(Clone, Copy, Debug)]
 struct FlatList<H: Copy> {
-    head: H,
     /// The place of the first outgoing vif.
     start: u32,
     /// How many there are.
     count: u8,
+    head: H,
 }
 
 /// Lists of outgoing vifs, which stand one after another. Each has a head, as an incoming vif. The
@@ -30,7 +31,7 @@ pub struct FlatOifs<H: Copy> {
 
 impl<H: Copy> Model for FlatOifs<H> {
     ghost use Rattle.std.specs.Prelude.{◌-◌, vec_len, vec_capacity};
-    ghost use Rattle.mc_tables.specs.FlatOifs.{FlatText, lists_of, AreFlat};
+    ghost use Rattle.mc_tables.specs.FlatRows.{FlatText, lists_of, AreFlat};
 
     ghost Value = { FlatText H };
 
@@ -82,7 +83,7 @@ impl<H: Copy> FlatOifs<H> {
     }
 
     /// Adds a list behind the others. This can only be refused where there is no room.
-    #[tactic(auto, using(crate::proofs::FlatOifLemmas::lists_pushed))]
+    #[tactic(auto, using(crate::proofs::FlatLemmas::lists_pushed))]
     pub fn push(&mut self, head: H, oifs: &[Oif]) -> Result<(), AllocError>
         requires count { length self.old.lists < 65536 }
         requires few { length oifs.now ≤ 32 }
@@ -94,9 +95,9 @@ impl<H: Copy> FlatOifs<H> {
         let start = self.oifs.len() as u32;
         self.oifs.extend_from_slice(oifs)?;
         self.lists.push(FlatList {
-            head,
             start,
             count: oifs.len() as u8,
+            head,
         })?;
         Ok(())
     }

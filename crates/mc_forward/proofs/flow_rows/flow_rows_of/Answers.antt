@@ -11,10 +11,12 @@ loop-flow-preserved c =
     let flow = c.flow.result.now in
     let row = row_seen c.row_of-row.result in
     record {
-      rows = c.in_ok-push_row.ensures ∙ ap (λ (rs : List Row). rs ++ row ∷ []) c.loop-flow.invariant.rows
+      rows = c.in_ok-push_row.ensures
+          ∙ ap (λ (rs : List Row). rs ++ row ∷ []) c.loop-flow.invariant.rows
           ∙ rows-taken c.args.tables.now.cache c.args.topology.now.flows c.loop-flow.flow flow row
           c.flow.ensures.flow
-          (c.row_of-row.ensures.row ∙ ap (λ (t : TablesValue). row_in t.cache flow) c.tables.view_is);
+          (c.row_of-row.ensures.row
+          ∙ ap (λ (t : TablesValue). row_in t.cache flow) c.tables.view_is);
       places = length-set c.loop-flow.places.items c.loop-flow.flow c.row_of-row.new.near
           ∙ c.loop-flow.invariant.places;
     }

@@ -7,7 +7,7 @@ use Rattle.mc_tables.specs.declared.fault.TableFaultKind.TheVariants.{RepeatedEn
 use Rattle.mc_tables.specs.CacheTable.{EntryText}
 use Rattle.mc_tables.specs.CacheSteps.{entry_added}
 use Rattle.mc_tables.specs.CacheNumbers.{entries_by, IsNumbered, KeptText, MoreNumbers}
-use Rattle.mc_tables.specs.FlatOifs.{entry_of, entries_of}
+use Rattle.mc_tables.specs.FlatRows.{entry_of, entries_of}
 use Rattle.mc_tables.specs.ListedRows.{is_in}
 use Rattle.mc_tables.proofs.CacheMapLemmas.{table_kept, entry_there, inserted, more_answers}
 use Rattle.mc_tables.proofs.CacheStepLemmas.{entry_repeated, entry_entered}

@@ -4,7 +4,7 @@ use Rattle.std.specs.FinMap.{nat_cmp-IsAntisymmetric}
 use Rattle.std.specs.FinSet as set
 use Rattle.mc_tables.specs.CacheNumbers.{KeptText}
 use Rattle.mc_tables.specs.CacheSteps.{group_added}
-use Rattle.mc_tables.specs.FlatOifs.{entries_of}
+use Rattle.mc_tables.specs.FlatRows.{entries_of}
 use Rattle.mc_tables.proofs.CacheMapLemmas.{table_with}
 use Rattle.mc_tables.proofs.cache_rows.CacheRows.add_group.Goals as goal
 

@@ -2,7 +2,7 @@ use Rattle.std.proofs.Common.{◌∙◌, ap}
 use Rattle.std.proofs.lemmas.Cmp.{nat_cmp_total}
 use Rattle.std.specs.FinMap.{nat_cmp-IsAntisymmetric}
 use Rattle.mc_tables.specs.CacheNumbers.{KeptText}
-use Rattle.mc_tables.specs.FlatOifs.{entries_of}
+use Rattle.mc_tables.specs.FlatRows.{entries_of}
 use Rattle.mc_tables.proofs.CacheMapLemmas.{table_with}
 use Rattle.mc_tables.proofs.ListedLemmas.{set_reordered}
 use Rattle.mc_tables.proofs.cache_rows.CacheRows.in_order.Goals as goal

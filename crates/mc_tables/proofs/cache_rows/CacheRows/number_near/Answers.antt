@@ -2,7 +2,7 @@ use Rattle.std.proofs.Common.{◌≡◌, ◌<◌, ℕ, ◌∙◌, sym, ap, subst
 use Rattle.std.specs.Prelude.{IfSome, slice_get, option_and_then}
 use Rattle.std.specs.FinMap as map
 use Rattle.mc_tables.specs.CacheNumbers.{KeptText, entries_by}
-use Rattle.mc_tables.specs.FlatOifs.{entries_of}
+use Rattle.mc_tables.specs.FlatRows.{entries_of}
 use Rattle.mc_tables.proofs.CacheMapLemmas.{by_number, looked_up}
 use Rattle.mc_tables.proofs.cache_rows.CacheRows.number_near.Goals as goal
 

@@ -7,7 +7,7 @@ use Rattle.std.proofs.lemmas.List.{take_all, length-drop}
 use Rattle.std.proofs.Math.Seq.{drop-append_seam}
 use Rattle.mc_tables.specs.declared.entry.Oif.{Oif}
 use Rattle.mc_tables.specs.declared.flat_oifs.FlatList.{FlatList}
-use Rattle.mc_tables.specs.FlatOifs.{list_of, lists_of, AreFlat}
+use Rattle.mc_tables.specs.FlatRows.{list_of, lists_of, AreFlat}
 
 -- a list stays as it is where more outgoing vifs come behind
 list_stays : {H : Type 0} (oifs more : List Oif) (l : FlatList H) → l.start + l.count ≤ length oifs

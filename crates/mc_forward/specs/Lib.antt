@@ -4,7 +4,6 @@ pub mod ListedTables
 pub mod FlatRows
 pub mod DomainParts
 pub mod Rows
-pub mod SeenRows
 pub mod Journeys
 pub mod Outcomes
 pub mod PerLan

@@ -1,6 +1,7 @@
 -- What a domain answers of a router's row.
+use Rattle.std.specs.Prelude.{◌≡◌, ℕ, List, Some, slice_get}
 use Rattle.mc_tables.specs.CacheTable.{IsEntry}
-use Rattle.mc_theory.specs.Nets.{Row}
+use Rattle.mc_theory.specs.Nets.{Net, Row}
 use Rattle.mc_theory.specs.Nets.Row.{Exact as exact, Open as open_row, NoRow as no_row}
 use Rattle.mc_forward.specs.declared.row.RowFor.{RowFor}
 use Rattle.mc_forward.specs.declared.row.RowFor.TheVariants.{Exact, Open, NoRow}
@@ -17,3 +18,8 @@ abbrev pub EntryStands : RowFor → Type 0
 EntryStands (Exact entry) = IsEntry entry
 EntryStands Open = Unit {0}
 EntryStands NoRow = Unit {0}
+
+-- each of these answers is what the router with its number has, and stands as a kernel has it
+abbrev pub AreRowsOf : Net → List RowFor → Type 0
+AreRowsOf n rows = (r : ℕ) (row : RowFor) → slice_get rows r ≡ Some row
+    → (row_seen row ≡ n.row r) × EntryStands row

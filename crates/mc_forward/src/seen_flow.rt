@@ -3,8 +3,7 @@
 
 ghost use Rattle.std.specs.Prelude.{◌≡◌, IfOk};
 ghost use Rattle.mc_forward.specs.Journeys.{net_in};
-ghost use Rattle.mc_forward.specs.Rows.{row_seen, EntryStands};
-ghost use Rattle.mc_forward.specs.SeenRows.{AreRowsOf};
+ghost use Rattle.mc_forward.specs.Rows.{AreRowsOf, EntryStands, row_seen};
 
 use crate::flow_view::FlowView;
 use crate::row::RowFor;
@@ -24,7 +23,7 @@ pub(crate) struct SeenFlow<'d> {
 
 impl<'d> Model for SeenFlow<'d> {
     ghost use Rattle.mc_forward.specs.Journeys.{FlowIn, flow_in_code, net_in};
-    ghost use Rattle.mc_forward.specs.SeenRows.{AreRowsOf};
+    ghost use Rattle.mc_forward.specs.Rows.{AreRowsOf};
 
     ghost Value = { FlowIn };
 

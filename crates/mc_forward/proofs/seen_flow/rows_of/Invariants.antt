@@ -1,6 +1,6 @@
 use Rattle.std.proofs.Common.{◌≡◌, length}
 use Rattle.mc_forward.specs.Journeys.{net_in}
-use Rattle.mc_forward.specs.SeenRows.{AreRowsOf}
+use Rattle.mc_forward.specs.Rows.{AreRowsOf}
 use Rattle.mc_forward.proofs.seen_flow.rows_of.Given as goal
 
 abbrev pub invariant-loop-number : goal.invariant-loop-number

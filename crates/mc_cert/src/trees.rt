@@ -8,7 +8,7 @@ ghost use Rattle.mc_cert.specs.Stands.{CertificateStands};
 
 use crate::different::Different;
 use crate::reached::Reached;
-use crate::written::{push_flows, push_trees};
+use crate::written::{push_flows, push_trees, room_for};
 use mc_text::Memory;
 use mc_topology::Topology;
 use std::alloc::Global;
@@ -82,7 +82,9 @@ impl Trees {
         let mut text = String::from_str(alloc, r#"{"flows":["#)?;
         push_flows(&mut text, topology, &self.numbers)?;
         text.push_str(r#"],"trees":["#)?;
-        push_trees(&mut text, topology, self.different.trees())?;
+        let trees = self.different.trees();
+        text.reserve(room_for(trees))?;
+        push_trees(&mut text, topology, trees)?;
         text.push_str(r#"],"version":2}"#)?;
         Ok(text)
     }

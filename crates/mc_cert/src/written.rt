@@ -86,6 +86,16 @@ fn push_tree(text: &mut String, topology: &Topology, entries: &[Reached]) -> Res
     text.push_str("]")
 }
 
+/// How much room to make for the text of trees: what entries with names of some 15 letters take.
+/// Room that isn't written to costs nothing, and a text that grows is copied each time.
+pub(crate) fn room_for(trees: &[Rc<Vec<Reached>>]) -> usize {
+    let mut entries = 0usize;
+    for tree in trees {
+        entries = entries.saturating_add(tree.len());
+    }
+    entries.saturating_mul(96)
+}
+
 /// Appends trees.
 pub(crate) fn push_trees(
     text: &mut String,

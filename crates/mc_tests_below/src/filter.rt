@@ -50,7 +50,7 @@ fn are_sources(sources: &[Addr], digits: &[u8]) -> bool {
 }
 
 // Whether the filter is the one that is written so.
-fn is_wanted(filter: &Filter, wanted: &str) -> bool {
+fn is_filter(filter: &Filter, wanted: &str) -> bool {
     match wanted.as_bytes() {
         [b'I', digits @ ..] => filter.mode() == Mode::Include
             && are_sources(filter.sources(), digits),
@@ -81,11 +81,11 @@ fn check_group(
 ) -> Result<(), Memory> {
     let group = Addr::from_octets([239, 1, 2, last]);
     assert!(rt;
-        is_wanted(&merged(alloc, list, group)?, wanted),
+        is_filter(&merged(alloc, list, group)?, wanted),
         "merged, of {last}"
     );
     assert!(rt;
-        is_wanted(&wants_of(alloc, list, group)?, wanted),
+        is_filter(&wants_of(alloc, list, group)?, wanted),
         "of {last}"
     );
     Ok(())
@@ -112,11 +112,14 @@ const ASKED: [([u8; 2], bool); 12] = [
 // and of none.
 fn check_channels(rt: &impl Abort, alloc: Global, list: &ReportList) -> Result<(), Memory> {
     let mut asked = Vec::new(alloc);
-    for ([source, group], _) in ASKED.iter().rev().chain(&ASKED[..1]) {
-        asked.push((
-            Addr::from_octets([10, 0, 0, *source]),
-            Addr::from_octets([239, 1, 2, *group]),
-        ))?;
+    for ([source, group], wanted) in ASKED.iter().rev().chain(&ASKED[..1]) {
+        let source = Addr::from_octets([10, 0, 0, *source]);
+        let group = Addr::from_octets([239, 1, 2, *group]);
+        assert!(rt;
+            is_wanted(list.records(), group, source) == *wanted,
+            "{wanted}"
+        );
+        asked.push((source, group))?;
     }
     let answers = Channels::of(alloc, &asked)?.wanted(alloc, list)?;
     assert!(rt; answers.len() == 13);

@@ -2,7 +2,7 @@
 //! a message alone is.
 
 use mc_igmp::*;
-use mc_text::Addr;
+use mc_text::{Addr, MAX_TEXT, Memory};
 use std::alloc::{AllocError, Global};
 use std::process::Abort;
 use std::test::Fail;
@@ -80,6 +80,43 @@ fn check_records(rt: &impl Abort, list: &ReportList) {
 fn records_of_a_list(rt: HostRuntime) -> Result<(), Fail> {
     let list = ReportList::read(rt.alloc(), LIST)?;
     check_records(&rt, &list);
+    Ok(())
+}
+
+// The list of a text that is fed byte by byte.
+fn fed(alloc: Global, text: &[u8]) -> Result<Result<ReportList, ListFault>, Memory> {
+    let mut reader = ListReader::new(alloc);
+    for byte in text {
+        reader.feed(&[*byte])?;
+    }
+    Ok(reader.finish())
+}
+
+// In pieces it is read as at once: its records, and the fault of a line that isn't the last.
+#[test]
+fn list_in_pieces(rt: HostRuntime) -> Result<(), Fail> {
+    check_records(&rt, &fed(rt.alloc(), LIST)??);
+    for text in [
+        b"1101ecfe0000000002000000\n1101\n11zz\n".as_slice(),
+        b"11zz\n",
+        b"11",
+        b"",
+    ] {
+        assert!(rt; fed(rt.alloc(), text)?.err() == ReportList::read(rt.alloc(), text).err());
+    }
+    Ok(())
+}
+
+// Records that were forgotten are not among those of the list.
+#[test]
+fn forgotten_records(rt: HostRuntime) -> Result<(), Fail> {
+    let mut reader = ListReader::new(rt.alloc());
+    reader.feed(LIST)?;
+    assert!(rt; reader.room() == MAX_TEXT + 1 - LIST.len());
+    assert!(rt; reader.records().next().is_some());
+    reader.forget_records();
+    assert!(rt; reader.records().next().is_none());
+    assert!(rt; reader.finish()?.records().next().is_none());
     Ok(())
 }
 

@@ -1,5 +1,6 @@
 -- Numbers that are told apart by the slots that they are put in.
-use Rattle.std.specs.Prelude.{◌≡◌, ◌≢◌, ℕ, ◌*◌, ◌<◌, ◌/◌, ◌%◌, ◌^◌, ◌⊎◌, List, [], ◌∷◌, ◌++◌, length, slice_index, slice_set}
+use Rattle.std.specs.Prelude.{◌≡◌, ◌≢◌, ℕ, ◌*◌, ◌<◌, ◌/◌, ◌%◌, ◌^◌, ◌⊎◌, List, ◌∷◌, [], ◌++◌}
+use Rattle.std.specs.Prelude.{length, slice_index, slice_set}
 use Rattle.std.specs.List.{IsDistinct}
 use Rattle.std.specs.Ordering.{nat_cmp, eq_by_cmp}
 
@@ -24,7 +25,8 @@ pub record IsInSlot (slots others : List ℕ) (number : ℕ) (slots' others' : L
   pub same : others' ≡ others
 
 -- it stands with the others, since another number has its slot
-pub record IsWithOthers (slots others : List ℕ) (number : ℕ) (slots' others' : List ℕ) : Type 0 where
+pub record IsWithOthers (slots others : List ℕ) (number : ℕ) (slots' others' : List ℕ)
+    : Type 0 where
   pub full : in_slot slots number ≢ 0
   pub other : in_slot slots number ≢ number
   pub same : slots' ≡ slots

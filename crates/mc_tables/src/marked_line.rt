@@ -1,5 +1,5 @@
-//! A line whose digits and spaces are looked for at once, so that its words are found without a look
-//! at each byte.
+//! A line whose digits and spaces are looked for at once, so that its words are found without a
+//! look at each byte.
 
 ghost use Rattle.std.specs.Prelude.{◌≡◌, ℕ, ◌<◌, ◌≤◌, ◌==◌, ◌∷◌, List, IfSome, length, drop, true};
 ghost use Rattle.std.specs.Int.{bit_at};

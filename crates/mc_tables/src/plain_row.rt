@@ -94,8 +94,8 @@ fn after_address(line: &[u8]) -> &[u8]
     &line[9..]
 }
 
-/// An incoming vif of one digit, which is printed in three bytes, with which a line begins, and what
-/// stands behind it.
+/// An incoming vif of one digit, which is printed in three bytes, with which a line begins, and
+/// what stands behind it.
 #[tactic(auto, using(crate::proofs::PlainLemmas::short_iif))]
 fn one_digit_iif_at_front(line: &[u8]) -> Option<(u8, &[u8])>
     ensures { IfSome result (λ found. (word : List ℕ)
@@ -164,7 +164,8 @@ fn after_counter(line: &[u8]) -> Option<&[u8]>
     after_digits(without_spaces(line))
 }
 
-/// What stands behind the three counters that are a line's first words, if they stand near its front.
+/// What stands behind the three counters that are a line's first words, if they are near its
+/// front.
 fn after_near_counters(line: &[u8]) -> Option<&[u8]>
     ensures { IfSome result (λ after. HasCounters line.now after.now) }
 {

@@ -1,6 +1,6 @@
 -- Numbers and the guesses of their places.
-use Rattle.std.proofs.Common.{◌≡◌, ℕ, ◌+◌, ◌<◌, ◌≤◌, Option, Result, List, length, get_or, take, sym}
-use Rattle.std.proofs.Common.{ap, subst, ◌∙◌, inl, inr, arith}
+use Rattle.std.proofs.Common.{◌≡◌, ℕ, ◌+◌, ◌<◌, ◌≤◌, Option, Result, List, length, get_or, take}
+use Rattle.std.proofs.Common.{sym, ap, subst, ◌∙◌, inl, inr, arith}
 use Rattle.std.specs.Prelude.{◌≢◌, ◌↔◌, eqb, slice_set, IfNone, Ok, Err}
 use Rattle.std.specs.List.{All, Contains, dedup}
 use Rattle.std.specs.List.Sorted.{IsBinarySearchResult, IsPermutation, IsStrictlyIncreasing}
@@ -44,16 +44,12 @@ one_marked slots marks numbers i mark slot d marked below is within some =
     subst (MarkedIn slots (slice_set marks slot mark)) (sym (take_more numbers i d below))
     (All-push (λ n. get_or (slice_set marks slot mark) (slot_in slots n) 0 ≢ 0) (take i numbers)
     (get_or numbers i d)
-    (λ k e less. stays_marked marks slot mark (slot_in slots (get_or (take i numbers) k e)) within some
-    (marked k e less))
+    (λ k e less. stays_marked marks slot mark (slot_in slots (get_or (take i numbers) k e)) within
+    some (marked k e less))
     (λ e. some (sym (get_or-set_same marks slot mark 0 within)
     ∙ ap (λ k. get_or (slice_set marks slot mark) k 0) is ∙ e)))
 
--- at first there is none
-pub none_before : (slots : ℕ) (marks numbers : List ℕ) → MarkedIn slots marks (take 0 numbers)
-none_before slots marks numbers = λ k d less. absurd (omega (arith, less))
-
--- and at last they are all
+-- at last they are all
 pub all_marked : (slots : ℕ) (marks numbers : List ℕ) (i : ℕ) → length numbers ≤ i
     → MarkedIn slots marks (take i numbers) → MarkedIn slots marks numbers
 all_marked slots marks numbers i past marked =

@@ -58,15 +58,14 @@ fn marks_of(alloc: Global, numbers: &[u64]) -> Result<Vec<u32>, Memory>
     Ok(marks)
 }
 
-/// Numbers, ascending and each once, with a guess of where each is. A guess is verified before the
-/// numbers are searched by halves, so that a number is mostly found, or found to be none of them, at
-/// once, and in `log n` steps whatever the numbers are. Its value in contracts is the list of the
-/// numbers.
+/// Numbers, ascending and each once, with a guess of where each is. A guess is verified before they
+/// are searched by halves, so that a number is mostly found, or known to be none of them, at once,
+/// and in `log n` steps whatever the numbers are. Its value in contracts is the list of the numbers.
 #[derive(Debug, Drop)]
 pub struct Index {
     numbers: Vec<u64>,
-    // at the slot of a number one more than the place where one of this slot stands, and 0 at a slot
-    // of none
+    // at the slot of a number one more than the place where one of this slot stands, and 0 at a
+    // slot of none
     marks: Vec<u32>,
 }
 

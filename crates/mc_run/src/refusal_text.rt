@@ -3,7 +3,7 @@
 
 ghost use Rattle.std.specs.Prelude.{◌<◌};
 
-use mc_domain::{InputFault, PIECE, RefusedFile, Refusal, refused_files};
+use mc_domain::{InputFault, PIECE, Refusal, RefusedFile, refused_files};
 use mc_layout::{FileFault, PieceSource, may_be_asked};
 use mc_text::{MAX_PART, Memory as NoMemory};
 use std::alloc::Global;

@@ -12,3 +12,4 @@ pub mod FirstLemmas
 pub mod RowLemmas
 pub mod SameLemmas
 pub mod OutgoingLemmas
+pub mod ThresholdLemmas

@@ -1,8 +1,9 @@
 //! A domain, and what it says of each flow.
 
 ghost use Rattle.std.specs.Prelude.{◌≡◌, ◌<◌, ℕ, None, IfSome, length, slice_get, unwrap_or};
+ghost use Rattle.std.specs.Option.{option_copied};
 ghost use Rattle.mc_theory.specs.Nets.{interfaces};
-ghost use Rattle.mc_forward.specs.Domains.{IsDomain, net_of, placed_of, row_of, wants_of};
+ghost use Rattle.mc_forward.specs.Domains.{IsDomain, net_of, placed_of, row_of, vif_of, wants_of};
 ghost use Rattle.mc_forward.specs.DomainParts.{domain_with, IsWorkedOut};
 ghost use Rattle.mc_forward.specs.Rows.{row_seen, EntryStands};
 
@@ -12,6 +13,7 @@ use crate::items::Items;
 use crate::places::Places;
 use crate::row::RowFor;
 use crate::tables::Tables;
+use mc_tables::Vif;
 use mc_topology::{LanNo, RouterNo, Topology};
 use std::marker::Model;
 
@@ -70,6 +72,16 @@ fn place_of(places: &[Option<LanNo>], vif: u8) -> Option<LanNo>
     }
 }
 
+/// The vif of a router with this index.
+fn vif_in(tables: &[Tables], router: RouterNo, vif: u8) -> Option<&Vif>
+    ensures { option_copied result ≡ vif_of tables.now router vif }
+{
+    match tables.get(router.0 as usize) {
+        Some(own) => own.vifs.vif(vif),
+        None => None,
+    }
+}
+
 impl Domain {
     /// The domain of a topology, the routers' tables, and what was worked out of them.
     pub(crate) fn new(topology: Topology, tables: Vec<Tables>, worked_out: WorkedOut) -> Domain
@@ -102,6 +114,14 @@ impl Domain {
     {
         let places = &self.worked_out.places[router.0 as usize];
         place_of(places, vif)
+    }
+
+    /// The vif of a router with this index, as its table has it. None where that has no line of
+    /// the index, and for a router that the topology hasn't.
+    pub fn vif(&self, router: RouterNo, vif: u8) -> Option<&Vif>
+        ensures { option_copied result ≡ vif_of self.now.tables router vif }
+    {
+        vif_in(&self.tables, router, vif)
     }
 
     /// What a router's forwarding cache has for a flow.

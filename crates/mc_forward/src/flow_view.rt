@@ -1,14 +1,17 @@
 //! A domain as the packets of one flow meet it.
 
 ghost use Rattle.std.specs.Prelude.{◌≡◌, ◌<◌, IfSome, length};
+ghost use Rattle.std.specs.Option.{option_copied};
 ghost use Rattle.mc_theory.specs.Nets.{interfaces};
 ghost use Rattle.mc_theory.specs.Findings.{from_lan, taken_from};
+ghost use Rattle.mc_forward.specs.Domains.{vif_of};
 ghost use Rattle.mc_forward.specs.Journeys.{net_in, IsFlowIn};
 ghost use Rattle.mc_forward.specs.Rows.{row_seen, EntryStands};
 
 use crate::domain::Domain;
 use crate::interfaces::Interfaces;
 use crate::row::RowFor;
+use mc_tables::Vif;
 use mc_topology::{LanNo, RouterNo, Topology};
 use std::marker::Model;
 
@@ -100,6 +103,14 @@ impl<'d> FlowView<'d> {
         } else {
             None
         }
+    }
+
+    /// The vif of a router with this index, as its table has it. None for a router that the
+    /// topology hasn't, too.
+    pub fn vif(&self, router: RouterNo, vif: u8) -> Option<&'d Vif>
+        ensures { option_copied result ≡ vif_of self.now.domain.tables router vif }
+    {
+        self.domain.vif(router, vif)
     }
 
     /// What a router has for the flow. No row for a router that the topology hasn't.

@@ -37,7 +37,7 @@ pub use flow_view::FlowView;
 pub use interfaces::Interfaces;
 pub use items::Items;
 pub use laws::{domains_are_nets, outgoing_vifs_ascend};
-pub use outgoing::outgoing_from;
+pub use outgoing::{outgoing_from, threshold_of};
 pub use per_lan::PerLan;
 pub use refused::{DomainFault, Refused};
 pub use row::RowFor;

@@ -1,9 +1,11 @@
-//! Where an entry's outgoing vifs stand.
+//! Where an entry's outgoing vifs stand, and their thresholds.
 
 ghost use Rattle.std.specs.Prelude.{◌≡◌, ◌<◌, ◌++◌, List};
 ghost use Rattle.std.specs.List.{AllByRecursion};
+ghost use Rattle.mc_theory.specs.Made.{threshold_of};
 ghost use Rattle.mc_tables.specs.CacheTable.{IsEntry};
 ghost use Rattle.mc_tables.specs.declared.entry.Oif.{Oif as OifValue};
+ghost use Rattle.mc_forward.specs.Domains.{pairs_of};
 
 use mc_tables::{Entry, Oif};
 
@@ -18,4 +20,17 @@ pub fn outgoing_from<'a>(entry: &Entry<'a>, vif: u8) -> &'a [Oif]
     let oifs = entry.oifs;
     let lower = (usize::from(vif) + oifs.len()).saturating_sub(32);
     &oifs[lower.min(oifs.len())..]
+}
+
+/// The threshold of a vif's pair, 0 where it has none.
+pub fn threshold_of(vif: u8, entry: &Entry<'_>) -> u8
+    requires { IsEntry entry.now }
+    ensures { result ≡ threshold_of vif (pairs_of entry.now.oifs) }
+{
+    for oif in outgoing_from(entry, vif) {
+        if oif.vif == vif {
+            return oif.threshold;
+        }
+    }
+    0
 }

@@ -3,4 +3,3 @@ pub mod ListedLemmas
 pub mod ServedLemmas
 pub mod CleanLemmas
 pub mod ExaminedLemmas
-pub mod ThresholdLemmas

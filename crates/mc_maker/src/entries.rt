@@ -2,15 +2,12 @@
 //! LAN.
 
 ghost use Rattle.std.specs.Prelude.{◌≡◌, ◌<◌, ◌≤◌, All, IfOk, IfSome, Some, [], length};
-ghost use Rattle.mc_theory.specs.Made.{entries_of, need_over, threshold_of};
-ghost use Rattle.mc_tables.specs.CacheTable.{IsEntry};
-ghost use Rattle.mc_forward.specs.Domains.{pairs_of};
+ghost use Rattle.mc_theory.specs.Made.{entries_of, need_over};
 ghost use Rattle.mc_maker.specs.ByLan.{IsByLan, entry_by, entry_held, held_entries, need_held};
 ghost use Rattle.mc_forward.specs.Journeys.{net_in};
 
 use mc_cert::Reached;
-use mc_forward::{Carried, FlowView, PerLan, RowFor, outgoing_from};
-use mc_tables::Entry;
+use mc_forward::{Carried, FlowView, PerLan, RowFor, threshold_of};
 use mc_text::Memory;
 use mc_topology::{LanNo, RouterNo};
 use std::alloc::Global;
@@ -23,19 +20,6 @@ pub(crate) fn entry_at(by_lan: &PerLan<Reached>, place: Option<LanNo>) -> Option
         Some(lan) => by_lan.on(lan),
         None => None,
     }
-}
-
-/// The threshold of a vif's pair, 0 where it has none.
-fn threshold_of(vif: u8, entry: &Entry<'_>) -> u8
-    requires { IsEntry entry.now }
-    ensures { result ≡ threshold_of vif (pairs_of entry.now.oifs) }
-{
-    for oif in outgoing_from(entry, vif) {
-        if oif.vif == vif {
-            return oif.threshold;
-        }
-    }
-    0
 }
 
 /// The least TTL with which packets come over a pair with this threshold, from a LAN with this

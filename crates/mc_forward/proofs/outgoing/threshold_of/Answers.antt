@@ -1,5 +1,5 @@
-use Rattle.mc_maker.proofs.ThresholdLemmas.{threshold-behind}
-use Rattle.mc_maker.proofs.entries.threshold_of.Goals as goal
+use Rattle.mc_forward.proofs.ThresholdLemmas.{threshold-behind}
+use Rattle.mc_forward.proofs.outgoing.threshold_of.Goals as goal
 
 pub loop-oif-init : goal.loop-oif-init
 loop-oif-init c = threshold-behind c.args.vif c.outgoing_from-oif-items.result.now

@@ -1,4 +1,5 @@
 pub mod Examined
+pub mod Flown
 pub mod ByLan
 pub use Rattle.mc_theory.specs.Nets
 pub use Rattle.mc_theory.specs.Flights

@@ -12,11 +12,10 @@ ghost use Rattle.mc_maker.specs.Examined.{FindsFault, FindsNothing, IfCertified,
 ghost use Rattle.mc_maker.specs.Examined.{IsOfTravel, IsTravelOfFirst, IsTtlOfFault, is_certified};
 ghost use Rattle.mc_maker.specs.Examined.{AreClean};
 
-use crate::entries::{entries_by_lan, listed};
-use crate::served::serves_all;
+use crate::flown::{Flown, examine_to_end};
 use mc_cert::Reached;
-use mc_forward::{Carried, Domain, FlowView};
-use mc_replay::{Finding, First, Travel, replay, replay_to_end};
+use mc_forward::Domain;
+use mc_replay::Travel;
 use mc_text::Memory;
 use std::alloc::Global;
 
@@ -32,35 +31,6 @@ pub enum Examined {
         /// Its travel, in which the first waiting copy is handled each time.
         travel: Travel,
     },
-}
-
-/// The entries of the copies that a clean travel at TTL 255 carried, by ascending numbers of their
-/// LANs, if they reach each LAN that wants the flow.
-fn certificate_of(
-    alloc: Global,
-    view: &FlowView<'_>,
-    copies: &[Carried],
-) -> Result<Option<Vec<Reached>>, Memory>
-    requires { AreClean view.now.domain view.now.flow copies.now }
-    ensures accepted { IfOk result (λ made. IfSome made (λ es.
-        IsAccepted (net_in view.now) es.items)) }
-    ensures ascending { IfOk result (λ made. IfSome made (λ es.
-        IsStrictlyIncreasing (map (λ e. e.lan) es.items))) }
-    ensures listed { IfOk result (λ made. IfSome made (λ es.
-        All (IsEntryOf view.now.domain.topology) es.items)) }
-    ensures list { IfOk result (λ made. IfSome made (λ es. IsList es.items)) }
-    ensures entries { IfOk result (λ made. IfSome made (λ es.
-        IsReordering (entries_of (net_in view.now) copies.now) es.items)) }
-    // Else the travel at the flow's TTL finds a fault.
-    ensures none { IfOk result (λ made. IfNone made ((travel : Travel) →
-        IsTravelOfFirst view.now.domain view.now.flow (net_in view.now).ttl travel → FindsFault travel)) }
-{
-    let by_lan = entries_by_lan(alloc, view, copies)?;
-    let entries = listed(alloc, &by_lan, copies.len())?;
-    if !serves_all(view, &entries) {
-        return Ok(None);
-    }
-    Ok(Some(entries))
 }
 
 /// Examines the flow with this number: the travel of a packet of TTL 255 shows that the flow is not
@@ -92,20 +62,17 @@ pub fn examine(alloc: Global, domain: &Domain, flow: u32) -> Result<Examined, Me
     ensures right { IfOk result (λ examined.
         IsTrue (is_certified examined) ↔ IsRight (net_of domain.now flow)) }
 {
-    let topology = domain.topology();
-    let ended = replay_to_end(alloc, domain, flow, 255, &mut First)?;
-    let Finding::Clean = ended.travel.finding else {
-        return Ok(Examined::Found {
+    match examine_to_end(alloc, domain, flow)? {
+        Flown::Certified(entries) => Ok(Examined::Certified(entries)),
+        Flown::AtGreatest(ended) => Ok(Examined::Found {
             ttl: 255,
             travel: ended.travel,
-        });
-    };
-    if let Some(entries) = certificate_of(alloc, ended.flight.flow_view(), ended.flight.copies())? {
-        return Ok(Examined::Certified(entries));
+        }),
+        Flown::AtLeast { least, .. } => Ok(Examined::Found {
+            ttl: domain.topology().flow(flow).ttl,
+            travel: least.travel,
+        }),
     }
-    let ttl = topology.flow(flow).ttl;
-    let travel = replay(alloc, domain, flow, ttl, &mut First)?;
-    Ok(Examined::Found { ttl, travel })
 }
 
 /// The entries of a certificate of the flow with this number, if it is right.

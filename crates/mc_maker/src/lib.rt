@@ -4,6 +4,8 @@
 
 mod entries;
 mod examination;
+mod flown;
 mod served;
 
 pub use examination::{Examined, examine, make};
+pub use flown::{Flown, examine_to_end};

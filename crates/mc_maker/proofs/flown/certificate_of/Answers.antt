@@ -4,7 +4,7 @@ use Rattle.mc_forward.specs.Journeys.{net_in}
 use Rattle.mc_maker.proofs.CleanLemmas.{made-listed, made-list, made-within}
 use Rattle.mc_maker.proofs.ExaminedLemmas.{fault-by_lan, reordered-by_lan, ascends-by_lan}
 use Rattle.mc_maker.proofs.ExaminedLemmas.{accepted-by_lan}
-use Rattle.mc_maker.proofs.examination.certificate_of.Goals as goal
+use Rattle.mc_maker.proofs.flown.certificate_of.Goals as goal
 
 pub serves_all-requires : goal.serves_all-requires
 serves_all-requires c =

@@ -12,26 +12,26 @@ use Rattle.mc_maker.proofs.CleanLemmas.{clean-copies}
 use Rattle.mc_maker.proofs.ExaminedLemmas.{accepted-right, fault-value, of-travel, ttl-at}
 use Rattle.mc_maker.proofs.ExaminedLemmas.{view-same}
 use Rattle.mc_maker.proofs.ExaminedLemmas.{ttl-greatest, ttl-least, wrong}
-use Rattle.mc_maker.proofs.examination.examine.Goals as goal
+use Rattle.mc_maker.proofs.flown.examine_to_end.Goals as goal
 
 pub certificate_of-requires : goal.certificate_of-requires
 certificate_of-requires c =
     let d = c.args.domain.now in
-    let view = view-same d c.args.flow c.in_ok-ended.ended.flight c.flow_view.result.now
-    c.in_ok-ended.ensures.domain c.in_ok-ended.ensures.flow c.flow_view.ensures in
-    rw view (clean-copies c.args.domain.now c.in_ok-ended.ended.flight.domain c.args.flow
-    c.in_ok-ended.ended.travel c.in_ok-ended.ended.flight.flight c.copies.result.now
-    c.topology-topology.ensures.rules c.in_ok-ended.ensures.domain c.in_ok-ended.ensures.run
+    let view = view-same d c.args.flow c.in_ok-greatest.greatest.flight c.flow_view.result.now
+    c.in_ok-greatest.ensures.domain c.in_ok-greatest.ensures.flow c.flow_view.ensures in
+    rw view (clean-copies c.args.domain.now c.in_ok-greatest.greatest.flight.domain c.args.flow
+    c.in_ok-greatest.greatest.travel c.in_ok-greatest.greatest.flight.flight c.copies.result.now
+    c.topology-topology.ensures.rules c.in_ok-greatest.ensures.domain c.in_ok-greatest.ensures.run
     (ap finding_value c.in-Clean.is) c.copies.ensures.copies c.copies.ensures.lans
     c.copies.ensures.senders)
 
 pub returns-in_default : goal.returns-in_default
 returns-in_default c =
     let d = c.args.domain.now in
-    let t = c.in_ok-ended.ended.travel in
+    let t = c.in_ok-greatest.greatest.travel in
     let ok = c.topology-topology.ensures.rules in
     let is : IsTravelOfFirst d c.args.flow 255 t =
-    (c.in_ok-ended.ended.flight.flight, c.in_ok-ended.ensures.run) in
+    (c.in_ok-greatest.greatest.flight.flight, c.in_ok-greatest.ensures.run) in
     let fault : FindsFault t = fault-value t.finding c.in_default.not-Clean in
     record {
       accepted = tt;
@@ -52,8 +52,8 @@ returns-in_default c =
 pub returns-in-Some-clause-accepted : goal.returns-in-Some-clause-accepted
 returns-in-Some-clause-accepted c =
     let d = c.args.domain.now in
-    let view = view-same d c.args.flow c.in_ok-ended.ended.flight c.flow_view.result.now
-    c.in_ok-ended.ensures.domain c.in_ok-ended.ensures.flow c.flow_view.ensures in
+    let view = view-same d c.args.flow c.in_ok-greatest.greatest.flight c.flow_view.result.now
+    c.in_ok-greatest.ensures.domain c.in_ok-greatest.ensures.flow c.flow_view.ensures in
     let made = rw view at c.in_ok-entries.ensures in
     subst (λ o. IfSome o (λ es. IsAccepted (net_of d c.args.flow) es.items)) c.in-Some.is
     made.accepted
@@ -61,20 +61,20 @@ returns-in-Some-clause-accepted c =
 pub returns-in-Some-clause-listed : goal.returns-in-Some-clause-listed
 returns-in-Some-clause-listed c =
     let d = c.args.domain.now in
-    let view = view-same d c.args.flow c.in_ok-ended.ended.flight c.flow_view.result.now
-    c.in_ok-ended.ensures.domain c.in_ok-ended.ensures.flow c.flow_view.ensures in
+    let view = view-same d c.args.flow c.in_ok-greatest.greatest.flight c.flow_view.result.now
+    c.in_ok-greatest.ensures.domain c.in_ok-greatest.ensures.flow c.flow_view.ensures in
     let made = rw view at c.in_ok-entries.ensures in
     subst (λ o. IfSome o (λ es. All (IsEntryOf d.topology) es.items)) c.in-Some.is made.listed
 
 pub returns-in-Some-clause-made : goal.returns-in-Some-clause-made
 returns-in-Some-clause-made c =
     let d = c.args.domain.now in
-    let view = view-same d c.args.flow c.in_ok-ended.ended.flight c.flow_view.result.now
-    c.in_ok-ended.ensures.domain c.in_ok-ended.ensures.flow c.flow_view.ensures in
+    let view = view-same d c.args.flow c.in_ok-greatest.greatest.flight c.flow_view.result.now
+    c.in_ok-greatest.ensures.domain c.in_ok-greatest.ensures.flow c.flow_view.ensures in
     let made = rw view at c.in_ok-entries.ensures in
     let cs = c.copies.result.now in
-    of-travel d c.args.flow c.in_ok-ended.ended.travel c.in_ok-ended.ended.flight.flight cs
-    c.in-Some.entries.items c.in_ok-ended.ensures.run (ap finding_value c.in-Clean.is)
+    of-travel d c.args.flow c.in_ok-greatest.greatest.travel c.in_ok-greatest.greatest.flight.flight cs
+    c.in-Some.entries.items c.in_ok-greatest.ensures.run (ap finding_value c.in-Clean.is)
     (subst (λ o. IfSome o (λ es. IsReordering (entries_of (net_of d c.args.flow) cs) es.items))
     c.in-Some.is made.entries) c.copies.ensures.copies
 
@@ -89,9 +89,9 @@ returns-in-Some-clause-right c =
 pub returns-clause-ttl : goal.returns-clause-ttl
 returns-clause-ttl c =
     let d = c.args.domain.now in
-    let t = c.in_ok-ended.ended.travel in
+    let t = c.in_ok-greatest.greatest.travel in
     let is : IsTravelOfFirst d c.args.flow 255 t =
-    (c.in_ok-ended.ended.flight.flight, c.in_ok-ended.ensures.run) in
+    (c.in_ok-greatest.greatest.flight.flight, c.in_ok-greatest.ensures.run) in
     subst (IsTtlOfFault d c.args.flow) (ttl-at d c.args.flow c.topology-topology.result.now
     c.flow.result.now c.topology-topology.ensures.topology c.flow.ensures.flow)
     (ttl-least d c.args.flow t is (ap finding_value c.in-Clean.is))

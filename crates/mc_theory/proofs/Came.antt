@@ -1,8 +1,8 @@
--- In a travel's last flight each copy came by a way, and a loop is a closed one.
+-- In a travel's last flight each copy came by a way.
 use Rattle.std.proofs.Common.{◌≡◌, ◌≢◌, ℕ, ◌+◌, inl, inr, Bool, true, false, List}
 use Rattle.std.proofs.Common.{[], ◌∷◌, ◌++◌, map, cond, ◌==◌, length, Option, Some, None, refl}
 use Rattle.std.proofs.Common.{ap, sym, ◌∙◌, ap₂, subst, arith, eqb-true}
-use Rattle.mc_theory.specs.Lists.{In}
+use Rattle.mc_theory.specs.Lists.{In, Distinct}
 use Rattle.mc_theory.specs.Nets.{Net, IsNet, Row, Interface}
 use Rattle.mc_theory.specs.Nets.Row.{Exact}
 use Rattle.mc_theory.specs.Flights.{Copy, Flight, Pick, start, run, first_copy}
@@ -12,7 +12,9 @@ use Rattle.mc_theory.specs.Findings.{handles}
 use Rattle.mc_theory.specs.Origins.{IsSentOn}
 use Rattle.mc_theory.specs.Shown.{IsFirstDouble}
 use Rattle.mc_theory.specs.Ways.{Hop, IsHop, IsWay, Passes, CameBy}
-use Rattle.mc_theory.proofs.InLists.{in-append_cases, in-append_right, same-by_image}
+use Rattle.mc_theory.proofs.InLists.{in-append_cases, in-append_right, same-by_image, distinct-apart}
+use Rattle.mc_theory.proofs.Splits.{splits}
+use Rattle.mc_theory.proofs.Invariant.{map-append'}
 use Rattle.mc_theory.proofs.Origins.{StepGrows, heard-start}
 use Rattle.mc_theory.proofs.Walks.{IsRooted, rooted, rooted-start, first-in, walks}
 use Rattle.mc_theory.proofs.Ways.{hop_of, is-hop, run-keeps}
@@ -151,7 +153,7 @@ came-by_way n count t numbers last is x c hs net travel c_in by =
     came-way n t (run n (handles is) (start n t)).carried hs c net
     (travel-rooted n count t numbers last is x travel) (headed n t (handles is)) c_in by
 
--- ---- a loop
+-- ---- first copies, and the first double one
 
 first-lan_step : (c : Copy) (cs : List Copy) (l : ℕ) (b : Copy) (test : Bool) →
     (c.lan == l) ≡ test → cond test (Some c) (copy_on cs l) ≡ Some b →
@@ -164,18 +166,22 @@ pub first-lan : (cs : List Copy) (l : ℕ) (b : Copy) → copy_on cs l ≡ Some 
 first-lan [] l b e = absurd cc
 first-lan (c ∷ cs) l b e = first-lan_step c cs l b (c.lan == l) refl e (first-lan cs l b)
 
--- from a LAN that a copy came by, a way leads on to its own; the last hop is by its sender
-pub came-on : (n : Net) (cs : List Copy) (c : Copy) (hs : List Hop) (l : ℕ) → CameBy n cs c hs →
-    In l (map (λ (h : Hop). h.from) hs)
-    → (h : Hop) × (ks : List Hop) × (c.sender ≡ Some (h.router, h.vif)) × IsWay n l (h ∷ ks) c.lan
-came-on n cs c [] l came k = absurd k
-came-on n cs c (h ∷ hs) l came (inl e) = (h, [], came.0, (came.1, came.2, sym e))
-came-on n cs c (h ∷ hs) l came (inr k) =
-    let b = came.3 in
-    let on = came-on n cs b.0 hs l b.2 k in
-    let way = subst (IsWay n l (on.0 ∷ on.1)) (first-lan cs h.from b.0 b.1) on.3 in
-    (h, on.0 ∷ on.1, came.0, (came.1, came.2, way))
-
 pub first-double_in : (cs : List Copy) (c : Copy) → IsFirstDouble cs c → In c cs
 first-double_in cs c d = subst (λ xs. In c xs) (sym d.split) (in-append_right c d.earlier
     (c ∷ d.later) (inl refl))
+
+double-earlier : (cs ds : List Copy) (d : Copy) (zs : List Copy) → cs ≡ ds ++ d ∷ zs →
+    Distinct (lans cs) → In d.lan (lans ds) → ⊥
+double-earlier cs ds d zs e once again =
+    let lan : Copy → ℕ = λ c. c.lan in
+    let apart = subst Distinct (ap lans e ∙ map-append' lan ds (d ∷ zs)) once in
+    distinct-apart (lans ds) (lans (d ∷ zs)) apart d.lan again (inl refl)
+
+-- there is one
+pub double-one : (cs : List Copy) (c d : Copy) → IsFirstDouble cs c → IsFirstDouble cs d → c ≡ d
+double-one cs c d p q = elim
+    (splits p.earlier c p.later q.earlier d q.later (sym p.split ∙ q.split)) [
+      | inl s ↦ s.1
+      | inr (inl s) ↦ absurd (double-earlier p.earlier q.earlier d s.0 s.1 p.once q.again)
+      | inr (inr s) ↦ absurd (double-earlier q.earlier p.earlier c s.0 s.1 q.once p.again)
+    ]

@@ -1,4 +1,5 @@
 pub mod InLists
+pub mod Splits
 pub mod Placing
 pub mod Invariant
 pub mod Steps
@@ -19,6 +20,9 @@ pub mod Shown
 pub mod Told
 pub mod Ways
 pub mod Came
+pub mod Hops
+pub mod Stopped
+pub mod Least
 pub mod Ranks
 pub mod Attended
 pub mod Spare

@@ -10,4 +10,5 @@ pub mod Origins
 pub mod Made
 pub mod Shown
 pub mod Ways
+pub mod Hops
 pub mod Worked

@@ -1,7 +1,7 @@
 -- Ways of a flow's packets over the rows of the domain: which LANs they lead to, and which packets
 -- get through. A way is told backwards, its last hop first.
-use Rattle.std.specs.Prelude.{◌≡◌, ◌≢◌, ℕ, ◌+◌, ◌<◌, max, not, ◌==◌, if◌then◌else◌, List, []}
-use Rattle.std.specs.Prelude.{◌∷◌, filter, length, map, Some, None, ⊤}
+use Rattle.std.specs.Prelude.{◌≡◌, ◌≢◌, ℕ, ◌+◌, ◌<◌, ◌≤◌, max, not, ◌==◌, if◌then◌else◌, List, []}
+use Rattle.std.specs.Prelude.{◌∷◌, ◌++◌, filter, length, map, Some, None, ⊤}
 use Rattle.mc_theory.specs.Lists.{In}
 use Rattle.mc_theory.specs.Nets.{Net, Row, Interface}
 use Rattle.mc_theory.specs.Nets.Row.{Exact, Open, NoRow}
@@ -46,6 +46,16 @@ abbrev pub need : List Hop → ℕ
 need [] = 1
 need (h ∷ hs) = max (need hs) (length hs + h.threshold + 1)
 
+-- A packet sent with TTL t is stopped at hop h: it gets through by the hops before, and what is left
+-- of its TTL isn't greater than the threshold.
+pub record IsStopped (t : ℕ) (hs : List Hop) (h : Hop) (left : ℕ) : Type 0 where
+  pub after : List Hop
+  pub before : List Hop
+  pub split : hs ≡ after ++ h ∷ before
+  pub comes : Passes t before
+  pub ttl : left + length before ≡ t
+  pub stops : left ≤ h.threshold
+
 -- Some way leads from the source's LAN to LAN l, the time to live aside;
 abbrev pub IsReached : Net → ℕ → Type 0
 IsReached n l = (hs : List Hop) × IsWay n n.source hs l
@@ -63,6 +73,19 @@ CameBy n cs c [] = c.sender ≡ None
 CameBy n cs c (h ∷ hs) =
     (c.sender ≡ Some (h.router, h.vif)) × (h.onto ≡ c.lan) × IsHop n h
     × ((b : Copy) × (copy_on cs h.from ≡ Some b) × CameBy n cs b hs)
+
+-- Hop h is the one that copy c was sent by: its sender's, onto its LAN.
+abbrev pub SentBy : Net → Copy → Hop → Type 0
+SentBy n c h = (c.sender ≡ Some (h.router, h.vif)) × (h.onto ≡ c.lan) × IsHop n h
+
+-- Copy c came by these hops from LAN l, and by l nowhere in between: the first is the one that it
+-- was sent by, from l itself, or from another LAN, whose first copy came from l by the rest.
+abbrev pub CameFrom : Net → List Copy → ℕ → Copy → List Hop → Type 0
+CameFrom n cs l c [] = ⊥
+CameFrom n cs l c (h ∷ []) = SentBy n c h × (h.from ≡ l)
+CameFrom n cs l c (h ∷ g ∷ hs) =
+    SentBy n c h × (h.from ≢ l)
+    × ((first : Copy) × (copy_on cs h.from ≡ Some first) × CameFrom n cs l first (g ∷ hs))
 
 -- ---- a remedy
 
@@ -111,7 +134,9 @@ pub record CameTwice (n : Net) (cs : List Copy) (l : ℕ) : Type 0 where
   pub second_leads : IsWay n n.source second_way l
   pub not_before : In l (map (λ h. h.from) second_way) → ⊥
 
--- Hops lead from the LAN back to it, and the last one's interface sent its second copy.
+-- Its second copy came from the LAN itself: the walk back from that copy to the LAN is a way that
+-- leads back to it, and the last hop's interface sent the copy. There are fewer hops than carried
+-- copies.
 pub record CameBack (n : Net) (cs : List Copy) (l : ℕ) : Type 0 where
   pub second : Copy
   pub double : IsFirstDouble cs second
@@ -120,3 +145,5 @@ pub record CameBack (n : Net) (cs : List Copy) (l : ℕ) : Type 0 where
   pub sender : second.sender ≡ Some (last_hop.router, last_hop.vif)
   pub before : List Hop
   pub closed : IsWay n l (last_hop ∷ before) l
+  pub came : CameFrom n cs l second (last_hop ∷ before)
+  pub few : length (last_hop ∷ before) < length cs

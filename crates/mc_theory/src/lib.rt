@@ -2,13 +2,15 @@
 //! flow, and why a certificate covers every order in which routers handle copies.
 //!
 //! The definitions stand in `specs/`, to be read in this order: `Nets`, `Flights`, `Headline`,
-//! `Certificates`, `Reasons`, `Events`, `Findings`, `Shown`, `Origins`, `Made`, `Ways`; `Worked`
-//! has small networks to try them on. Nothing here runs: each function below is a law about them.
+//! `Certificates`, `Reasons`, `Events`, `Findings`, `Shown`, `Origins`, `Made`, `Ways`, `Hops`;
+//! `Worked` has small networks to try them on. Nothing here runs: each function below is a law
+//! about them.
 
 #![tactic(auto)]
 
 mod certificate_laws;
 mod headline_laws;
+mod hop_laws;
 mod travel_laws;
 mod way_laws;
 mod worked_way_laws;
@@ -23,6 +25,11 @@ pub use headline_laws::{
     a_lan_that_is_served_twice_is_wrong, the_fork_needs_its_threshold, the_headline_in_counts,
     the_line_is_right,
 };
+pub use hop_laws::{
+    a_hop_is_found_by_its_interface, a_packet_below_the_need_is_stopped_once,
+    a_second_copy_of_a_loop_came_from_its_lan, a_walk_back_finds_the_hops, hops_are_determined,
+    hops_are_few, the_need_of_its_hops_is_the_least_ttl,
+};
 pub use travel_laws::{
     a_clean_travel_makes_a_tree, a_finding_says_what_the_flight_shows, a_finding_shows,
     a_travel_ends, a_travel_under_way_is_bounded, an_event_tells_what_its_step_did,
@@ -36,6 +43,7 @@ pub use way_laws::{
 };
 pub use worked_way_laws::{
     a_packet_below_the_need_may_be_lost, an_interface_alone_is_taken_out,
-    by_other_choices_a_first_copy_may_be_late, the_closed_diamond_has_a_remedy,
-    the_diamond_has_an_upper_way, the_way_back_has_a_remedy,
+    by_other_choices_a_first_copy_may_be_late, hops_are_read_from_rows,
+    the_closed_diamond_has_a_remedy, the_diamond_has_an_upper_way, the_diamond_stops_low_packets,
+    the_way_back_came_from_its_lan, the_way_back_has_a_remedy,
 };

@@ -1,4 +1,4 @@
-//! Ways and remedies on small networks that are judged by hand.
+//! Ways, hops and remedies on small networks that are judged by hand.
 
 ghost use Rattle.std.specs.Prelude.{◌≡◌, ℕ, true, false, List, [], ◌∷◌, Some, None};
 ghost use Rattle.mc_theory.specs.Nets.Row.{Exact};
@@ -6,8 +6,10 @@ ghost use Rattle.mc_theory.specs.Flights.{start, run};
 ghost use Rattle.mc_theory.specs.Headline.{HeadlineHolds};
 ghost use Rattle.mc_theory.specs.Findings.{copy_on, IsTravel, handles};
 ghost use Rattle.mc_theory.specs.Findings.Finding.{Duplicate, Loop};
-ghost use Rattle.mc_theory.specs.Ways.{IsHop, IsWay, Passes, need, IsReachedWith, take_out};
-ghost use Rattle.mc_theory.specs.Ways.{IsSpare, CameTwice, CameBack};
+ghost use Rattle.mc_theory.specs.Ways.{Hop, IsHop, IsWay, Passes, need, IsStopped};
+ghost use Rattle.mc_theory.specs.Ways.{IsReachedWith, take_out, CameFrom, IsSpare, CameTwice};
+ghost use Rattle.mc_theory.specs.Ways.{CameBack};
+ghost use Rattle.mc_theory.specs.Hops.{hop_by, IsWayPart};
 ghost use Rattle.mc_theory.specs.Worked.{copy, onward, onward_hop, hop_above, way_back, second_way};
 ghost use Rattle.mc_theory.specs.Worked.{diamond, upper_way, closed_diamond, fork, twins};
 
@@ -20,6 +22,23 @@ pub fn the_diamond_has_an_upper_way()
     ensures least_ttl { need upper_way ≡ 3 }
     ensures gets_through { Passes 3 upper_way }
     ensures too_low { Passes 2 upper_way → ⊥ }
+{}
+
+/// In the diamond a packet of TTL 2 comes to r3 with TTL 1, which is not greater than the threshold,
+/// and stops there; one of TTL 1 stops at r1, and never comes to r3.
+pub fn the_diamond_stops_low_packets()
+    ensures last { IsStopped 2 upper_way (onward_hop 1 2 3) 1 }
+    ensures first { IsStopped 1 upper_way (onward_hop 0 0 1) 1 }
+    ensures not_again { IsStopped 1 upper_way (onward_hop 1 2 3) 0 → ⊥ }
+    ensures least_ttl { (h : Hop) (left : ℕ) → IsStopped 3 upper_way h left → ⊥ }
+{}
+
+/// A hop is read from its router's row: from where it takes, and above which threshold it sends.
+pub fn hops_are_read_from_rows()
+    ensures lan { hop_by closed_diamond (3, 1) 3 ≡ Some (onward_hop 2 3 3) }
+    ensures threshold { hop_by twins (0, 1) 1 ≡ Some (hop_above 64 0 0 1) }
+    // r4 has no row
+    ensures none { hop_by diamond (3, 1) 3 ≡ None }
 {}
 
 /// Only the interface is taken out: the fork's other vif stays, and so do the rows of others.
@@ -52,6 +71,23 @@ pub fn the_way_back_has_a_remedy()
         (run (way_back 3) (handles (0 ∷ 0 ∷ 0 ∷ 0 ∷ [])) (start (way_back 3) 255))
         (copy 0 252 (Some (2, 1))) (2, 1) [] }
     ensures right { HeadlineHolds (take_out (2, 1) (way_back 3)) 3 }
+{}
+
+/// There the second copy on l0 came from l0 by all three hops, from l1 by the last two, and from l0
+/// not by the last alone. The walk back over that one comes to the copy on l2.
+pub fn the_way_back_came_from_its_lan()
+    ensures its_own { CameFrom (way_back 3)
+        (run (way_back 3) (handles (0 ∷ 0 ∷ 0 ∷ 0 ∷ [])) (start (way_back 3) 255)).carried 0
+        (copy 0 252 (Some (2, 1))) (onward_hop 2 2 0 ∷ onward_hop 1 1 2 ∷ onward_hop 0 0 1 ∷ []) }
+    ensures another { CameFrom (way_back 3)
+        (run (way_back 3) (handles (0 ∷ 0 ∷ 0 ∷ 0 ∷ [])) (start (way_back 3) 255)).carried 1
+        (copy 0 252 (Some (2, 1))) (onward_hop 2 2 0 ∷ onward_hop 1 1 2 ∷ []) }
+    ensures not_by_one { CameFrom (way_back 3)
+        (run (way_back 3) (handles (0 ∷ 0 ∷ 0 ∷ 0 ∷ [])) (start (way_back 3) 255)).carried 0
+        (copy 0 252 (Some (2, 1))) (onward_hop 2 2 0 ∷ []) → ⊥ }
+    ensures part { IsWayPart (way_back 3)
+        (run (way_back 3) (handles (0 ∷ 0 ∷ 0 ∷ 0 ∷ [])) (start (way_back 3) 255)).carried
+        (copy 0 252 (Some (2, 1))) (onward_hop 2 2 0 ∷ []) (copy 2 253 (Some (1, 1))) }
 {}
 
 /// Of the twins r2 sends the second copy onto l1. Without it the flow is right, whose packets have

@@ -5,8 +5,9 @@ use Rattle.mc_theory.specs.Flights.{start, run}
 use Rattle.mc_theory.specs.Findings.{copy_on, handles}
 use Rattle.mc_theory.specs.Ways.{IsWay}
 use Rattle.mc_theory.proofs.Walks.{first-in}
-use Rattle.mc_theory.proofs.Came.{walk-came, travel-rooted, came, came-by_way, came-on, first-lan}
+use Rattle.mc_theory.proofs.Came.{walk-came, travel-rooted, came, came-by_way, first-lan}
 use Rattle.mc_theory.proofs.Came.{first-double_in}
+use Rattle.mc_theory.proofs.Hops.{came-from, from-sent, from-way, from-short}
 use Rattle.mc_theory.proofs.Spare.{senders-once, first-of_double, other-sender}
 use Rattle.mc_theory.proofs.way_laws.a_second_copy_came_by_another_way.Goals as goal
 
@@ -15,17 +16,21 @@ returns-clause-loop_came_back c = λ n count t numbers last is x l travel shows.
     let cs = (run n (handles is) (start n t)).carried in
     let d = shows.0 in
     let r = travel-rooted n count t numbers last is x travel in
-    let over = walk-came n t cs d.copy d.walk r (first-double_in cs d.copy d.first) d.back in
+    let d_in = first-double_in cs d.copy d.first in
+    let over = walk-came n t cs d.copy d.walk r d_in d.back in
     let by = subst (λ ls. In l ls) (sym over.2) shows.1 in
-    let on = came-on n cs d.copy over.0 l over.1 by in
+    let on = came-from n cs l d.copy over.0 over.1 by in
+    let hops = on.0 ∷ on.1 in
     record {
       second = d.copy;
       double = d.first;
       lan = d.lan;
       last_hop = on.0;
-      sender = on.2;
+      sender = (from-sent n cs l d.copy on.0 on.1 on.2).0;
       before = on.1;
-      closed = subst (IsWay n l (on.0 ∷ on.1)) d.lan on.3;
+      closed = subst (IsWay n l hops) d.lan (from-way n cs l d.copy hops on.2);
+      came = on.2;
+      few = from-short n count t numbers last is x l d.copy hops travel d_in on.2;
     }
 
 pub returns-clause-duplicate_came_twice : goal.returns-clause-duplicate_came_twice

@@ -1,5 +1,5 @@
 -- Computed, and by the line's certificate.
-use Rattle.std.proofs.Common.{inl, [], ◌∷◌, Some, None, refl}
+use Rattle.std.proofs.Common.{inl, [], ◌∷◌, Some, None, refl, arith}
 use Rattle.mc_theory.specs.Lists.{below}
 use Rattle.mc_theory.specs.Nets.{interfaces}
 use Rattle.mc_theory.specs.Worked.{copy, onward_hop, way_back}
@@ -35,6 +35,24 @@ returns-clause-came_back c = record {
       (refl, is-onward (way_back 3) 0 0 1 refl refl refl, refl),
     ),
   );
+  came = (
+    (refl, refl, is-onward (way_back 3) 2 2 0 refl refl refl),
+    (λ e. omega (arith, e)),
+    (
+      copy 2 253 (Some (1, 1)),
+      refl,
+      (
+        (refl, refl, is-onward (way_back 3) 1 1 2 refl refl refl),
+        (λ e. omega (arith, e)),
+        (
+          copy 1 254 (Some (0, 1)),
+          refl,
+          ((refl, refl, is-onward (way_back 3) 0 0 1 refl refl refl), refl),
+        ),
+      ),
+    ),
+  );
+  few = omega arith;
 }
 
 pub returns-clause-spare : goal.returns-clause-spare

@@ -1,0 +1,36 @@
+-- Computed, and by the need.
+use Rattle.std.proofs.Common.{[], ◌∷◌, refl, arith}
+use Rattle.mc_theory.specs.Worked.{onward_hop, upper_way}
+use Rattle.mc_theory.proofs.Stopped.{below-stopped, stopped-once}
+use Rattle.mc_theory.proofs.worked_way_laws.the_diamond_stops_low_packets.Goals as goal
+
+pub returns-clause-last : goal.returns-clause-last
+returns-clause-last c = record {
+  after = [];
+  before = onward_hop 0 0 1 ∷ [];
+  split = refl;
+  comes = (omega arith, tt);
+  ttl = refl;
+  stops = omega arith;
+}
+
+pub returns-clause-first : goal.returns-clause-first
+returns-clause-first c = record {
+  after = onward_hop 1 2 3 ∷ [];
+  before = [];
+  split = refl;
+  comes = tt;
+  ttl = refl;
+  stops = omega arith;
+}
+
+pub returns-clause-not_again : goal.returns-clause-not_again
+returns-clause-not_again c = λ s.
+    let other = (stopped-once 1 upper_way (onward_hop 1 2 3) 0 (onward_hop 0 0 1) 1 s
+    (returns-clause-first c)).1 in
+    omega (arith, other)
+
+pub returns-clause-least_ttl : goal.returns-clause-least_ttl
+returns-clause-least_ttl c = λ h left s.
+    let low = below-stopped 3 upper_way h left s in
+    omega (arith, low)

@@ -1,0 +1,49 @@
+-- Computed, hop by hop.
+use Rattle.std.proofs.Common.{Some, refl, arith}
+use Rattle.mc_theory.specs.Lists.{below}
+use Rattle.mc_theory.specs.Nets.{interfaces}
+use Rattle.mc_theory.specs.Worked.{copy, way_back}
+use Rattle.mc_theory.proofs.WorkedKept.{is-onward}
+use Rattle.mc_theory.proofs.worked_way_laws.the_way_back_came_from_its_lan.Goals as goal
+
+pub returns-clause-its_own : goal.returns-clause-its_own
+unfolding below interfaces
+returns-clause-its_own c = (
+  (refl, refl, is-onward (way_back 3) 2 2 0 refl refl refl),
+  (λ e. omega (arith, e)),
+  (
+    copy 2 253 (Some (1, 1)),
+    refl,
+    (
+      (refl, refl, is-onward (way_back 3) 1 1 2 refl refl refl),
+      (λ e. omega (arith, e)),
+      (
+        copy 1 254 (Some (0, 1)),
+        refl,
+        ((refl, refl, is-onward (way_back 3) 0 0 1 refl refl refl), refl),
+      ),
+    ),
+  ),
+)
+
+pub returns-clause-another : goal.returns-clause-another
+unfolding below interfaces
+returns-clause-another c = (
+  (refl, refl, is-onward (way_back 3) 2 2 0 refl refl refl),
+  (λ e. omega (arith, e)),
+  (
+    copy 2 253 (Some (1, 1)),
+    refl,
+    ((refl, refl, is-onward (way_back 3) 1 1 2 refl refl refl), refl),
+  ),
+)
+
+pub returns-clause-not_by_one : goal.returns-clause-not_by_one
+returns-clause-not_by_one c = λ from. let e = from.1 in omega (arith, e)
+
+pub returns-clause-part : goal.returns-clause-part
+unfolding below interfaces
+returns-clause-part c = (
+  (refl, refl, is-onward (way_back 3) 2 2 0 refl refl refl),
+  (copy 2 253 (Some (1, 1)), refl, refl),
+)

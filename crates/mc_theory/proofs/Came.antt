@@ -1,7 +1,7 @@
 -- In a travel's last flight each copy came by a way.
-use Rattle.std.proofs.Common.{◌≡◌, ◌≢◌, ℕ, ◌+◌, inl, inr, Bool, true, false, List}
-use Rattle.std.proofs.Common.{[], ◌∷◌, ◌++◌, map, cond, ◌==◌, length, Option, Some, None, refl}
-use Rattle.std.proofs.Common.{ap, sym, ◌∙◌, ap₂, subst, arith, eqb-true}
+use Rattle.std.proofs.Common.{◌≡◌, ◌≢◌, ℕ, ◌+◌, inl, inr, Bool, true, false, List, [], ◌∷◌, ◌++◌}
+use Rattle.std.proofs.Common.{map, cond, ◌==◌, length, Option, Some, None, refl, ap, sym, ◌∙◌, ap₂}
+use Rattle.std.proofs.Common.{subst, arith, eqb-true}
 use Rattle.mc_theory.specs.Lists.{In, Distinct}
 use Rattle.mc_theory.specs.Nets.{Net, IsNet, Row, Interface}
 use Rattle.mc_theory.specs.Nets.Row.{Exact}
@@ -12,7 +12,8 @@ use Rattle.mc_theory.specs.Findings.{handles}
 use Rattle.mc_theory.specs.Origins.{IsSentOn}
 use Rattle.mc_theory.specs.Shown.{IsFirstDouble}
 use Rattle.mc_theory.specs.Ways.{Hop, IsHop, IsWay, Passes, CameBy}
-use Rattle.mc_theory.proofs.InLists.{in-append_cases, in-append_right, same-by_image, distinct-apart}
+use Rattle.mc_theory.proofs.InLists.{in-append_cases, in-append_right, same-by_image}
+use Rattle.mc_theory.proofs.InLists.{distinct-apart}
 use Rattle.mc_theory.proofs.Splits.{splits}
 use Rattle.mc_theory.proofs.Invariant.{map-append'}
 use Rattle.mc_theory.proofs.Origins.{StepGrows, heard-start}

@@ -1,22 +1,25 @@
 -- The hops by which copies came, one after the other: how they are found, and that they are the
 -- only ones.
-use Rattle.std.proofs.Common.{◌≡◌, ◌≢◌, ℕ, ◌+◌, ◌<◌, ◌≤◌, inl, inr, Bool, List, [], ◌∷◌, ◌++◌}
-use Rattle.std.proofs.Common.{map, length, Option, Some, None, refl, ap, sym, ◌∙◌, ap₂, subst, arith}
-use Rattle.std.proofs.lemmas.Bool.{cases_eq}
+use Rattle.std.proofs.Common.{◌≡◌, ◌≢◌, ℕ, ◌+◌, ◌<◌, ◌≤◌, inl, inr, Bool, List, [], ◌∷◌, ◌++◌, map}
+use Rattle.std.proofs.Common.{length, Option, Some, None, refl, ap, sym, ◌∙◌, ap₂, subst, arith}
+use Rattle.std.proofs.Common.{zero, suc, true, false, cond, ◌==◌, eq-eqb}
+use Rattle.std.proofs.lemmas.Bool.{cases_eq, ne_eqb}
 use Rattle.mc_theory.specs.Lists.{In}
 use Rattle.mc_theory.specs.Nets.{Net, IsNet, Row, Interface}
 use Rattle.mc_theory.specs.Flights.{Copy, start, run}
 use Rattle.mc_theory.specs.Findings.{Finding, copy_on, from_lan, taken_from, IsWalkBack, IsTravel}
-use Rattle.mc_theory.specs.Findings.{handles}
+use Rattle.mc_theory.specs.Findings.{handles, sender_on}
 use Rattle.mc_theory.specs.Findings.Finding.{Loop}
 use Rattle.mc_theory.specs.Shown.{IsFirstDouble, Shows}
 use Rattle.mc_theory.specs.Made.{threshold_of, pairs_of}
 use Rattle.mc_theory.specs.Ways.{Hop, IsHop, IsWay, CameBy, SentBy, CameFrom}
-use Rattle.mc_theory.specs.Hops.{hop_from, hop_by, IsWayPart}
+use Rattle.mc_theory.specs.Hops.{hop_from, hop_by, hop_sent, hop_and, hops_back, hops_until}
+use Rattle.mc_theory.specs.Hops.{IsWayPart}
 use Rattle.mc_theory.proofs.Complete.{threshold-found}
-use Rattle.mc_theory.proofs.Walks.{first-in, walks}
+use Rattle.mc_theory.proofs.Walks.{first-in, walks, sender-first}
 use Rattle.mc_theory.proofs.Ways.{hop_of, is-hop}
-use Rattle.mc_theory.proofs.Came.{same-copy, same-lan, first-lan, walk-came, travel-rooted, came, first-double_in, double-one}
+use Rattle.mc_theory.proofs.Came.{same-copy, same-lan, first-lan, walk-came, travel-rooted, came}
+use Rattle.mc_theory.proofs.Came.{first-double_in, double-one}
 
 -- ---- the hop of a sender
 
@@ -231,6 +234,84 @@ from-short n count t numbers last is x l c hs travel c_in from =
     let short = came-short n count t numbers last is x c by.0 travel c_in by.1 in
     omega (arith, within.0, short)
 
+-- ---- they are found one after the other, from the last
+
+sent-found : (n : Net) (c : Copy) (h : Hop) → IsNet n → SentBy n c h →
+    hop_sent n c.sender c.lan ≡ Some h
+sent-found n c h net sent = ap (λ (x : Option Interface). hop_sent n x c.lan) sent.0 ∙
+    sent-known n c h (h.router, h.vif) net sent sent.0
+
+-- one step of it: none from the source's copy, and else the sender's hop, and what is found on from it
+pub back-none : (n : Net) (cs : List Copy) (k onto : ℕ) → hops_back n cs k onto None ≡ []
+back-none n cs zero onto = refl
+back-none n cs (suc k) onto = refl
+
+pub back-step : (n : Net) (cs : List Copy) (k onto : ℕ) (i : Interface) (h : Hop) →
+    hop_by n i onto ≡ Some h →
+    hops_back n cs (suc k) onto (Some i) ≡ h ∷ hops_back n cs k h.from (sender_on cs h.from)
+back-step n cs k onto i h e = ap (hop_and (λ h. hops_back n cs k h.from (sender_on cs h.from))) e
+
+pub until-none : (n : Net) (cs : List Copy) (l k onto : ℕ) → hops_until n cs l k onto None ≡ []
+until-none n cs l zero onto = refl
+until-none n cs l (suc k) onto = refl
+
+-- the sender's hop alone, where it takes from the LAN
+until-step : (n : Net) (cs : List Copy) (l k onto : ℕ) (i : Interface) (h : Hop) (test : Bool) →
+    hop_by n i onto ≡ Some h → (h.from == l) ≡ test → hops_until n cs l (suc k) onto (Some i) ≡
+    h ∷ cond test [] (hops_until n cs l k h.from (sender_on cs h.from))
+until-step n cs l k onto i h test e q =
+    ap (hop_and (λ h. cond (h.from == l) [] (hops_until n cs l k h.from (sender_on cs h.from)))) e ∙
+    ap (λ (b : Bool). h ∷ cond b [] (hops_until n cs l k h.from (sender_on cs h.from))) q
+
+pub until-last : (n : Net) (cs : List Copy) (l k onto : ℕ) (i : Interface) (h : Hop) →
+    hop_by n i onto ≡ Some h → h.from ≡ l → hops_until n cs l (suc k) onto (Some i) ≡ h ∷ []
+until-last n cs l k onto i h e q = until-step n cs l k onto i h true e (eq-eqb h.from l q)
+
+pub until-more : (n : Net) (cs : List Copy) (l k onto : ℕ) (i : Interface) (h : Hop) →
+    hop_by n i onto ≡ Some h → h.from ≢ l → hops_until n cs l (suc k) onto (Some i) ≡
+    h ∷ hops_until n cs l k h.from (sender_on cs h.from)
+until-more n cs l k onto i h e z = until-step n cs l k onto i h false e (ne_eqb h.from l z)
+
+-- where as many are looked for, or more
+pub back-found : (n : Net) (cs : List Copy) (k : ℕ) (c : Copy) (hs : List Hop) → IsNet n →
+    CameBy n cs c hs → length hs ≤ k → hops_back n cs k c.lan c.sender ≡ hs
+back-found n cs zero c [] net by few = refl
+back-found n cs zero c (h ∷ hs) net by few = absurd (omega (arith, few))
+back-found n cs (suc k) c [] net by few = ap (hops_back n cs (suc k) c.lan) by
+back-found n cs (suc k) c (h ∷ hs) net by few =
+    let b = by.3 in
+    let hop = sent-found n c h net (by.0, by.1, by.2) in
+    let lan : h.from ≡ b.0.lan = sym (first-lan cs h.from b.0 b.1) in
+    let next : hops_back n cs k h.from (sender_on cs h.from) ≡ hops_back n cs k b.0.lan b.0.sender =
+    ap₂ (hops_back n cs k) lan (sender-first cs h.from b.0 b.1) in
+    ap (hop_and (λ h. hops_back n cs k h.from (sender_on cs h.from))) hop ∙
+    ap (λ (ks : List Hop). h ∷ ks)
+    (next ∙ back-found n cs k b.0 hs net b.2 (omega (arith, few)))
+
+until-next : (n : Net) (cs : List Copy) (l k : ℕ) (c : Copy) (h : Hop) (test : Bool) → IsNet n →
+    SentBy n c h → (h.from == l) ≡ test → hops_until n cs l (suc k) c.lan c.sender ≡
+    h ∷ cond test [] (hops_until n cs l k h.from (sender_on cs h.from))
+until-next n cs l k c h test net sent q =
+    ap (hop_and (λ h. cond (h.from == l) [] (hops_until n cs l k h.from (sender_on cs h.from))))
+    (sent-found n c h net sent) ∙
+    ap (λ (b : Bool). h ∷ cond b [] (hops_until n cs l k h.from (sender_on cs h.from))) q
+
+pub until-found : (n : Net) (cs : List Copy) (l k : ℕ) (c : Copy) (hs : List Hop) → IsNet n →
+    CameFrom n cs l c hs → length hs ≤ k → hops_until n cs l k c.lan c.sender ≡ hs
+until-found n cs l k c [] net x few = absurd x
+until-found n cs l zero c (h ∷ hs) net x few = absurd (omega (arith, few))
+until-found n cs l (suc k) c (h ∷ []) net x few =
+    until-next n cs l k c h true net x.0 (eq-eqb h.from l x.1)
+until-found n cs l (suc k) c (h ∷ g ∷ hs) net x few =
+    let b = x.2 in
+    let lan : h.from ≡ b.0.lan = sym (first-lan cs h.from b.0 b.1) in
+    let next : hops_until n cs l k h.from (sender_on cs h.from) ≡
+    hops_until n cs l k b.0.lan b.0.sender =
+    ap₂ (hops_until n cs l k) lan (sender-first cs h.from b.0 b.1) in
+    until-next n cs l k c h false net x.0 (ne_eqb h.from l x.1) ∙
+    ap (λ (ks : List Hop). h ∷ ks)
+    (next ∙ until-found n cs l k b.0 (g ∷ hs) net b.2 (omega (arith, few)))
+
 -- ---- a loop
 
 -- A loop's first double copy came from its own LAN.
@@ -373,3 +454,45 @@ part-short n count t numbers last is x c hs b travel c_in part =
     let short = came-short n count t numbers last is x c (hs ++ by.0) travel c_in all in
     let long = length-append hs by.0 in
     omega (arith, short, long)
+
+-- the hops that are found from its copy
+pub travel-back : (n : Net) (count t : ℕ) (numbers : List ℕ) (last : Bool) (is : List ℕ)
+    (x : Finding) (c : Copy) → IsNet n → IsTravel n count numbers last is (start n t) x →
+    In c (run n (handles is) (start n t)).carried →
+    CameBy n (run n (handles is) (start n t)).carried c
+    (hops_back n (run n (handles is) (start n t)).carried
+    (length (run n (handles is) (start n t)).carried) c.lan c.sender)
+travel-back n count t numbers last is x c net travel c_in =
+    let cs = (run n (handles is) (start n t)).carried in
+    let by = came n count t numbers last is x c travel c_in in
+    let short = came-short n count t numbers last is x c by.0 travel c_in by.1 in
+    let found = back-found n cs (length cs) c by.0 net by.1 (omega (arith, short)) in
+    subst (CameBy n cs c) (sym found) by.1
+
+-- and back to LAN l
+pub travel-until : (n : Net) (count t : ℕ) (numbers : List ℕ) (last : Bool) (is : List ℕ)
+    (x : Finding) (l : ℕ) (c : Copy) (hs : List Hop) → IsNet n →
+    IsTravel n count numbers last is (start n t) x →
+    In c (run n (handles is) (start n t)).carried →
+    CameFrom n (run n (handles is) (start n t)).carried l c hs →
+    hops_until n (run n (handles is) (start n t)).carried l
+    (length (run n (handles is) (start n t)).carried) c.lan c.sender ≡ hs
+travel-until n count t numbers last is x l c hs net travel c_in from =
+    let cs = (run n (handles is) (start n t)).carried in
+    let short = from-short n count t numbers last is x l c hs travel c_in from in
+    until-found n cs l (length cs) c hs net from (omega (arith, short))
+
+pub loop-until : (n : Net) (count t : ℕ) (numbers : List ℕ) (last : Bool) (is : List ℕ)
+    (x : Finding) (l : ℕ) (c : Copy) → IsNet n →
+    IsTravel n count numbers last is (start n t) x →
+    Shows n (run n (handles is) (start n t)) (Loop l) →
+    IsFirstDouble (run n (handles is) (start n t)).carried c →
+    CameFrom n (run n (handles is) (start n t)).carried l c
+    (hops_until n (run n (handles is) (start n t)).carried l
+    (length (run n (handles is) (start n t)).carried) c.lan c.sender)
+loop-until n count t numbers last is x l c net travel shows double =
+    let cs = (run n (handles is) (start n t)).carried in
+    let from = (loop-from n count t numbers last is x l c travel shows double).1 in
+    let c_in = first-double_in cs c double in
+    subst (CameFrom n cs l c)
+    (sym (travel-until n count t numbers last is x l c from.0 net travel c_in from.1)) from.1

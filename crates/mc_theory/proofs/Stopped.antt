@@ -1,8 +1,10 @@
 -- Where a packet is stopped.
 use Rattle.std.proofs.Common.{◌≡◌, ℕ, ◌+◌, ◌-◌, ◌<◌, ◌≤◌, inl, inr, List, [], ◌∷◌, ◌++◌, length}
-use Rattle.std.proofs.Common.{refl, ap, sym, ◌∙◌, subst, arith}
+use Rattle.std.proofs.Common.{refl, ap, sym, ◌∙◌, ap₂, subst, arith, ◌↔◌, Bool, true, false, cond}
+use Rattle.std.proofs.Common.{nat_lt, ltb-true, ltb-false, Option, Some, None}
 use Rattle.std.proofs.lemmas.Bool.{cases_lt}
 use Rattle.mc_theory.specs.Ways.{Hop, Passes, need, IsStopped}
+use Rattle.mc_theory.specs.Hops.{stop_by, stop_of}
 use Rattle.mc_theory.proofs.Splits.{splits}
 use Rattle.mc_theory.proofs.Ways.{need-passes}
 
@@ -92,3 +94,75 @@ stopped-once t hs h left g more p q = elim
       | inr (inl s) ↦ absurd (unpassed t hs h left p q.before s.0 s.2 q.comes)
       | inr (inr s) ↦ absurd (unpassed t hs g more q p.before s.0 s.2 p.comes)
     ]
+
+-- ---- it is found hop by hop
+
+-- what is known of the hop that `stop_of` finds, if it finds one
+abbrev pub StopTold : ℕ → List Hop → Option (Hop × ℕ) → Type 0
+StopTold t hs None = Passes t hs
+StopTold t hs (Some stop) = IsStopped t hs stop.0 stop.1
+
+told-here : (t : ℕ) (h : Hop) (hs : List Hop) (test : Bool) →
+    nat_lt h.threshold (t - length hs) ≡ test → Passes t hs →
+    StopTold t (h ∷ hs) (cond test None (Some (h, t - length hs)))
+told-here t h hs true q p =
+    let lt = ltb-true h.threshold (t - length hs) q in
+    (omega (arith, lt), p)
+told-here t h hs false q p =
+    let le = ltb-false h.threshold (t - length hs) q in
+    let long = passes-long t hs p in
+    let ttl : t - length hs + length hs ≡ t = omega (arith, long) in
+    record { after = []; before = hs; split = refl; comes = p; ttl = ttl; stops = le }
+
+told-by : (t : ℕ) (h : Hop) (hs : List Hop) (o : Option (Hop × ℕ)) → StopTold t hs o →
+    StopTold t (h ∷ hs) (stop_by h (t - length hs) o)
+told-by t h hs None p = told-here t h hs (nat_lt h.threshold (t - length hs)) refl p
+told-by t h hs (Some stop) s = record {
+  after = h ∷ s.after;
+  before = s.before;
+  split = ap (λ (ks : List Hop). h ∷ ks) s.split;
+  comes = s.comes;
+  ttl = s.ttl;
+  stops = s.stops;
+}
+
+pub told : (t : ℕ) (hs : List Hop) → StopTold t hs (stop_of t hs)
+told t [] = tt
+told t (h ∷ hs) = told-by t h hs (stop_of t hs) (told t hs)
+
+-- a packet that is stopped doesn't get through
+pub stopped-unpassed : (t : ℕ) (hs : List Hop) (h : Hop) (left : ℕ) → IsStopped t hs h left →
+    Passes t hs → ⊥
+stopped-unpassed t hs h left s p = unpassed t hs h left s hs s.after s.split p
+
+none-told : (t : ℕ) (hs : List Hop) (o : Option (Hop × ℕ)) → StopTold t hs o → Passes t hs →
+    o ≡ None
+none-told t hs None d p = refl
+none-told t hs (Some stop) d p = absurd (stopped-unpassed t hs stop.0 stop.1 d p)
+
+some-told : (t : ℕ) (hs : List Hop) (o : Option (Hop × ℕ)) (h : Hop) (left : ℕ) →
+    StopTold t hs o → IsStopped t hs h left → o ≡ Some (h, left)
+some-told t hs None h left d s = absurd (stopped-unpassed t hs h left s d)
+some-told t hs (Some stop) h left d s =
+    let one = stopped-once t hs stop.0 stop.1 h left d s in
+    ap₂ (λ (g : Hop) (k : ℕ). Some (g, k)) one.0 one.1
+
+pub stop-none : (t : ℕ) (hs : List Hop) → (stop_of t hs ≡ None) ↔ Passes t hs
+stop-none t hs = (
+  (λ e. subst (StopTold t hs) e (told t hs)),
+  (λ p. none-told t hs (stop_of t hs) (told t hs) p),
+)
+
+pub stop-some : (t : ℕ) (hs : List Hop) (h : Hop) (left : ℕ) →
+    (stop_of t hs ≡ Some (h, left)) ↔ IsStopped t hs h left
+stop-some t hs h left = (
+  (λ e. subst (StopTold t hs) e (told t hs)),
+  (λ s. some-told t hs (stop_of t hs) h left (told t hs) s),
+)
+
+-- what stopped it stops it, whatever hops come after
+pub stop-stays : (t : ℕ) (after hs : List Hop) (stop : Hop × ℕ) → stop_of t hs ≡ Some stop →
+    stop_of t (after ++ hs) ≡ Some stop
+stop-stays t [] hs stop e = e
+stop-stays t (h ∷ after) hs stop e =
+    ap (stop_by h (t - length (after ++ hs))) (stop-stays t after hs stop e)

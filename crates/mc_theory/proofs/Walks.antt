@@ -158,7 +158,7 @@ sender-first_step : (c : Copy) (cs : List Copy) (l : ℕ) (b : Copy) (test : Boo
 sender-first_step c cs l b true e ih = let same : c ≡ b = cc in ap (λ (x : Copy). x.sender) same
 sender-first_step c cs l b false e ih = ih e
 
-sender-first : (cs : List Copy) (l : ℕ) (b : Copy) → copy_on cs l ≡ Some b →
+pub sender-first : (cs : List Copy) (l : ℕ) (b : Copy) → copy_on cs l ≡ Some b →
     sender_on cs l ≡ b.sender
 sender-first [] l b e = absurd cc
 sender-first (c ∷ cs) l b e = sender-first_step c cs l b (c.lan == l) e (sender-first cs l b)

@@ -1,8 +1,8 @@
 //! By which hops a copy came, how these are found one after the other, which packets get through
 //! by them, and where another is stopped.
 
-ghost use Rattle.std.specs.Prelude.{◌≡◌, ◌≢◌, ◌↔◌, ◌<◌, ◌≤◌, ℕ, Bool, List, [], ◌∷◌, ◌++◌};
-ghost use Rattle.std.specs.Prelude.{length, map, Some, None};
+ghost use Rattle.std.specs.Prelude.{◌≡◌, ◌≢◌, ◌↔◌, ◌<◌, ◌≤◌, ℕ, Bool, List, [], ◌∷◌, ◌++◌, length};
+ghost use Rattle.std.specs.Prelude.{map, Some, None};
 ghost use Rattle.mc_theory.specs.Lists.{In};
 ghost use Rattle.mc_theory.specs.Nets.{Net, IsNet, Interface};
 ghost use Rattle.mc_theory.specs.Flights.{Copy, start, run};
@@ -13,7 +13,7 @@ ghost use Rattle.mc_theory.specs.Made.{entries_of};
 ghost use Rattle.mc_theory.specs.Shown.{IsFirstDouble, Shows};
 ghost use Rattle.mc_theory.specs.Ways.{Hop, IsHop, IsWay, Passes, need, IsStopped, IsReachedWith};
 ghost use Rattle.mc_theory.specs.Ways.{CameBy, SentBy, CameFrom};
-ghost use Rattle.mc_theory.specs.Hops.{hop_by, IsWayPart};
+ghost use Rattle.mc_theory.specs.Hops.{hop_by, hops_back, hops_until, IsWayPart, stop_of};
 
 /// Where a flight shows a loop, its first double copy came from its own LAN. The hops by which a
 /// copy came from a LAN are a way from there.
@@ -105,12 +105,52 @@ pub fn a_walk_back_finds_the_hops()
         length hs < length (run n (handles is) (start n t)).carried }
 {}
 
+/// The hops by which a copy of a travel's flight came are found one after the other: all, and those
+/// back to a LAN that it came from.
+pub fn hops_are_found_one_by_one()
+    ensures back { (n : Net) (count t : ℕ) (numbers : List ℕ) (last : Bool) (is : List ℕ)
+        (x : Finding) (c : Copy) → IsNet n → IsTravel n count numbers last is (start n t) x →
+        In c (run n (handles is) (start n t)).carried →
+        CameBy n (run n (handles is) (start n t)).carried c
+        (hops_back n (run n (handles is) (start n t)).carried
+        (length (run n (handles is) (start n t)).carried) c.lan c.sender) }
+    ensures until { (n : Net) (count t : ℕ) (numbers : List ℕ) (last : Bool) (is : List ℕ)
+        (x : Finding) (l : ℕ) (c : Copy) (hs : List Hop) → IsNet n →
+        IsTravel n count numbers last is (start n t) x →
+        In c (run n (handles is) (start n t)).carried →
+        CameFrom n (run n (handles is) (start n t)).carried l c hs →
+        hops_until n (run n (handles is) (start n t)).carried l
+        (length (run n (handles is) (start n t)).carried) c.lan c.sender ≡ hs }
+    // So they are for a loop's first double copy.
+    ensures of_a_loop { (n : Net) (count t : ℕ) (numbers : List ℕ) (last : Bool) (is : List ℕ)
+        (x : Finding) (l : ℕ) (c : Copy) → IsNet n →
+        IsTravel n count numbers last is (start n t) x →
+        Shows n (run n (handles is) (start n t)) (Loop l) →
+        IsFirstDouble (run n (handles is) (start n t)).carried c →
+        CameFrom n (run n (handles is) (start n t)).carried l c
+        (hops_until n (run n (handles is) (start n t)).carried l
+        (length (run n (handles is) (start n t)).carried) c.lan c.sender) }
+    // In any copies, they are found where as many are looked for, or more.
+    ensures enough { (n : Net) (cs : List Copy) (k : ℕ) (c : Copy) (hs : List Hop) → IsNet n →
+        CameBy n cs c hs → length hs ≤ k → hops_back n cs k c.lan c.sender ≡ hs }
+    ensures enough_until { (n : Net) (cs : List Copy) (l k : ℕ) (c : Copy) (hs : List Hop) →
+        IsNet n → CameFrom n cs l c hs → length hs ≤ k →
+        hops_until n cs l k c.lan c.sender ≡ hs }
+{}
+
 /// A packet is stopped somewhere exactly if its TTL is below the need, and at one hop.
 pub fn a_packet_below_the_need_is_stopped_once()
     ensures stopped { (t : ℕ) (hs : List Hop) → 1 ≤ t →
         (t < need hs) ↔ ((h : Hop) × (left : ℕ) × IsStopped t hs h left) }
     ensures once { (t : ℕ) (hs : List Hop) (h : Hop) (left : ℕ) (g : Hop) (more : ℕ) →
         IsStopped t hs h left → IsStopped t hs g more → (h ≡ g) × (left ≡ more) }
+{}
+
+/// Where a packet is stopped is found hop by hop, and none is found exactly if it gets through.
+pub fn a_stop_is_found()
+    ensures stop { (t : ℕ) (hs : List Hop) (h : Hop) (left : ℕ) →
+        (stop_of t hs ≡ Some (h, left)) ↔ IsStopped t hs h left }
+    ensures through { (t : ℕ) (hs : List Hop) → (stop_of t hs ≡ None) ↔ Passes t hs }
 {}
 
 /// In the flight of a clean travel of TTL 255 the need of the hops by which a copy came is the

@@ -27,8 +27,9 @@ pub use headline_laws::{
 };
 pub use hop_laws::{
     a_hop_is_found_by_its_interface, a_packet_below_the_need_is_stopped_once,
-    a_second_copy_of_a_loop_came_from_its_lan, a_walk_back_finds_the_hops, hops_are_determined,
-    hops_are_few, the_need_of_its_hops_is_the_least_ttl,
+    a_second_copy_of_a_loop_came_from_its_lan, a_stop_is_found, a_walk_back_finds_the_hops,
+    hops_are_determined, hops_are_few, hops_are_found_one_by_one,
+    the_need_of_its_hops_is_the_least_ttl,
 };
 pub use travel_laws::{
     a_clean_travel_makes_a_tree, a_finding_says_what_the_flight_shows, a_finding_shows,

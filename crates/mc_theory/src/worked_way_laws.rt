@@ -6,10 +6,9 @@ ghost use Rattle.mc_theory.specs.Flights.{start, run};
 ghost use Rattle.mc_theory.specs.Headline.{HeadlineHolds};
 ghost use Rattle.mc_theory.specs.Findings.{copy_on, IsTravel, handles};
 ghost use Rattle.mc_theory.specs.Findings.Finding.{Duplicate, Loop};
-ghost use Rattle.mc_theory.specs.Ways.{Hop, IsHop, IsWay, Passes, need, IsStopped};
-ghost use Rattle.mc_theory.specs.Ways.{IsReachedWith, take_out, CameFrom, IsSpare, CameTwice};
-ghost use Rattle.mc_theory.specs.Ways.{CameBack};
-ghost use Rattle.mc_theory.specs.Hops.{hop_by, IsWayPart};
+ghost use Rattle.mc_theory.specs.Ways.{Hop, IsHop, IsWay, Passes, need, IsStopped, IsReachedWith};
+ghost use Rattle.mc_theory.specs.Ways.{take_out, CameFrom, IsSpare, CameTwice, CameBack};
+ghost use Rattle.mc_theory.specs.Hops.{hop_by, hops_back, hops_until, IsWayPart, stop_of};
 ghost use Rattle.mc_theory.specs.Worked.{copy, onward, onward_hop, hop_above, way_back, second_way};
 ghost use Rattle.mc_theory.specs.Worked.{diamond, upper_way, closed_diamond, fork, twins};
 
@@ -31,6 +30,9 @@ pub fn the_diamond_stops_low_packets()
     ensures first { IsStopped 1 upper_way (onward_hop 0 0 1) 1 }
     ensures not_again { IsStopped 1 upper_way (onward_hop 1 2 3) 0 → ⊥ }
     ensures least_ttl { (h : Hop) (left : ℕ) → IsStopped 3 upper_way h left → ⊥ }
+    ensures found { stop_of 2 upper_way ≡ Some (onward_hop 1 2 3, 1) }
+    ensures found_before { stop_of 1 upper_way ≡ Some (onward_hop 0 0 1, 1) }
+    ensures none_found { stop_of 3 upper_way ≡ None }
 {}
 
 /// A hop is read from its router's row: from where it takes, and above which threshold it sends.
@@ -88,6 +90,13 @@ pub fn the_way_back_came_from_its_lan()
     ensures part { IsWayPart (way_back 3)
         (run (way_back 3) (handles (0 ∷ 0 ∷ 0 ∷ 0 ∷ [])) (start (way_back 3) 255)).carried
         (copy 0 252 (Some (2, 1))) (onward_hop 2 2 0 ∷ []) (copy 2 253 (Some (1, 1))) }
+    // Both are found from r3's vif and l0: all hops, and those back to l1.
+    ensures back { hops_back (way_back 3)
+        (run (way_back 3) (handles (0 ∷ 0 ∷ 0 ∷ 0 ∷ [])) (start (way_back 3) 255)).carried 4 0
+        (Some (2, 1)) ≡ onward_hop 2 2 0 ∷ onward_hop 1 1 2 ∷ onward_hop 0 0 1 ∷ [] }
+    ensures until { hops_until (way_back 3)
+        (run (way_back 3) (handles (0 ∷ 0 ∷ 0 ∷ 0 ∷ [])) (start (way_back 3) 255)).carried 1 4 0
+        (Some (2, 1)) ≡ onward_hop 2 2 0 ∷ onward_hop 1 1 2 ∷ [] }
 {}
 
 /// Of the twins r2 sends the second copy onto l1. Without it the flow is right, whose packets have

@@ -34,3 +34,12 @@ pub returns-clause-least_ttl : goal.returns-clause-least_ttl
 returns-clause-least_ttl c = λ h left s.
     let low = below-stopped 3 upper_way h left s in
     omega (arith, low)
+
+pub returns-clause-found : goal.returns-clause-found
+returns-clause-found c = refl
+
+pub returns-clause-found_before : goal.returns-clause-found_before
+returns-clause-found_before c = refl
+
+pub returns-clause-none_found : goal.returns-clause-none_found
+returns-clause-none_found c = refl

@@ -47,3 +47,11 @@ returns-clause-part c = (
   (refl, refl, is-onward (way_back 3) 2 2 0 refl refl refl),
   (copy 2 253 (Some (1, 1)), refl, refl),
 )
+
+pub returns-clause-back : goal.returns-clause-back
+unfolding below interfaces
+returns-clause-back c = refl
+
+pub returns-clause-until : goal.returns-clause-until
+unfolding below interfaces
+returns-clause-until c = refl

@@ -70,11 +70,7 @@ fn certificate_of(
 /// # Errors
 ///
 /// `Memory` where a growth was refused.
-pub fn examine_to_end<'d>(
-    alloc: Global,
-    domain: &'d Domain,
-    flow: u32,
-) -> Result<Flown<'d>, Memory>
+pub fn examine_to_end<'d>(alloc: Global, domain: &'d Domain, flow: u32) -> Result<Flown<'d>, Memory>
     requires { flow < length domain.now.topology.flows }
     // The entries of a certified flow are accepted,
     ensures accepted { IfOk result (λ flown. IfCertified (IsAccepted (net_of domain.now flow))
@@ -109,9 +105,11 @@ pub fn examine_to_end<'d>(
     let Finding::Clean = greatest.travel.finding else {
         return Ok(Flown::AtGreatest(greatest));
     };
-    if let Some(entries) =
-        certificate_of(alloc, greatest.flight.flow_view(), greatest.flight.copies())?
-    {
+    if let Some(entries) = certificate_of(
+        alloc,
+        greatest.flight.flow_view(),
+        greatest.flight.copies(),
+    )? {
         return Ok(Flown::Certified(entries));
     }
     let ttl = topology.flow(flow).ttl;

@@ -18,14 +18,14 @@ value_read : (c i : ℕ) (o : Option ℕ) → unwrap_or o 16 < 16
 value_read c i (Some v) h = refl
 value_read c i None h = absurd (omega arith)
 
-pair_read : (a b i byte : ℕ) → value_or_16 a < 16 → value_or_16 b < 16
+pub pair_read : (a b i byte : ℕ) → value_or_16 a < 16 → value_or_16 b < 16
     → byte ≡ value_or_16 a * 16 + value_or_16 b → pair_value a b i ≡ Ok byte
 pair_read a b i byte high low is =
     rw (value_read a i (hex_digit_value a) high, value_read b (i + 1) (hex_digit_value b) low, is)
     refl
 
 -- a byte with the value 16 is no digit
-no_digit : (c : ℕ) → 16 ≤ value_or_16 c → is_hex_digit c ≡ false
+pub no_digit : (c : ℕ) → 16 ≤ value_or_16 c → is_hex_digit c ≡ false
 no_digit c h = grind arith
 
 -- what has a byte that is no digit doesn't decode

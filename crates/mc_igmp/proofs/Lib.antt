@@ -2,6 +2,7 @@ pub mod AddressLemmas
 pub mod RecordsLemmas
 pub mod ChecksumLemmas
 pub mod DigitLemmas
+pub mod DigitLaneLemmas
 pub mod MessageLemmas
 pub mod ListLemmas
 pub mod PieceLemmas

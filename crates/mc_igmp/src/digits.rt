@@ -1,9 +1,48 @@
 //! Bytes from pairs of hexadecimal digits.
 
-ghost use Rattle.std.specs.Prelude.{◌≡◌, ◌≢◌, ◌+◌, ◌*◌, ◌<◌, List, ℕ, length, true, false, Ok};
-ghost use Rattle.hex.specs.Hex.{decode_of};
+ghost use Rattle.std.specs.Prelude.{◌≡◌, ◌≢◌, ◌+◌, ◌*◌, ◌<◌, ◌≤◌, List, ℕ, length, map, true, false, Ok};
+ghost use Rattle.std.specs.List.{list_all};
+ghost use Rattle.hex.specs.Hex.{decode_of, is_hex_digit};
+ghost use Rattle.mc_text.specs.AddressWord.{value_or_16};
+ghost use Rattle.mc_igmp.specs.DigitPairs.{AreWritten, pairs_of};
 
 use mc_text::hex_digit;
+use std::simd::prelude::*;
+
+/// How many bytes are written together, of twice as many digits.
+const LANES: usize = 16;
+
+/// Whether all bytes are digits.
+#[inline(always)]
+fn are_digits(text: u8x32) -> bool
+    ensures { result ≡ list_all is_hex_digit text }
+{
+    let decimal = (text - u8x32::splat(b'0')).simd_lt(u8x32::splat(10));
+    let small = text | u8x32::splat(0x20);
+    let letter = (small - u8x32::splat(b'a')).simd_lt(u8x32::splat(6));
+    (decimal | letter).all()
+}
+
+/// The values of digits: the lower four bits of each code, and 9 more for a letter, whose code alone
+/// has the bit of 64.
+#[inline(always)]
+fn values_of(text: u8x32) -> u8x32
+    ensures { list_all is_hex_digit text ≡ true → result ≡ map value_or_16 text }
+{
+    let letter = text >> u8x32::splat(6);
+    (text & u8x32::splat(15)) + letter + (letter << u8x32::splat(3))
+}
+
+/// The bytes of pairs of digits.
+#[inline(always)]
+fn bytes_of(text: u8x32) -> u8x16
+    ensures { list_all is_hex_digit text ≡ true → result ≡ pairs_of text }
+{
+    let values = values_of(text);
+    let high = values.swizzle([0, 2, 4, 6, 8, 10, 12, 14, 16, 18, 20, 22, 24, 26, 28, 30]);
+    let low = values.swizzle([1, 3, 5, 7, 9, 11, 13, 15, 17, 19, 21, 23, 25, 27, 29, 31]);
+    (high << u8x16::splat(4)) + low
+}
 
 /// The byte of two digits with these values.
 fn byte_of(high: u8, low: u8) -> u8
@@ -12,10 +51,9 @@ fn byte_of(high: u8, low: u8) -> u8
     high.wrapping_mul(16).wrapping_add(low)
 }
 
-/// Writes the bytes that the digits stand for, two digits a byte, and tells whether all are digits.
-/// If not, what is written says nothing. The values of all digits are looked at together, once,
-/// since a branch at each would be guessed wrong too often.
-pub(crate) fn write_bytes(digits: &[u8], bytes: &mut [u8]) -> bool
+/// Writes the bytes of a few digits, as `write_bytes` does. The values of all digits are looked at
+/// together, once, since a branch at each would be guessed wrong too often.
+fn write_few(digits: &[u8], bytes: &mut [u8]) -> bool
     requires { length digits.now ≡ 2 * length bytes.old }
     ensures found { result ≡ true → decode_of digits.now ≡ Ok bytes.new }
     ensures only { result ≡ false → (out : List ℕ) → decode_of digits.now ≢ Ok out }
@@ -28,4 +66,43 @@ pub(crate) fn write_bytes(digits: &[u8], bytes: &mut [u8]) -> bool
         bytes[i] = byte_of(high, low);
     }
     values < 16
+}
+
+/// Writes the sixteen bytes from `at` on, and tells whether all that stands for them are digits.
+#[inline(always)]
+fn write_piece(digits: &[u8], bytes: &mut [u8], at: usize) -> bool
+    requires digits { 2 * (at + LANES) ≤ length digits.now }
+    requires room { at + LANES ≤ length bytes.old }
+    ensures found { result ≡ true → AreWritten digits.now bytes.old at
+        → AreWritten digits.now bytes.new (at + LANES) }
+    ensures only { result ≡ false → (out : List ℕ) → decode_of digits.now ≢ Ok out }
+{
+    let text = u8x32::from_slice(&digits[2 * at..]);
+    if !are_digits(text) {
+        return false;
+    }
+    bytes_of(text).copy_to_slice(&mut bytes[at..]);
+    true
+}
+
+/// Writes the bytes that the digits stand for, two digits a byte, and tells whether all are digits.
+/// If not, what is written says nothing.
+pub(crate) fn write_bytes(digits: &[u8], bytes: &mut [u8]) -> bool
+    requires { length digits.now ≡ 2 * length bytes.old }
+    ensures found { result ≡ true → decode_of digits.now ≡ Ok bytes.new }
+    ensures only { result ≡ false → (out : List ℕ) → decode_of digits.now ≢ Ok out }
+{
+    if bytes.len() < LANES {
+        return write_few(digits, bytes);
+    }
+    let last = bytes.len() - LANES;
+    let mut at = 0;
+    'pieces: while at < last {
+        if !write_piece(digits, bytes, at) {
+            return false;
+        }
+        at += LANES;
+    }
+    // The last piece ends with the digits, and so may begin within the one before.
+    write_piece(digits, bytes, last)
 }

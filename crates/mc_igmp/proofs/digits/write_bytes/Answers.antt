@@ -1,24 +1,11 @@
-use Rattle.std.proofs.Common.{arith, ◌∙◌}
-use Rattle.std.proofs.lemmas.Bool.{ltb-true}
-use Rattle.hex.proofs.HexLemmas.{decode_of-even}
-use Rattle.hex.proofs.Pairs.{decode_done}
-use Rattle.mc_igmp.proofs.DigitLemmas.{pair_decoded, pair_refused}
+use Rattle.std.proofs.Common.{◌+◌, ◌-◌, length, arith}
+use Rattle.mc_igmp.proofs.DigitLaneLemmas.{written_less, written_whole}
 use Rattle.mc_igmp.proofs.digits.write_bytes.Goals as goal
 
-pub loop-i-preserved : goal.loop-i-preserved
-loop-i-preserved c =
-    let at = c.loop-i in
-    record {
-      digits = pair_decoded c.args.digits.now at.bytes at.i at.values c.hex_digit-high.result
-          c.hex_digit-low.result c.byte_of.result (omega arith) (omega arith)
-          c.hex_digit-high.ensures c.hex_digit-low.ensures c.byte_of.ensures at.invariant.digits;
-      others = pair_refused c.args.digits.now at.i at.values c.hex_digit-high.result
-          c.hex_digit-low.result (omega arith) c.hex_digit-high.ensures c.hex_digit-low.ensures
-          at.invariant.others;
-    }
-
 pub returns-clause-found : goal.returns-clause-found
-returns-clause-found c = λ below.
-    decode_of-even c.args.digits.now (omega arith)
-    ∙ decode_done c.args.digits.now c.loop-i.bytes c.loop-i.i (omega arith) (omega arith)
-    (c.loop-i.invariant.digits (ltb-true _ _ below))
+returns-clause-found c = λ taken.
+    let last = length c.args.bytes.now - 16 in
+    let before = written_less c.args.digits.now c.pieces.bytes last c.pieces.at (omega arith)
+    c.pieces.invariant.written in
+    written_whole c.args.digits.now c.write_piece-2.new.bytes (last + 16) (omega arith) (omega arith)
+    (c.write_piece-2.ensures.found taken before)

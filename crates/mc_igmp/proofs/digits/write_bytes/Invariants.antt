@@ -1,11 +1,13 @@
-use Rattle.std.proofs.Common.{◌≡◌, ◌≢◌, ℕ, ◌*◌, ◌<◌, ◌≤◌, List, take, drop, Ok}
-use Rattle.hex.specs.Hex.{decode_pairs}
-use Rattle.hex.proofs.Pairs.{prepend}
+use Rattle.std.proofs.Common.{◌≡◌, ◌-◌, ◌*◌, length}
+use Rattle.mc_igmp.specs.DigitPairs.{AreWritten}
 use Rattle.mc_igmp.proofs.digits.write_bytes.Given as goal
 
-abbrev pub invariant-loop-i : goal.invariant-loop-i
-invariant-loop-i l = record {
-  digits : l.values < 16 → decode_pairs 0 l.digits
-      ≡ prepend (take l.i l.bytes) (decode_pairs (2 * l.i) (drop (2 * l.i) l.digits));
-  others : 16 ≤ l.values → (out : List ℕ) → decode_pairs 0 l.digits ≢ Ok out;
+-- The bytes so far are those of the digits so far.
+abbrev pub invariant-pieces : goal.invariant-pieces
+invariant-pieces l = record {
+  size : length l.fn.digits ≡ 2 * length l.bytes;
+  written : AreWritten l.fn.digits l.bytes l.at;
 }
+
+abbrev pub decreases-pieces : goal.decreases-pieces
+decreases-pieces l = length l.bytes - l.at

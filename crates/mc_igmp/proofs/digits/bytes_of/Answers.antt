@@ -1,0 +1,6 @@
+use Rattle.mc_igmp.proofs.DigitLaneLemmas.{bytes_are}
+use Rattle.mc_igmp.proofs.digits.bytes_of.Goals as goal
+
+pub returns : goal.returns
+returns c digits =
+    bytes_are c.args.text c.values_of-values.result c.fits-text.0 digits (c.values_of-values.ensures digits)

@@ -1,7 +1,7 @@
 //! Reading a report list from pieces of its text.
 
 ghost use Rattle.std.specs.Prelude.{◌≡◌, ◌+◌, ◌<◌, ◌≤◌, ◌⊎◌, ℕ, List, [], ◌++◌, length, min};
-ghost use Rattle.std.specs.Prelude.{Ok, Err, OnOk, IfErr};
+ghost use Rattle.std.specs.Prelude.{Ok, Err, IfOk, OnOk, IfErr};
 ghost use Rattle.mc_text.specs.Lines.{max_text};
 ghost use Rattle.mc_igmp.specs.declared.record.Record.{Record};
 ghost use Rattle.mc_igmp.specs.ReadingList.{IsMemory, read_line, read_list};
@@ -11,8 +11,19 @@ ghost use Rattle.mc_igmp.specs.ListSoFar.{no_list, without_records, list_if};
 use crate::fault::{ListFault, ListFaultKind};
 use crate::list::{ListRecords, ReportList};
 use mc_text::{Line, MAX_TEXT, Memory, first_place_of};
-use std::alloc::Global;
+use std::alloc::{AllocError, Global};
 use std::marker::Model;
+
+/// The line that ends with these bytes: what has begun it and they, or they alone, where they stand.
+fn whole_line<'a>(begun: &'a mut Vec<u8>, bytes: &'a [u8]) -> Result<&'a [u8], AllocError>
+    ensures { IfOk result (λ whole. whole.now ≡ begun.old.items ++ bytes.now) }
+{
+    if begun.is_empty() {
+        return Ok(bytes);
+    }
+    begun.extend_from_slice(bytes)?;
+    Ok(begun.as_slice())
+}
 
 /// The lines that have come.
 #[derive(Debug, Drop)]
@@ -28,20 +39,21 @@ struct LinesRead {
 }
 
 impl LinesRead {
-    // The line that has begun ends here.
-    fn end_line(&mut self) -> Result<(), ListFault>
+    // A line ends here, of the bytes that have begun it, if it is split, and of these. One that
+    // isn't is read where it stands.
+    fn end_line(&mut self, bytes: &[u8]) -> Result<(), ListFault>
         requires { self.old.ended < u32.MAX }
         ensures records { OnOk result ((records : List Record)
-            × (read_line (line_after self.old.ended self.old.begun.items) ≡ Ok records)
+            × (read_line (line_after self.old.ended (self.old.begun.items ++ bytes.now)) ≡ Ok records)
             × (self.new.list ≡ self.old.list ++ records)) }
         ensures ended { OnOk result (self.new.ended ≡ self.old.ended + 1) }
         ensures begun { OnOk result (self.new.begun.items ≡ []) }
         ensures fault { IfErr result (λ fault. IsMemory fault
-            ⊎ (read_line (line_after self.old.ended self.old.begun.items) ≡ Err fault)) }
+            ⊎ (read_line (line_after self.old.ended (self.old.begun.items ++ bytes.now)) ≡ Err fault)) }
     {
         let line = Line {
             number: self.ended + 1,
-            bytes: &self.begun,
+            bytes: whole_line(&mut self.begun, bytes)?,
             ended: true,
         };
         self.list.push_line(&line, &mut self.message)?;
@@ -67,8 +79,7 @@ impl LinesRead {
     {
         let mut rest = piece;
         'lines: while let Some(end) = first_place_of(b'\n', rest) {
-            self.begun.extend_from_slice(&rest[..end])?;
-            self.end_line()?;
+            self.end_line(&rest[..end])?;
             rest = &rest[end + 1..];
         }
         self.begun.extend_from_slice(rest)?;

@@ -7,12 +7,10 @@ use Rattle.mc_igmp.proofs.list_reader.LinesRead.read_piece.Goals as goal
 pub returns-in_err-end_line-clause-fault : goal.returns-in_err-end_line-clause-fault
 returns-in_err-end_line-clause-fault c = λ more.
     let at = c.lines in
-    let p = err_from_is_err_and c.from_residual-in_err-end_line.result
-    c.from_residual-in_err-end_line.ensures.1 in
-    let refused = rw c.in_ok-extend_from_slice.ensures.items at c.in_err-end_line.ensures.fault in
+    let p = err_from_is_err_and c.from_residual.result c.from_residual.ensures.1 in
     rw (p.1, p.2, at.invariant.reads more) (read_refused at.self.list at.self.ended
     at.self.begun.items at.rest.now more c.in-Some.end _ at.invariant.begun (sym c.in-Some.ensures)
-    refused)
+    c.in_err-end_line.ensures.fault)
 
 pub lines-preserved : goal.lines-preserved
 lines-preserved c =
@@ -20,7 +18,7 @@ lines-preserved c =
     let rest = at.rest.now in
     let end = c.in-Some.end in
     let within = end_within rest end (sym c.in-Some.ensures) in
-    let read = rw c.in_ok-extend_from_slice.ensures.items at c.in_ok-end_line.ensures.records in
+    let read = c.in_ok-end_line.ensures.records in
     let count = length-drop (end + 1) rest in
     rw (between_to_end rest (end + 1) (length rest) (omega arith)) (rw (
       c.in_ok-end_line.ensures.begun,
@@ -34,6 +32,6 @@ lines-preserved c =
     })
 
 pub returns-clause-begun : goal.returns-clause-begun
-returns-clause-begun c = rw c.in_ok-extend_from_slice-2.ensures.items
+returns-clause-begun c = rw c.in_ok-extend_from_slice.ensures.items
     (without_both c.lines.self.begun.items c.lines.rest.now c.lines.invariant.begun
     (without_none c.lines.rest.now (sym c.in_default.ensures)))

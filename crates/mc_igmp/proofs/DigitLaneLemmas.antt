@@ -1,10 +1,10 @@
 -- Hexadecimal digits, thirty-two at a time.
-use Rattle.std.proofs.Common.{◌≡◌, ◌≢◌, ℕ, zero, suc, ◌+◌, ◌-◌, ◌*◌, ◌/◌, ◌%◌, ◌^◌, ◌<◌, ◌≤◌, Bool, true}
+use Rattle.std.proofs.Common.{◌≡◌, ◌≢◌, ℕ, zero, suc, ◌+◌, ◌-◌, ◌*◌, ◌%◌, ◌^◌, ◌<◌, ◌≤◌, Bool, true}
 use Rattle.std.proofs.Common.{false, not, cond, ltb, eqb, List, [], ◌∷◌, ◌++◌, map, length, take, drop, replicate}
-use Rattle.std.proofs.Common.{bit_and, bit_or, refl, sym, ap, ap₂, ◌∙◌, subst, arith, w8, Fits, inl, inr, Ok}
+use Rattle.std.proofs.Common.{bit_or, refl, sym, ap, ap₂, ◌∙◌, subst, arith, w8, Fits, inl, inr, Ok}
 use Rattle.std.specs.Prelude.{◌||◌, ◌&&◌}
 use Rattle.std.specs.List.{list_all}
-use Rattle.std.specs.Simd.Lanes.{Each1, zip2, mask_l, top, pick_l, chunk, put_chunk}
+use Rattle.std.specs.Simd.Lanes.{Each1, zip2, mask_l, top, sel_l, pick_l, chunk, put_chunk}
 use Rattle.std.proofs.lemmas.Bool.{agree_below_at, and_parts, cases_lt, eqb-true}
 use Rattle.std.proofs.lemmas.Bool.Decides.{nat_tests}
 use Rattle.std.proofs.lemmas.List.{length-map, length-take-le, take_all, take-take}
@@ -38,9 +38,6 @@ plus a b = (a + b) % 256
 
 abbrev pub up : ℕ → ℕ → ℕ
 up a b = a * 2 ^ b % 256
-
-abbrev pub down : ℕ → ℕ → ℕ
-down a b = a / 2 ^ b
 
 -- ---- the test of all lanes
 
@@ -81,8 +78,25 @@ all_digits v lanes fits is =
 
 -- ---- the values of lanes
 
+-- the smaller of two lanes
+pub smaller : (f g : ℕ → ℕ) (v : List ℕ) {a b : List ℕ} → a ≡ map f v → b ≡ map g v
+    → sel_l (map (top 7) (zip2 below a b)) a b ≡ map (λ x. cond (top 7 (below (f x) (g x))) (f x) (g x)) v
+smaller f g v first second =
+    ap₂ (λ a b. sel_l (map (top 7) (zip2 below a b)) a b) first second ∙ each v
+  where
+    each : (v : List ℕ) → sel_l (map (top 7) (zip2 below (map f v) (map g v))) (map f v) (map g v)
+        ≡ map (λ x. cond (top 7 (below (f x) (g x))) (f x) (g x)) v
+    each [] = refl
+    each (x ∷ v) = ap (λ l. cond (top 7 (below (f x) (g x))) (f x) (g x) ∷ l) (each v)
+
+abbrev decimal_lane : ℕ → ℕ
+decimal_lane b = less b 48
+
+abbrev letter_lane : ℕ → ℕ
+letter_lane b = less (bit_or b 32) 87
+
 abbrev pub value_lane : ℕ → ℕ
-value_lane b = plus (plus (bit_and b 15) (down b 6)) (up (down b 6) 3)
+value_lane b = cond (top 7 (below (decimal_lane b) (letter_lane b))) (decimal_lane b) (letter_lane b)
 
 value_is : (b : ℕ) → b < 256 → is_hex_digit b ≡ true → value_lane b ≡ value_or_16 b
 value_is b fits digit =

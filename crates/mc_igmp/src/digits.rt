@@ -23,14 +23,15 @@ fn are_digits(text: u8x32) -> bool
     (decimal | letter).all()
 }
 
-/// The values of digits: the lower four bits of each code, and 9 more for a letter, whose code alone
-/// has the bit of 64.
+/// The values of digits. Less `0`, a letter is above its value, and less what makes its value of a
+/// small letter, a decimal digit is.
 #[inline(always)]
 fn values_of(text: u8x32) -> u8x32
     ensures { list_all is_hex_digit text ≡ true → result ≡ map value_or_16 text }
 {
-    let letter = text >> u8x32::splat(6);
-    (text & u8x32::splat(15)) + letter + (letter << u8x32::splat(3))
+    let decimal = text - u8x32::splat(b'0');
+    let small = text | u8x32::splat(0x20);
+    decimal.simd_min(small - u8x32::splat(b'a' - 10))
 }
 
 /// The bytes of pairs of digits.

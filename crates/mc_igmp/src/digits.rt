@@ -1,6 +1,7 @@
 //! Bytes from pairs of hexadecimal digits.
 
-ghost use Rattle.std.specs.Prelude.{◌≡◌, ◌≢◌, ◌+◌, ◌*◌, ◌<◌, ◌≤◌, List, ℕ, length, map, true, false, Ok};
+ghost use Rattle.std.specs.Prelude.{◌≡◌, ◌≢◌, ◌+◌, ◌*◌, ◌/◌, ◌%◌, ◌<◌, ◌≤◌, List, ℕ, length};
+ghost use Rattle.std.specs.Prelude.{map, take, true, false, Ok};
 ghost use Rattle.std.specs.List.{list_all};
 ghost use Rattle.hex.specs.Hex.{decode_of, is_hex_digit};
 ghost use Rattle.mc_text.specs.AddressWord.{value_or_16};
@@ -86,9 +87,9 @@ fn write_piece(digits: &[u8], bytes: &mut [u8], at: usize) -> bool
     true
 }
 
-/// Writes the bytes that the digits stand for, two digits a byte, and tells whether all are digits.
-/// If not, what is written says nothing.
-pub(crate) fn write_bytes(digits: &[u8], bytes: &mut [u8]) -> bool
+/// Writes all bytes, those that the digits stand for, two digits a byte, and tells whether all are
+/// digits. If not, what is written says nothing.
+fn write_bytes(digits: &[u8], bytes: &mut [u8]) -> bool
     requires { length digits.now ≡ 2 * length bytes.old }
     ensures found { result ≡ true → decode_of digits.now ≡ Ok bytes.new }
     ensures only { result ≡ false → (out : List ℕ) → decode_of digits.now ≢ Ok out }
@@ -106,4 +107,15 @@ pub(crate) fn write_bytes(digits: &[u8], bytes: &mut [u8]) -> bool
     }
     // The last piece ends with the digits, and so may begin within the one before.
     write_piece(digits, bytes, last)
+}
+
+/// Writes the bytes that the digits stand for to the front of the room, and tells whether all are
+/// digits.
+pub(crate) fn write_to_front(digits: &[u8], room: &mut [u8]) -> bool
+    requires even { length digits.now % 2 ≡ 0 }
+    requires fits { length digits.now ≤ 2 * length room.old }
+    ensures found { result ≡ true → decode_of digits.now ≡ Ok (take (length digits.now / 2) room.new) }
+    ensures only { result ≡ false → (out : List ℕ) → decode_of digits.now ≢ Ok out }
+{
+    write_bytes(digits, &mut room[..digits.len() / 2])
 }

@@ -13,7 +13,7 @@ ghost use Rattle.mc_igmp.specs.ReportList.{IsReportList};
 ghost use Rattle.mc_igmp.specs.ReadingList.{bytes_of_line, first_change, taken_records, read_line};
 ghost use Rattle.mc_igmp.specs.ReadingList.{read_list};
 
-use crate::digits::write_bytes;
+use crate::digits::write_to_front;
 use crate::fault::{ListFault, ListFaultKind};
 use crate::group_records::GroupRecords;
 use crate::message::{Message, MessageFault};
@@ -39,9 +39,10 @@ fn bytes_of_older_record(group: Addr) -> [u8; 8]
     [2, 0, 0, 0, a, b, c, d]
 }
 
-/// Reads the bytes that a line's hexadecimal digits write.
-fn read_digits(line: &Line<'_>, bytes: &mut Vec<u8>) -> Result<(), ListFault>
-    ensures ok { OnOk result (bytes_of_line (line_text line.now) ≡ Ok bytes.new.items) }
+/// Reads the bytes that a line's hexadecimal digits write, at the front of `bytes`, which stays as
+/// long as the longest line makes it: what stands there is written over.
+fn read_digits<'a>(line: &Line<'_>, bytes: &'a mut Vec<u8>) -> Result<&'a [u8], ListFault>
+    ensures ok { IfOk result (λ read. bytes_of_line (line_text line.now) ≡ Ok read.now) }
     ensures err { IfErr result (λ fault.
         IsMemory fault ⊎ (bytes_of_line (line_text line.now) ≡ Err fault)) }
 {
@@ -54,9 +55,12 @@ fn read_digits(line: &Line<'_>, bytes: &mut Vec<u8>) -> Result<(), ListFault>
     if line.bytes.len() % 2 != 0 {
         return Err(ListFaultKind::BadHex.at(line.number, 0));
     }
-    bytes.resize(line.bytes.len() / 2, 0)?;
-    if write_bytes(line.bytes, bytes) {
-        Ok(())
+    let len = line.bytes.len() / 2;
+    if bytes.len() < len {
+        bytes.resize(len, 0)?;
+    }
+    if write_to_front(line.bytes, bytes) {
+        Ok(&bytes[..len])
     } else {
         Err(ListFaultKind::BadHex.at(line.number, 0))
     }
@@ -174,7 +178,7 @@ impl ReportList {
         Ok(list)
     }
 
-    // Appends the records of the message on a line, whose bytes are kept in `message` meanwhile.
+    // Appends the records of the message on a line, for whose bytes `message` is room meanwhile.
     pub(crate) fn push_line(
         &mut self,
         line: &Line<'_>,
@@ -185,8 +189,8 @@ impl ReportList {
         ensures err { IfErr result (λ fault.
             IsMemory fault ⊎ (read_line (line_text line.now) ≡ Err fault)) }
     {
-        read_digits(line, message)?;
-        if let Some(records) = records_taken(line.number, message)? {
+        let bytes = read_digits(line, message)?;
+        if let Some(records) = records_taken(line.number, bytes)? {
             self.append(&records)?;
         }
         Ok(())

@@ -34,7 +34,7 @@ struct LinesRead {
     begun: Vec<u8>,
     /// The records of those that have ended.
     list: ReportList,
-    /// The bytes of a line's message, as long as it is read.
+    /// Room for the bytes of a line's message, as long as it is read.
     message: Vec<u8>,
 }
 

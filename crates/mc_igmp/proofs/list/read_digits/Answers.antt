@@ -27,19 +27,21 @@ returns-then-line-ne0-clause-err c =
     let odd = decode_of-odd c.args.line.now.bytes.now (omega arith) in
     rw c.at-then-line-ne0.ensures (inr (read ∙ ap (digits_read c.args.line.now.number) odd))
 
-pub returns-then-write_bytes-clause-ok : goal.returns-then-write_bytes-clause-ok
-returns-then-write_bytes-clause-ok c =
+pub returns-then-write_to_front-clause-ok : goal.returns-then-write_to_front-clause-ok
+returns-then-write_to_front-clause-ok c =
     let read = bytes_of_line-digits (line_text c.args.line.now) c.if-not-line.false
     c.if-line-gt-MAX_LINES.false c.if-line-gt-MAX_LINE_LEN.false in
-    let whole = take_at c.write_bytes.new.bytes
-    (drop (length c.write_bytes.new.bytes) c.resize.new.self.items) c.resize.new.self.len
-    (omega arith) in
-    rw whole (read ∙ ap (digits_read c.args.line.now.number) (c.if-write_bytes.ensures.found refl))
+    let room = c.write_to_front.new.room in
+    let size : length room ≡ c.if-len.bytes.len =
+    omega (arith, c.write_to_front.auto.room, c.deref_mut.ensures.len) in
+    let whole = c.deref.ensures.value
+    ∙ take_at room (drop (length room) c.if-len.bytes.items) c.if-len.bytes.len size in
+    rw whole (read ∙ ap (digits_read c.args.line.now.number) (c.if-write_to_front.ensures.found refl))
 
-pub returns-else-write_bytes-clause-err : goal.returns-else-write_bytes-clause-err
-returns-else-write_bytes-clause-err c =
+pub returns-else-write_to_front-clause-err : goal.returns-else-write_to_front-clause-err
+returns-else-write_to_front-clause-err c =
     let read = bytes_of_line-digits (line_text c.args.line.now) c.if-not-line.false
     c.if-line-gt-MAX_LINES.false c.if-line-gt-MAX_LINE_LEN.false in
     let refused = digits_refused c.args.line.now.number (decode_of c.args.line.now.bytes.now)
-    (c.if-write_bytes.ensures.only refl) in
-    rw c.at-else-write_bytes.ensures (inr (read ∙ refused))
+    (c.if-write_to_front.ensures.only refl) in
+    rw c.at-else-write_to_front.ensures (inr (read ∙ refused))

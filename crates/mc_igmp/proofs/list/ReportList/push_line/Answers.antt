@@ -1,4 +1,4 @@
-use Rattle.std.proofs.Common.{ℕ, List, [], Option, Ok, inr, ap, sym, ◌∙◌}
+use Rattle.std.proofs.Common.{List, [], Option, Ok, inr, ap, sym, ◌∙◌}
 use Rattle.std.specs.Prelude.{unwrap_or}
 use Rattle.std.proofs.lemmas.List.{append-nil}
 use Rattle.std.proofs.lemmas.Result.{err_from_is_err_and}
@@ -7,32 +7,29 @@ use Rattle.mc_igmp.specs.declared.record.Record.{Record}
 use Rattle.mc_igmp.proofs.ListLemmas.{read_line-refused, read_line-is}
 use Rattle.mc_igmp.proofs.list.ReportList.push_line.Goals as goal
 
-pub returns-in_err-read_digits-clause-err : goal.returns-in_err-read_digits-clause-err
-returns-in_err-read_digits-clause-err c =
+pub returns-in_err-bytes-clause-err : goal.returns-in_err-bytes-clause-err
+returns-in_err-bytes-clause-err c =
     let p = err_from_is_err_and c.from_residual.result c.from_residual.ensures.1 in
-    rw (p.1, p.2) (read_line-refused (line_text c.args.line.now) _ c.in_err-read_digits.ensures.err)
+    rw (p.1, p.2) (read_line-refused (line_text c.args.line.now) _ c.in_err-bytes.ensures.err)
 
 pub returns-in_err-records-clause-err : goal.returns-in_err-records-clause-err
 returns-in_err-records-clause-err c =
     let p = err_from_is_err_and c.from_residual-in_err-records.result
     c.from_residual-in_err-records.ensures.1 in
-    let read = read_line-is (line_text c.args.line.now) c.deref.result.now
-    (c.in_ok-read_digits.ensures.ok
-    ∙ ap (λ (bytes : List ℕ). Ok bytes) (sym c.deref.ensures.value)) in
+    let read = read_line-is (line_text c.args.line.now) c.in_ok-bytes.bytes.now
+    c.in_ok-bytes.ensures.ok in
     rw (p.1, p.2) (inr (read ∙ c.in_err-records.ensures))
 
 pub returns-in_ok-append-clause-ok : goal.returns-in_ok-append-clause-ok
 returns-in_ok-append-clause-ok c =
-    let read = read_line-is (line_text c.args.line.now) c.deref.result.now
-    (c.in_ok-read_digits.ensures.ok
-    ∙ ap (λ (bytes : List ℕ). Ok bytes) (sym c.deref.ensures.value)) in
+    let read = read_line-is (line_text c.args.line.now) c.in_ok-bytes.bytes.now
+    c.in_ok-bytes.ensures.ok in
     let given = λ (o : Option (List Record)). Ok (unwrap_or o []) in
     (c.in-Some.records, read ∙ c.in_ok-records.ensures ∙ ap given c.in-Some.is, c.in_ok-append.ensures)
 
 pub returns-in_default-clause-ok : goal.returns-in_default-clause-ok
 returns-in_default-clause-ok c =
-    let read = read_line-is (line_text c.args.line.now) c.deref.result.now
-    (c.in_ok-read_digits.ensures.ok
-    ∙ ap (λ (bytes : List ℕ). Ok bytes) (sym c.deref.ensures.value)) in
+    let read = read_line-is (line_text c.args.line.now) c.in_ok-bytes.bytes.now
+    c.in_ok-bytes.ensures.ok in
     let given = λ (o : Option (List Record)). Ok (unwrap_or o []) in
     ([], read ∙ c.in_ok-records.ensures ∙ ap given c.in_default.is, sym (append-nil c.args.self.now))

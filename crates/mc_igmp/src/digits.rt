@@ -24,8 +24,8 @@ fn are_digits(text: u8x32) -> bool
     (decimal | letter).all()
 }
 
-/// The values of digits. Less `0`, a letter is above its value, and less what makes its value of a
-/// small letter, a decimal digit is.
+/// The values of digits: how far a decimal digit is from `0`, and a letter, as a small one, from the
+/// tenth code before `a`. Of the two the right one is the smaller.
 #[inline(always)]
 fn values_of(text: u8x32) -> u8x32
     ensures { list_all is_hex_digit text ≡ true → result ≡ map value_or_16 text }

@@ -1,6 +1,6 @@
 //! Bytes from pairs of hexadecimal digits.
 
-ghost use Rattle.std.specs.Prelude.{◌≡◌, ◌≢◌, ◌+◌, ◌*◌, ◌/◌, ◌%◌, ◌<◌, ◌≤◌, List, ℕ, length};
+ghost use Rattle.std.specs.Prelude.{◌≡◌, ◌≢◌, ◌+◌, ◌*◌, ◌/◌, ◌%◌, ◌<◌, ◌≤◌, ◌++◌, List, ℕ, length};
 ghost use Rattle.std.specs.Prelude.{map, take, true, false, Ok};
 ghost use Rattle.std.specs.List.{list_all};
 ghost use Rattle.hex.specs.Hex.{decode_of, is_hex_digit};
@@ -12,6 +12,23 @@ use std::simd::prelude::*;
 
 /// How many bytes are written together, of twice as many digits.
 const LANES: usize = 16;
+
+/// Half as many.
+const HALF_LANES: usize = 8;
+
+/// The bytes of both.
+#[inline(always)]
+fn both(front: u8x16, back: u8x16) -> u8x32
+    ensures { result ≡ front ++ back }
+{
+    front.shuffle(
+        back,
+        [
+            0, 1, 2, 3, 4, 5, 6, 7, 8, 9, 10, 11, 12, 13, 14, 15, 16, 17, 18, 19, 20, 21, 22, 23,
+            24, 25, 26, 27, 28, 29, 30, 31,
+        ],
+    )
+}
 
 /// Whether all bytes are digits.
 #[inline(always)]
@@ -87,6 +104,29 @@ fn write_piece(digits: &[u8], bytes: &mut [u8], at: usize) -> bool
     true
 }
 
+/// Writes all bytes, eight to fifteen, those of the first sixteen digits and of the last sixteen,
+/// which may be some of the first.
+fn write_short(digits: &[u8], bytes: &mut [u8]) -> bool
+    requires size { length digits.now ≡ 2 * length bytes.old }
+    requires some { HALF_LANES ≤ length bytes.old }
+    requires few { length bytes.old < LANES }
+    ensures found { result ≡ true → decode_of digits.now ≡ Ok bytes.new }
+    ensures only { result ≡ false → (out : List ℕ) → decode_of digits.now ≢ Ok out }
+{
+    let last = bytes.len() - HALF_LANES;
+    let text = both(
+        u8x16::from_slice(digits),
+        u8x16::from_slice(&digits[2 * last..]),
+    );
+    if !are_digits(text) {
+        return false;
+    }
+    let written = bytes_of(text);
+    written.extract::<0, 8>().copy_to_slice(bytes);
+    written.extract::<8, 8>().copy_to_slice(&mut bytes[last..]);
+    true
+}
+
 /// Writes all bytes, those that the digits stand for, two digits a byte, and tells whether all are
 /// digits. If not, what is written says nothing.
 fn write_bytes(digits: &[u8], bytes: &mut [u8]) -> bool
@@ -94,8 +134,11 @@ fn write_bytes(digits: &[u8], bytes: &mut [u8]) -> bool
     ensures found { result ≡ true → decode_of digits.now ≡ Ok bytes.new }
     ensures only { result ≡ false → (out : List ℕ) → decode_of digits.now ≢ Ok out }
 {
-    if bytes.len() < LANES {
+    if bytes.len() < HALF_LANES {
         return write_few(digits, bytes);
+    }
+    if bytes.len() < LANES {
+        return write_short(digits, bytes);
     }
     let last = bytes.len() - LANES;
     let mut at = 0;

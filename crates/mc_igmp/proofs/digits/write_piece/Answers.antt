@@ -10,5 +10,5 @@ returns-then-not-are_digits-clause-only c refused =
 pub returns-clause-found : goal.returns-clause-found
 returns-clause-found c taken written =
     let digits = sym c.are_digits.ensures ∙ c.if-not-are_digits.false in
-    written_more c.args.digits.now c.args.bytes.now c.bytes_of.result c.args.at c.requires.digits
+    written_more 16 c.args.digits.now c.args.bytes.now c.bytes_of.result c.args.at c.requires.digits
     c.requires.room digits (c.bytes_of.ensures digits) written

@@ -1,7 +1,7 @@
 -- Hexadecimal digits, thirty-two at a time.
 use Rattle.std.proofs.Common.{◌≡◌, ◌≢◌, ℕ, zero, suc, ◌+◌, ◌-◌, ◌*◌, ◌%◌, ◌^◌, ◌<◌, ◌≤◌, Bool, true}
-use Rattle.std.proofs.Common.{false, not, cond, ltb, eqb, List, [], ◌∷◌, ◌++◌, map, length, take, drop, replicate}
-use Rattle.std.proofs.Common.{bit_or, refl, sym, ap, ap₂, ◌∙◌, subst, arith, w8, Fits, inl, inr, Ok}
+use Rattle.std.proofs.Common.{false, not, cond, ltb, eqb, List, [], ◌∷◌, ◌++◌, map, length, take}
+use Rattle.std.proofs.Common.{drop, replicate, bit_or, refl, sym, ap, ap₂, ◌∙◌, subst, arith, w8, Fits, inl, inr, Ok}
 use Rattle.std.specs.Prelude.{◌||◌, ◌&&◌}
 use Rattle.std.specs.List.{list_all}
 use Rattle.std.specs.Simd.Lanes.{Each1, zip2, mask_l, top, sel_l, pick_l, chunk, put_chunk}

@@ -13,10 +13,10 @@ use std::simd::prelude::*;
 /// How many bytes are written together, of twice as many digits.
 const LANES: usize = 16;
 
-/// Half as many.
+/// Half of that.
 const HALF_LANES: usize = 8;
 
-/// The bytes of both.
+/// The bytes of both, one after the other.
 #[inline(always)]
 fn both(front: u8x16, back: u8x16) -> u8x32
     ensures { result ≡ front ++ back }
@@ -70,8 +70,8 @@ fn byte_of(high: u8, low: u8) -> u8
     high.wrapping_mul(16).wrapping_add(low)
 }
 
-/// Writes the bytes of a few digits, as `write_bytes` does. The values of all digits are looked at
-/// together, once, since a branch at each would be guessed wrong too often.
+/// Writes the bytes of a few digits by a table, as `write_bytes` does. The values of all digits are
+/// looked at together, once, since a branch at each would be guessed wrong too often.
 fn write_few(digits: &[u8], bytes: &mut [u8]) -> bool
     requires { length digits.now ≡ 2 * length bytes.old }
     ensures found { result ≡ true → decode_of digits.now ≡ Ok bytes.new }

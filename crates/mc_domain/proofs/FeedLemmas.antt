@@ -1,58 +1,73 @@
--- What a reader of a table ends with whose text comes in pieces.
-use Rattle.std.specs.Prelude.{◌≡◌, ◌≢◌, ℕ, ◌+◌, ◌≤◌, true, false, List, [], ◌++◌, length, take, Result, Ok, Err}
-use Rattle.std.specs.Prelude.{IfErr, OnOk, is_ok, refl}
-use Rattle.std.proofs.Common.{ap, ◌∙◌, sym, append_assoc, arith, length-take}
-use Rattle.std.proofs.lemmas.List.{length-append}
-use Rattle.mc_tables.specs.Steps.{out_of_memory}
+-- What a reader ends with whose text comes in pieces.
+use Rattle.std.specs.Prelude.{◌≡◌, ◌≢◌, ℕ, ◌+◌, ◌≤◌, true, List, ◌++◌, length, Option, Some, None, Result, Ok, Err}
+use Rattle.std.specs.Prelude.{IfErr, IfSome, OnOk, if◌then◌else◌, is_ok, is_some, refl}
+use Rattle.std.proofs.Common.{ap, ◌∙◌, sym, append_assoc, arith}
+use Rattle.mc_text.specs.Lines.{max_text}
+use Rattle.mc_text.specs.declared.memory.Memory.{Memory}
+use Rattle.mc_tables.specs.Steps.{out_of_memory, unless_fault}
 use Rattle.mc_tables.specs.declared.fault.TableFault.{TableFault}
 
-one_fault : {x y : TableFault} → (let r : Result (Unit {0}) TableFault = Err x in r) ≡ Err y → x ≡ y
-one_fault e = cc
-
--- the reader that answers a fault ends with it
-refused_by : {T : Type 0} (r : Result (Unit {0}) TableFault) → is_ok r ≡ false
-    → (ends : List ℕ → Result T TableFault)
-    → ((more : List ℕ) → IfErr r (λ fault. ends more ≡ Err fault))
-    → (fault : TableFault) × (r ≡ Err fault) × ((more : List ℕ) → ends more ≡ Err fault)
-refused_by (Ok u) failed ends fault = absurd cc
-refused_by (Err own) failed ends fault = (own, refl, fault)
-
--- so the whole text is refused for it, whatever bytes come
-pub fed_to_fault : {T : Type 0} (before old new : List ℕ → Result T TableFault)
-    (done piece rest : List ℕ) (r : Result (Unit {0}) TableFault) → is_ok r ≡ false
-    → before (done ++ (piece ++ rest)) ≡ old (piece ++ rest)
-    → (r ≢ Err out_of_memory → new rest ≡ old (piece ++ rest))
-    → ((more : List ℕ) → IfErr r (λ fault. new more ≡ Err fault))
-    → new [] ≢ Err out_of_memory → before ((done ++ piece) ++ rest) ≡ new []
-fed_to_fault before old new done piece rest r failed first goes fault loud =
-    let own = refused_by r failed new fault in
-    let known = goes (λ e. (
-    let same : own.0 ≡ out_of_memory = one_fault (sym own.1 ∙ e) in
-    loud (own.2 [] ∙ ap Err same))) in
-    ap before (append_assoc done piece rest) ∙ first ∙ sym known ∙ own.2 rest ∙ sym (own.2 [])
-
--- and else it goes on
-pub fed_on : {T : Type 0} (before old new : List ℕ → Result T TableFault)
-    (done piece more : List ℕ) → before (done ++ (piece ++ more)) ≡ old (piece ++ more)
+-- what was to come of the text goes on behind a piece of it
+pub fed_on : {E : Type 0} (before old new : List ℕ → E) (done piece more : List ℕ)
+    → before (done ++ (piece ++ more)) ≡ old (piece ++ more)
     → new more ≡ old (piece ++ more) → before ((done ++ piece) ++ more) ≡ new more
 fed_on before old new done piece more first goes =
     ap before (append_assoc done piece more) ∙ first ∙ sym goes
 
--- a piece and what comes after it are no more than was left
-pub piece_within : (size left n most : ℕ) (piece rest : List ℕ) → size + left ≤ most
-    → length piece ≤ n → length rest + n ≤ left → size + length (piece ++ rest) ≤ most
-piece_within size left n most piece rest within few fits =
-    omega (arith, within, few, fits, length-append piece rest)
-
-pub piece_fits : (n : ℕ) (buffer : List ℕ) → length (take n buffer) ≤ n
-piece_fits n buffer = omega (arith, length-take n buffer)
-
--- no fault was answered
-pub not_refused : {r : Result (Unit {0}) TableFault} → is_ok r ≡ true
-    → r ≢ Err out_of_memory
-not_refused ok e = cc
-
--- and what goes with that is so
-pub taken_with : {P : Type 0} (r : Result (Unit {0}) TableFault) → is_ok r ≡ true → OnOk r P → P
+-- what goes with a piece that was taken is so
+pub taken_with : {E P : Type 0} (r : Result (Unit {0}) E) → is_ok r ≡ true → OnOk r P → P
 taken_with (Ok u) ok holds = holds
 taken_with (Err fault) ok holds = absurd cc
+
+-- ---- a reader of a table, which keeps its fault
+
+-- how many bytes count towards the limit: after a fault none
+abbrev pub counts : Option TableFault → ℕ → ℕ
+counts fault size = if is_some fault then 0 else size
+
+no_more : (fault : Option TableFault) (size : ℕ) → counts fault size ≤ size
+no_more None size = omega arith
+no_more (Some fault) size = omega arith
+
+module _ {S T : Type 0} (fault : S → Option TableFault) (size : S → ℕ)
+    (read : S → List ℕ → Result T TableFault) (old new : S) (fed : Result (Unit {0}) TableFault)
+    (again : IfSome (fault old) (λ own. (fed ≡ Err own) × (new ≡ old))) where
+  -- whatever bytes come, it ends as it would have
+  pub kept_on : (piece more : List ℕ) (r : Result (Unit {0}) Memory)
+      → OnOk r (fed ≢ Err out_of_memory)
+      → (fed ≢ Err out_of_memory → size old + length (piece ++ more) ≤ max_text
+      → unless_fault (fault new) (read new more) ≡ unless_fault (fault old) (read old (piece ++ more)))
+      → counts (fault old) (size old) + length (piece ++ more) ≤ max_text
+      → OnOk r
+      (unless_fault (fault new) (read new more) ≡ unless_fault (fault old) (read old (piece ++ more)))
+  kept_on piece more r loud goes within = by r loud (fault old) refl again within
+    where
+      by : (r : Result (Unit {0}) Memory) → OnOk r (fed ≢ Err out_of_memory)
+          → (known : Option TableFault) → fault old ≡ known
+          → IfSome known (λ own. (fed ≡ Err own) × (new ≡ old))
+          → counts known (size old) + length (piece ++ more) ≤ max_text
+          → OnOk r
+          (unless_fault (fault new) (read new more) ≡ unless_fault (fault old) (read old (piece ++ more)))
+      by (Ok u) loud None is again within = goes loud within
+      by (Ok u) loud (Some own) is again within =
+          ap (λ (s : S). unless_fault (fault s) (read s more)) again.1
+          ∙ ap (λ (f : Option TableFault). unless_fault f (read old more)) is
+          ∙ sym (ap (λ (f : Option TableFault). unless_fault f (read old (piece ++ more))) is)
+      by (Err own) loud known is again within = tt
+
+  -- and no byte counts twice
+  pub counts_on : (n : ℕ) → OnOk fed (size new ≡ size old + n)
+      → IfErr fed (λ own. fault new ≡ Some own)
+      → counts (fault new) (size new) ≤ counts (fault old) (size old) + n
+  counts_on n grown kept = by fed (fault old) again grown kept
+    where
+      by : (fed : Result (Unit {0}) TableFault) (known : Option TableFault)
+          → IfSome known (λ own. (fed ≡ Err own) × (new ≡ old)) → OnOk fed (size new ≡ size old + n)
+          → IfErr fed (λ own. fault new ≡ Some own)
+          → counts (fault new) (size new) ≤ counts known (size old) + n
+      by (Ok u) None again grown kept = omega (arith, grown, no_more (fault new) (size new))
+      by (Ok u) (Some own) again grown kept = absurd (let e = again.0 in cc)
+      by (Err own) known again grown kept =
+          let none : counts (fault new) (size new) ≡ 0 =
+          ap (λ (f : Option TableFault). counts f (size new)) kept in
+          omega (arith, none)

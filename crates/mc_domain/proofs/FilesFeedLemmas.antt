@@ -1,5 +1,5 @@
--- What a reader of a table ends with whose file comes in pieces.
-use Rattle.std.specs.Prelude.{◌≡◌, ◌≢◌, ℕ, ◌≤◌, ◌<◌, List, [], length, Option, Some, None}
+-- What a reader ends with whose file comes in pieces.
+use Rattle.std.specs.Prelude.{◌≡◌, ℕ, ◌≤◌, ◌<◌, List, [], length, Option, Some, None}
 use Rattle.std.specs.Prelude.{Result, Ok, Err, OnOk, IfErr, IfSome, refl}
 use Rattle.std.specs.Io.KnownBytes.{IsAtEnd}
 use Rattle.std.proofs.Common.{◌∙◌, sym, subst}
@@ -7,8 +7,6 @@ use Rattle.std.proofs.lemmas.Bool.{le-leb, lt-leb}
 use Rattle.mc_text.specs.Bundle.{max_part}
 use Rattle.mc_text.specs.Lines.{max_text}
 use Rattle.mc_text.proofs.StepLemmas.{on_ok}
-use Rattle.mc_tables.specs.Steps.{out_of_memory}
-use Rattle.mc_tables.specs.declared.fault.TableFault.{TableFault}
 use Rattle.mc_layout.specs.FilePart.{IsOfSource, part_bytes}
 use Rattle.mc_layout.specs.Files.{FileText, file_named}
 use Rattle.mc_layout.specs.declared.fault.FileFault.{FileFault}
@@ -19,12 +17,6 @@ pub nothing_left : (new : Option (List ℕ)) (rest : List ℕ) → IsAtEnd new �
     → rest ≡ []
 nothing_left None rest is e = absurd cc
 nothing_left (Some ys) rest is e = let same : ys ≡ rest = cc in sym same ∙ is
-
--- what follows of a fault
-pub if_err : {E : Type 0} {P Q : E → Type 0} (r : Result (Unit {0}) E) → IfErr r P
-    → ((fault : E) → P fault → Q fault) → IfErr r Q
-if_err (Ok u) holds follows = tt
-if_err (Err fault) holds follows = follows fault holds
 
 -- ---- a file that was fed
 
@@ -39,16 +31,12 @@ found_there name told left (Some files) is found =
     let same : files ≡ told = cc in
     subst (λ fs. (bytes : List ℕ) × (file_named fs name ≡ Some bytes) × (left ≡ Some bytes)) same found
 
--- what a reader ends with that was fed bytes
-abbrev pub Ends : Type 0 → Type 0
-Ends T = List ℕ → Result T TableFault
-
 -- the bytes of the file that was found, where they fit a part,
-pub fed_bytes : {T : Type 0} (found : Option (List ℕ)) (bytes : List ℕ) (r : Result (Unit {0}) FileFault)
-    (old : Ends T) (new : Result T TableFault) → found ≡ Some bytes
-    → OnOk r ((length bytes ≤ max_part) × (new ≢ Err out_of_memory → old bytes ≡ new))
+pub fed_bytes : {E : Type 0} (found : Option (List ℕ)) (bytes : List ℕ) (r : Result (Unit {0}) FileFault)
+    (old : List ℕ → E) (new : E) → found ≡ Some bytes
+    → OnOk r ((length bytes ≤ max_part) × (old bytes ≡ new))
     → OnOk r ((whole : List ℕ) × (part_bytes found ≡ Ok whole) × (length whole ≤ max_text)
-    × (new ≢ Err out_of_memory → old whole ≡ new))
+    × (old whole ≡ new))
 fed_bytes found bytes r old new is fed =
     on_ok r fed (λ few.
     (bytes, rw (is, le-leb (length bytes) max_part few.0) refl, few.0, few.1))

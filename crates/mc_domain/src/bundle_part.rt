@@ -22,11 +22,12 @@ ghost use Rattle.mc_domain.specs.declared.fault.InputFault.TheVariants.{Cache as
 ghost use Rattle.mc_domain.specs.declared.source_fault.SourceFault.TheVariants.{Input as refused};
 
 use crate::fault::InputFault;
+use crate::fed_part::feed_part;
 use crate::slot_part::{open_named, open_slot, read_on, read_to_end};
 use crate::source_fault::SourceFault;
-use crate::table_part::feed_part;
-use crate::told::{cache_told, topology_of, vifs_told, wanted_of};
+use crate::told::{cache_told, topology_of, vifs_told, wanted_told};
 use mc_forward::{FlowChannels, Items};
+use mc_igmp::ListReader;
 use mc_layout::Slot;
 use mc_tables::{CacheReader, CacheTable, VifReader, VifTable};
 use mc_text::{Input, Part, Parts, collect_part};
@@ -197,12 +198,9 @@ fn read_reports<R: Input>(
     ensures failures { parts.new.failed ≡ counted is_read result parts.old.failed }
 {
     open_slot(parts, topology, certified, number)?;
-    let bytes = collect_part(alloc, parts, buffer)?;
-    let part = Part {
-        name: parts.name(),
-        bytes: &bytes,
-    };
-    Ok(wanted_of(alloc, channels, &part))
+    let mut reader = ListReader::new(alloc);
+    feed_part(parts, buffer, &mut reader)?;
+    Ok(wanted_told(alloc, channels, parts.name(), reader.finish()))
 }
 
 /// Which of these channels a LAN wants, by its reports in the part of the slot with a number.

@@ -141,7 +141,7 @@ pub fn domain_in<R: Input>(
     read_through(alloc, input, &mut buffer, certified)
 }
 
-/// The domain that files tell, whose tables are read in pieces through the buffer.
+/// The domain that files tell, which but for the topology are read in pieces through the buffer.
 fn files_through<F: PieceSource>(
     alloc: Global,
     files: &mut F,
@@ -162,9 +162,9 @@ fn files_through<F: PieceSource>(
 
 /// Reads the domain that a folder's files mean: `topology`, `vif-<router>` and `cache-<router>` for
 /// each router, and `igmp-<lan>` for each LAN, each in the order of the topology. Each file may have
-/// 16,777,216 bytes, and is judged before the next one is asked for. Tables are read as they come,
-/// and of a cache the rows of listed flows are kept. The count of the source's failures has to be
-/// below `u64::MAX`.
+/// 16,777,216 bytes, and is judged before the next one is asked for. Tables and report lists are read
+/// as they come, and of a cache the rows of listed flows are kept. The count of the source's failures
+/// has to be below `u64::MAX`.
 ///
 /// # Errors
 ///

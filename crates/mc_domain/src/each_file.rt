@@ -113,16 +113,18 @@ fn judge_cache<F: PieceSource>(
 fn judge_reports<F: PieceSource>(
     alloc: Global,
     files: &mut F,
+    buffer: &mut [u8],
     channels: &FlowChannels,
     lan: &str,
     refused: &mut Vec<RefusedFile>,
 ) -> Result<(), Memory>
     requires name { IsTrue (is_name lan.now) }
+    requires room { 0 < length buffer.old }
 {
     if !may_be_asked(files) {
         return Ok(());
     }
-    let fault = wanted_in(alloc, files, channels, lan).err();
+    let fault = wanted_in(alloc, files, buffer, channels, lan).err();
     put(alloc, files, &Slot::reports(lan), fault, refused)
 }
 
@@ -152,13 +154,16 @@ fn judge_routers<F: PieceSource>(
 fn judge_lans<F: PieceSource>(
     alloc: Global,
     files: &mut F,
+    buffer: &mut [u8],
     topology: &Topology,
     refused: &mut Vec<RefusedFile>,
-) -> Result<(), Memory> {
+) -> Result<(), Memory>
+    requires room { 0 < length buffer.old }
+{
     let channels = FlowChannels::of(alloc, topology)?;
     for lan in 0..topology.lans() {
         let name = topology.lan_name(LanNo(lan));
-        judge_reports(alloc, files, &channels, name, refused)?;
+        judge_reports(alloc, files, buffer, &channels, name, refused)?;
     }
     Ok(())
 }
@@ -181,7 +186,7 @@ pub fn refused_files<F: PieceSource>(
         Ok(topology) => {
             let mut buffer = Vec::from_elem(alloc, 0u8, PIECE)?;
             judge_routers(alloc, files, &mut buffer, &topology, &mut refused)?;
-            judge_lans(alloc, files, &topology, &mut refused)?;
+            judge_lans(alloc, files, &mut buffer, &topology, &mut refused)?;
         }
         Err(fault) => put_fault(alloc, files, &Slot::topology(), fault, &mut refused)?,
     }

@@ -13,10 +13,11 @@ ghost use Rattle.mc_domain.specs.PartsReading.{cache_of as told_cache, reports_o
 ghost use Rattle.mc_domain.specs.PartsReading.{topology_of as told_topology, vifs_of as told_vifs};
 ghost use Rattle.mc_domain.specs.declared.source_fault.SourceFault.TheVariants.{Input};
 
+use crate::fed_file::feed_slot;
 use crate::source_fault::SourceFault;
-use crate::table_file::feed_slot;
-use crate::told::{cache_told, topology_of, vifs_told, wanted_of};
+use crate::told::{cache_told, topology_of, vifs_told, wanted_told};
 use mc_forward::{FlowChannels, Items};
+use mc_igmp::ListReader;
 use mc_layout::{FileSource, PieceSource, Slot, part_of_file};
 use mc_tables::{CacheReader, CacheTable, ListedPairs, VifReader, VifTable};
 use mc_text::Order;
@@ -86,13 +87,15 @@ pub(crate) fn cache_in<F: PieceSource>(
 }
 
 /// Which flows a LAN wants, by its reports in the file `igmp-<lan>`.
-pub(crate) fn wanted_in<F: FileSource>(
+pub(crate) fn wanted_in<F: PieceSource>(
     alloc: Global,
     files: &mut F,
+    buffer: &mut [u8],
     channels: &FlowChannels,
     lan: &str,
 ) -> Result<Items<bool>, SourceFault>
     requires name { IsTrue (is_name lan.now) }
+    requires room { 0 < length buffer.old }
     requires reads { F.failed files.old < u64.MAX }
     ensures same { F.names files.new ≡ F.names files.old }
     ensures kept { F.told files.new ≡ F.told files.old }
@@ -102,6 +105,7 @@ pub(crate) fn wanted_in<F: FileSource>(
     ensures count { IfOk result (λ wanted. length wanted ≡ length channels.now) }
     ensures failures { F.failed files.new ≡ counted is_read result (F.failed files.old) }
 {
-    let part = part_of_file(alloc, files, &Slot::reports(lan))?;
-    Ok(wanted_of(alloc, channels, &part.as_part())?)
+    let mut reader = ListReader::new(alloc);
+    let name = feed_slot(alloc, files, &Slot::reports(lan), buffer, &mut reader)?;
+    Ok(wanted_told(alloc, channels, name, reader.finish())?)
 }

@@ -19,7 +19,7 @@ use crate::file_part::{cache_in, vifs_in, wanted_in};
 use crate::source_fault::SourceFault;
 use crate::told::listed_flows;
 use mc_forward::{FlowChannels, Items, Tables};
-use mc_layout::{FileSource, PieceSource};
+use mc_layout::PieceSource;
 use mc_tables::ListedPairs;
 use mc_text::Order;
 use mc_topology::{LanNo, RouterNo, Topology};
@@ -78,11 +78,13 @@ fn tables_in<F: PieceSource>(
 }
 
 /// Which flows each LAN wants.
-fn wants_in<F: FileSource>(
+fn wants_in<F: PieceSource>(
     alloc: Global,
     files: &mut F,
+    buffer: &mut [u8],
     topology: &Topology,
 ) -> Result<Vec<Items<bool>>, SourceFault>
+    requires room { 0 < length buffer.old }
     requires reads { F.failed files.old < u64.MAX }
     ensures same { F.names files.new ≡ F.names files.old }
     ensures kept { F.told files.new ≡ F.told files.old }
@@ -96,7 +98,7 @@ fn wants_in<F: FileSource>(
     let mut wants = Vec::new(alloc);
     for lan in 0..topology.lans() {
         let name = topology.lan_name(LanNo(lan));
-        wants.push(wanted_in(alloc, files, &channels, name)?)?;
+        wants.push(wanted_in(alloc, files, buffer, &channels, name)?)?;
     }
     Ok(wants)
 }
@@ -122,6 +124,6 @@ pub(crate) fn contents_in<F: PieceSource>(
     ensures failures { F.failed files.new ≡ counted is_read result (F.failed files.old) }
 {
     let tables = tables_in(alloc, files, buffer, topology)?;
-    let wants = wants_in(alloc, files, topology)?;
+    let wants = wants_in(alloc, files, buffer, topology)?;
     Ok((tables, wants))
 }

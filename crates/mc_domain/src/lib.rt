@@ -7,13 +7,14 @@ mod bundle_part;
 mod domain;
 mod each_file;
 mod fault;
+mod fed_file;
+mod fed_part;
 mod file_part;
 mod files;
 mod laws;
+mod piece_reader;
 mod slot_part;
 mod source_fault;
-mod table_file;
-mod table_part;
 mod told;
 
 pub use domain::{DomainRead, PIECE, domain_in, domain_of};

@@ -1,21 +1,25 @@
-//! What one part of a domain tells, read by its own reader.
+//! What one part of a domain tells, as its own reader found it.
 
 ghost use Rattle.std.specs.FinMap.{FinMap};
 ghost use Rattle.std.specs.Ordering.{nat_cmp};
-ghost use Rattle.std.specs.Prelude.{◌≡◌, ◌≢◌, Err, IfErr, IfOk, Result, length};
+ghost use Rattle.std.specs.Prelude.{◌≡◌, ◌≢◌, Err, IfErr, IfOk, List, Result, length};
 ghost use Rattle.mc_text.specs.BundleView.{part_text};
 ghost use Rattle.mc_text.specs.Steps.{refused_as};
 ghost use Rattle.mc_tables.specs.CacheTable.{CacheText};
 ghost use Rattle.mc_tables.specs.Steps.{out_of_memory};
 ghost use Rattle.mc_tables.specs.VifTable.{VifText};
 ghost use Rattle.mc_tables.specs.declared.fault.TableFault.{TableFault as FaultOfTable};
+ghost use Rattle.mc_igmp.specs.ReadingList.{no_memory};
+ghost use Rattle.mc_igmp.specs.declared.fault.ListFault.{ListFault as FaultOfList};
+ghost use Rattle.mc_igmp.specs.declared.record.Record.{Record};
 ghost use Rattle.mc_forward.specs.Assembling.{AreChannelsWanted};
 ghost use Rattle.mc_domain.specs.Kept.{AreFlowPairs};
 ghost use Rattle.mc_domain.specs.PartsInTurn.{IsToldOf};
 ghost use Rattle.mc_domain.specs.declared.fault.InputFault.TheVariants.{Cache as RefusedCache};
+ghost use Rattle.mc_domain.specs.declared.fault.InputFault.TheVariants.{Reports as RefusedReports};
 ghost use Rattle.mc_domain.specs.declared.fault.InputFault.TheVariants.{Vif as RefusedVif};
 ghost use Rattle.mc_domain.specs.InputReading.{Gives};
-ghost use Rattle.mc_domain.specs.PartsReading.{reports_of, topology_of};
+ghost use Rattle.mc_domain.specs.PartsReading.{topology_of};
 
 use crate::fault::InputFault;
 use mc_forward::{FlowChannels, Items, pairs_of};
@@ -38,22 +42,6 @@ pub(crate) fn topology_of(alloc: Global, part: &Part<'_>) -> Result<Topology, In
             },
         ) => Err(InputFault::Memory),
         Err(fault) => Err(InputFault::Topology(fault)),
-    }
-}
-
-/// The report list of a LAN.
-pub(crate) fn reports_of(alloc: Global, part: &Part<'_>) -> Result<ReportList, InputFault>
-    ensures { Gives (λ reports. reports) result (reports_of (part_text part.now)) }
-{
-    match ReportList::read(alloc, part.bytes) {
-        Ok(reports) => Ok(reports),
-        Err(
-            ListFault {
-                kind: ListFaultKind::Memory,
-                ..
-            },
-        ) => Err(InputFault::Memory),
-        Err(fault) => Err(InputFault::Reports(part.name, fault)),
     }
 }
 
@@ -107,16 +95,28 @@ pub(crate) fn cache_told(
     }
 }
 
-/// Which of these channels a LAN wants, by the report list in a part.
-pub(crate) fn wanted_of(
+/// Which of these channels a LAN wants, by its report list as the reader of the part with this name
+/// found it.
+pub(crate) fn wanted_told(
     alloc: Global,
     channels: &FlowChannels,
-    part: &Part<'_>,
+    name: PartName,
+    found: Result<ReportList, ListFault>,
 ) -> Result<Items<bool>, InputFault>
-    ensures wanted { IsToldOf (λ wanted records. AreChannelsWanted channels.now records wanted)
-        result (reports_of (part_text part.now)) }
+    ensures wanted { (read : Result (List Record) FaultOfList) →
+        (found ≢ Err no_memory → read ≡ found) →
+        IsToldOf (λ wanted records. AreChannelsWanted channels.now records wanted) result
+        (refused_as (RefusedReports name) read) }
     ensures count { IfOk result (λ wanted. length wanted ≡ length channels.now) }
 {
-    let reports = reports_of(alloc, part)?;
-    Ok(channels.wanted(alloc, &reports)?)
+    match found {
+        Ok(reports) => Ok(channels.wanted(alloc, &reports)?),
+        Err(
+            ListFault {
+                kind: ListFaultKind::Memory,
+                ..
+            },
+        ) => Err(InputFault::Memory),
+        Err(fault) => Err(InputFault::Reports(name, fault)),
+    }
 }

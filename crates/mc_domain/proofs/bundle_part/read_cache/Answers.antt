@@ -22,7 +22,7 @@ returns-clause-told g c = λ text told.
     let name : c.name.result ≡ part.name =
     one_name (sym c.name.ensures ∙ c.in_ok-feed_part.ensures.named ∙ fed.4) in
     let told = c.cache_told.ensures (cache_if c.args.reader part.bytes) (λ loud.
-    fed.6 (λ e. loud (c.finish.ensures ∙ e)) ∙ sym c.finish.ensures) in (
+    fed.6 ∙ sym c.finish.ensures) in (
       fed.0,
       part,
       fed.2,

@@ -35,7 +35,7 @@ returns-clause-told g c = λ text told.
     one_name (sym c.name.ensures ∙ c.in_ok-feed_part.ensures.named ∙ fed.4) in
     let told = c.vifs_told.ensures (vifs_in part.bytes) (λ loud.
     sym (c.new-reader.ensures.reads part.bytes fed.5)
-    ∙ fed.6 (λ e. loud (c.finish.ensures ∙ e)) ∙ sym c.finish.ensures) in (
+    ∙ fed.6 ∙ sym c.finish.ensures) in (
       fed.0,
       part,
       fed.2,

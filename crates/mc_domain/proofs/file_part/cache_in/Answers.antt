@@ -30,7 +30,7 @@ returns-in_err-cache_told-clause-cache g c =
     let name = c.in_ok-name.name in
     let found = cache_if c.new-reader.result part.0.bytes in
     let own = c.in_err-cache_told.ensures found (λ loud.
-    part.4 (λ e. loud (c.finish.ensures ∙ e)) ∙ sym c.finish.ensures) in
+    part.4 ∙ sym c.finish.ensures) in
     let listed = listed_is c.args.order pairs name part.0.bytes (Err fault) found
     (sym (reads_flows c.args.order pairs c.new-reader.result
     (starts_same c.args.order c.args.listed.now pairs c.new-reader.result
@@ -48,7 +48,7 @@ returns-clause-cache g c = λ n pairs same told is.
     let name = c.in_ok-name.name in
     let found = cache_if c.new-reader.result part.0.bytes in
     let own = c.in_ok-cache_told.ensures found (λ loud.
-    part.4 (λ e. loud (c.finish.ensures ∙ e)) ∙ sym c.finish.ensures) in
+    part.4 ∙ sym c.finish.ensures) in
     let listed = listed_is c.args.order pairs name part.0.bytes (Ok c.in_ok-cache_told.field-0) found
     (sym (reads_flows c.args.order pairs c.new-reader.result
     (starts_same c.args.order c.args.listed.now pairs c.new-reader.result

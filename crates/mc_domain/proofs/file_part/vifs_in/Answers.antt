@@ -24,7 +24,7 @@ returns-in_err-vifs_told-clause-vifs g c =
     let fault = c.in_err-vifs_told.field-0.0 in
     let own = c.in_err-vifs_told.ensures (vifs_in part.0.bytes) (λ loud.
     sym (c.new-reader.ensures.reads part.0.bytes part.3)
-    ∙ part.4 (λ e. loud (c.finish.ensures ∙ e)) ∙ sym c.finish.ensures) in
+    ∙ part.4 ∙ sym c.finish.ensures) in
     kept_refused (λ kept vifs. kept ≡ vifs) told n (vif_slot c.args.router.now) c.vifs.result vifs_of
     part.0 c.vifs.ensures part.1 fault
     (subst (λ m. IsToldOf (λ kept vifs. kept ≡ vifs) (Err fault)
@@ -35,7 +35,7 @@ returns-clause-vifs g c = λ n told is.
     let part = c.in_ok-name.ensures.part told is in
     let own = c.in_ok-vifs_told.ensures (vifs_in part.0.bytes) (λ loud.
     sym (c.new-reader.ensures.reads part.0.bytes part.3)
-    ∙ part.4 (λ e. loud (c.finish.ensures ∙ e)) ∙ sym c.finish.ensures) in
+    ∙ part.4 ∙ sym c.finish.ensures) in
     kept_read (λ kept vifs. kept ≡ vifs) told n (vif_slot c.args.router.now) c.vifs.result vifs_of
     part.0 c.vifs.ensures part.1 c.in_ok-vifs_told.field-0
     (subst (λ m. IsToldOf (λ kept vifs. kept ≡ vifs) (Ok c.in_ok-vifs_told.field-0)

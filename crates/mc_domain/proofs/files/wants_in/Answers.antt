@@ -1,4 +1,4 @@
-use Rattle.std.proofs.Common.{◌≡◌, ℕ, Bool, List, [], ◌∷◌, ◌++◌, ◌+◌, ◌∙◌, Some, ap, Err, arith, length, refl, slice_get, subst, sym}
+use Rattle.std.proofs.Common.{◌≡◌, ℕ, Bool, List, [], ◌∷◌, ◌++◌, ◌+◌, ◌∙◌, Some, ap, Err, arith, length, refl, rules, slice_get, subst, sym}
 use Rattle.std.proofs.lemmas.Grind.{elements}
 use Rattle.std.proofs.lemmas.Result.{err_from_is_err_and}
 use Rattle.mc_forward.specs.Assembling.{AreWanted}
@@ -20,6 +20,7 @@ loop-lan-init g c =
       count = c.lans-lan-end.ensures.count;
       so_far = ap length items;
       flows = λ lan wanted at. absurd (none_there lan items at);
+      room = c.requires.room;
       same = refl;
       kept = refl;
       failures = refl;
@@ -58,6 +59,7 @@ loop-lan-preserved g c =
       flows = rw items (answers_more (length t.flows) c.loop-lan.wants.items own
           c.loop-lan.invariant.flows
           (c.in_ok-wanted_in.ensures.count ∙ channels-count t.flows c.in_ok-channels.channels are));
+      room = search rules;
       same = c.wanted_in.ensures.same ∙ c.loop-lan.invariant.same;
       kept = c.wanted_in.ensures.kept ∙ c.loop-lan.invariant.kept;
       failures = c.in_ok-wanted_in.ensures.failures ∙ c.loop-lan.invariant.failures;

@@ -1,4 +1,4 @@
-use Rattle.std.proofs.Common.{◌≡◌, ◌+◌, ℕ, Bool, List, length, drop, Some, slice_get}
+use Rattle.std.proofs.Common.{◌≡◌, ◌<◌, ◌+◌, ℕ, Bool, List, length, drop, Some, slice_get}
 use Rattle.mc_igmp.specs.declared.record.Record.{Record}
 use Rattle.mc_layout.specs.Files.{FileText}
 use Rattle.mc_text.proofs.StepLemmas.{with_front}
@@ -14,6 +14,7 @@ invariant-loop-lan g l = record {
   so_far : length l.wants.items ≡ l.lan;
   flows : (lan : ℕ) (wanted : List Bool) → slice_get l.wants.items lan ≡ Some wanted
       → length wanted ≡ length l.fn.topology.flows;
+  room : 0 < length l.buffer;
   same : g.F.FileSource.names l.files ≡ g.F.FileSource.names l.fn.files;
   kept : g.F.FileSource.told l.files ≡ g.F.FileSource.told l.fn.files;
   failures : g.F.FileSource.failed l.files ≡ g.F.FileSource.failed l.fn.files;

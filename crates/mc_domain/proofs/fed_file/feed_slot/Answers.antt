@@ -2,7 +2,7 @@ use Rattle.std.proofs.Common.{◌≡◌, ◌∙◌, Ok, refl, sym, subst}
 use Rattle.mc_layout.specs.FilePart.{part_bytes}
 use Rattle.mc_layout.specs.Files.{file_named}
 use Rattle.mc_layout.specs.Layout.{part_name}
-use Rattle.mc_domain.proofs.table_file.feed_slot.Goals as goal
+use Rattle.mc_domain.proofs.fed_file.feed_slot.Goals as goal
 
 pub returns-clause-part : goal.returns-clause-part
 returns-clause-part g c = λ told is.

@@ -1,6 +1,6 @@
 use Rattle.std.proofs.Common.{◌≡◌, ◌+◌, ◌<◌, ◌≤◌, ◌++◌, ℕ, List, Some, length}
 use Rattle.mc_text.specs.Bundle.{max_part}
-use Rattle.mc_domain.proofs.table_file.feed_open.Given as goal
+use Rattle.mc_domain.proofs.fed_file.feed_open.Given as goal
 
 abbrev pub invariant-pieces : goal.invariant-pieces
 invariant-pieces g l = record {
@@ -8,12 +8,11 @@ invariant-pieces g l = record {
   same : g.F.FileSource.names l.files ≡ g.F.FileSource.names l.fn.files;
   kept : g.F.FileSource.told l.files ≡ g.F.FileSource.told l.fn.files;
   failures : g.F.FileSource.failed l.files ≡ g.F.FileSource.failed l.fn.files;
-  size : g.T.TableReader.size l.reader + l.left ≡ max_part;
   part : (bytes : List ℕ) → g.F.PieceSource.left l.fn.files ≡ Some bytes →
       (done : List ℕ) × (rest : List ℕ) × (g.F.PieceSource.left l.files ≡ Some rest) × (bytes ≡ done ++ rest)
-      × (length done ≡ g.T.TableReader.size l.reader)
-      × ((more : List ℕ) → g.T.TableReader.size l.reader + length more ≤ max_part →
-      g.T.TableReader.ends l.fn.reader (done ++ more) ≡ g.T.TableReader.ends l.reader more);
+      × (g.P.PieceReader.size l.reader ≤ length done) × (length done + l.left ≡ max_part)
+      × ((more : List ℕ) → length done + length more ≤ max_part →
+      g.P.PieceReader.ends l.fn.reader (done ++ more) ≡ g.P.PieceReader.ends l.reader more);
 }
 
 abbrev pub decreases-pieces : goal.decreases-pieces

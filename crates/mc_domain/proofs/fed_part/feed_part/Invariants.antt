@@ -3,7 +3,7 @@ use Rattle.mc_text.specs.Lines.{max_text}
 use Rattle.mc_text.specs.declared.bundle.stage.Stage.TheVariants as stages
 use Rattle.mc_text.specs.PartsReading.{parts_if}
 use Rattle.mc_text.specs.PartsToCome.{GoesOn}
-use Rattle.mc_domain.proofs.table_part.feed_part.Given as goal
+use Rattle.mc_domain.proofs.fed_part.feed_part.Given as goal
 
 abbrev pub invariant-pieces : goal.invariant-pieces
 invariant-pieces g l = record {
@@ -12,13 +12,13 @@ invariant-pieces g l = record {
   opened : l.parts.stage ≡ stages.Part;
   name : l.parts.name ≡ l.fn.parts.name;
   room : 0 < length l.buffer;
-  within : g.T.TableReader.size l.reader + l.parts.left ≤ max_text;
   part : (text : List ℕ) → l.fn.parts.told ≡ Some text →
       (later : List ℕ) × (done : List ℕ) × (l.parts.told ≡ Some later)
       × (parts_if l.fn.parts [] text ≡ parts_if l.parts done later)
-      × (length done ≡ g.T.TableReader.size l.reader)
-      × ((more : List ℕ) → g.T.TableReader.size l.reader + length more ≤ max_text →
-      g.T.TableReader.ends l.fn.reader (done ++ more) ≡ g.T.TableReader.ends l.reader more);
+      × (g.P.PieceReader.size l.reader ≤ length done)
+      × (length done + l.parts.left ≤ max_text)
+      × ((more : List ℕ) → length done + length more ≤ max_text →
+      g.P.PieceReader.ends l.fn.reader (done ++ more) ≡ g.P.PieceReader.ends l.reader more);
 }
 
 abbrev pub decreases-pieces : goal.decreases-pieces

@@ -1,11 +1,10 @@
-use Rattle.std.proofs.Common.{◌≡◌, ◌+◌, ◌≤◌, ◌++◌, [], true, false, length, not, take, ap, sym, ◌∙◌, arith, rules, length-take}
+use Rattle.std.proofs.Common.{◌≡◌, ◌+◌, ◌≤◌, ◌++◌, [], true, length, not, take, ap, sym, ◌∙◌, arith, rules, length-take}
 use Rattle.std.specs.Prelude.{is_ok}
 use Rattle.std.proofs.lemmas.List.{append-nil, length-append}
 use Rattle.mc_text.specs.Lines.{max_text}
 use Rattle.mc_text.proofs.ToComeLemmas.{goes_on, part_passed}
-use Rattle.mc_domain.proofs.FeedLemmas.{fed_on, fed_to_fault, not_refused, piece_fits, piece_within}
-use Rattle.mc_domain.proofs.FeedLemmas.{taken_with}
-use Rattle.mc_domain.proofs.table_part.feed_part.Goals as goal
+use Rattle.mc_domain.proofs.FeedLemmas.{fed_on, taken_with}
+use Rattle.mc_domain.proofs.fed_part.feed_part.Goals as goal
 
 pub returns-in_err-count-clause-goes_on : goal.returns-in_err-count-clause-goes_on
 returns-in_err-count-clause-goes_on g c =
@@ -36,46 +35,8 @@ returns-then-count-eq0-clause-part g c = λ text told.
       read.1,
       whole,
       name.1.named,
-      omega (arith, ap length bytes, length-append done [], known.4, c.pieces.invariant.within),
-      λ loud. ap (g.T.TableReader.ends c.args.reader.now) bytes
-          ∙ known.5 [] (omega (arith, c.pieces.invariant.within)),
-    )
-
-pub returns-then-is_err-clause-part : goal.returns-then-is_err-clause-part
-returns-then-is_err-clause-part g c = λ text told.
-    let known = c.pieces.invariant.part text told in
-    let done = known.1 in
-    let new = c.read.new.self in
-    let name = c.requires.opened in
-    let same = c.in_ok-count.ensures.same in
-    let count = c.in_ok-count.count in
-    let piece = take count c.read.new.buffer in
-    let read = c.in_ok-count.ensures.bytes known.0 done known.2 in
-    let rest = take new.left read.0 in
-    let left = c.in_ok-count.ensures.left c.pieces.invariant.opened in
-    let fits : length rest + count ≤ c.pieces.parts.left = omega (arith, length-take new.left read.0, left) in
-    let within = piece_within (g.T.TableReader.size c.pieces.reader) c.pieces.parts.left count _ piece
-    rest c.pieces.invariant.within (piece_fits count c.read.new.buffer) fits in
-    let failed : is_ok c.take.result ≡ false = c.is_err.ensures.negation ∙ ap not c.if-is_err.true in
-    let whole = known.3 ∙ read.3 ∙ part_passed new name.0 (done ++ piece) read.0
-    (same.0 ∙ c.pieces.invariant.opened) (same.1 ∙ c.pieces.invariant.name ∙ name.1.named) in (
-      read.0,
-      record { name = name.0; bytes = (done ++ piece) ++ rest },
-      read.1,
-      whole,
-      name.1.named,
-      omega (
-        arith,
-        within,
-        known.4,
-        length-append (done ++ piece) rest,
-        length-append done piece,
-        length-append piece rest,
-      ),
-      fed_to_fault (g.T.TableReader.ends c.args.reader.now) (g.T.TableReader.ends c.pieces.reader)
-          (g.T.TableReader.ends c.take.new.self) done piece rest c.take.result failed
-          (known.5 (piece ++ rest) within)
-          (λ loud. c.take.ensures.goes_on rest loud within) c.take.ensures.fault,
+      omega (arith, ap length bytes, length-append done [], known.5),
+      ap (g.P.PieceReader.ends c.args.reader.now) bytes ∙ known.6 [] (omega (arith, known.5)),
     )
 
 pub returns-then-is_err-clause-goes_on : goal.returns-then-is_err-clause-goes_on
@@ -91,7 +52,6 @@ pieces-preserved g c =
     let piece = take count c.read.new.buffer in
     let left = c.in_ok-count.ensures.left c.pieces.invariant.opened in
     let taken : is_ok c.take.result ≡ true = c.is_err.ensures.negation ∙ ap not c.if-is_err.false in
-    let size = taken_with c.take.result taken c.take.ensures.size in
     let long : length piece ≡ count =
     omega (arith, length-take count c.read.new.buffer, c.in_ok-count.ensures.bound) in
     record {
@@ -101,7 +61,6 @@ pieces-preserved g c =
       opened = same.0 ∙ c.pieces.invariant.opened;
       name = same.1 ∙ c.pieces.invariant.name;
       room = search rules;
-      within = omega (arith, c.pieces.invariant.within, size, long, left);
       part = λ text told.
           let known = c.pieces.invariant.part text told in
           let read = c.in_ok-count.ensures.bytes known.0 known.1 known.2 in (
@@ -109,13 +68,16 @@ pieces-preserved g c =
             known.1 ++ piece,
             read.1,
             known.3 ∙ read.3,
-            omega (arith, known.4, size, length-append known.1 piece),
+            omega (arith, known.4, c.take.ensures.size, length-append known.1 piece),
+            omega (arith, known.5, long, left, length-append known.1 piece),
             λ more within.
-                let fits : g.T.TableReader.size c.pieces.reader + length (piece ++ more) ≤ max_text =
-                omega (arith, within, size, length-append piece more) in
-                fed_on (g.T.TableReader.ends c.args.reader.now)
-                (g.T.TableReader.ends c.pieces.reader) (g.T.TableReader.ends c.take.new.self)
-                known.1 piece more (known.5 (piece ++ more) fits)
-                (c.take.ensures.goes_on more (not_refused taken) fits),
+                let fits : length known.1 + length (piece ++ more) ≤ max_text =
+                omega (arith, within, length-append piece more, length-append known.1 piece) in
+                let room : g.P.PieceReader.size c.pieces.reader + length (piece ++ more) ≤ max_text =
+                omega (arith, fits, known.4) in
+                fed_on (g.P.PieceReader.ends c.args.reader.now)
+                (g.P.PieceReader.ends c.pieces.reader) (g.P.PieceReader.ends c.take.new.self)
+                known.1 piece more (known.6 (piece ++ more) fits)
+                (taken_with c.take.result taken (c.take.ensures.goes_on more room)),
           );
     }

@@ -1,0 +1,40 @@
+use Rattle.std.proofs.Common.{◌≡◌, ◌+◌, ◌≤◌, ◌++◌, true, length, not, take, ap, ◌∙◌, sym, arith, rules, length-take, append_assoc}
+use Rattle.std.specs.Prelude.{is_ok}
+use Rattle.std.proofs.lemmas.List.{length-append}
+use Rattle.mc_text.specs.Bundle.{max_part}
+use Rattle.mc_text.proofs.PartsMeaning.{consumed}
+use Rattle.mc_domain.proofs.FeedLemmas.{fed_on, taken_with}
+use Rattle.mc_domain.proofs.fed_file.feed_open.Goals as goal
+
+pub pieces-preserved : goal.pieces-preserved
+pieces-preserved g c =
+    let count = c.in_ok-count.count in
+    let piece = take count c.read_piece.new.buffer in
+    let taken : is_ok c.take.result ≡ true = c.is_err.ensures.negation ∙ ap not c.if-is_err.false in
+    let long : length piece ≡ count =
+    omega (arith, length-take count c.read_piece.new.buffer, c.in_ok-count.ensures.bound) in
+    record {
+      room = search rules;
+      same = c.read_piece.ensures.same ∙ c.pieces.invariant.same;
+      kept = c.read_piece.ensures.kept ∙ c.pieces.invariant.kept;
+      failures = c.in_ok-count.ensures.failures ∙ c.pieces.invariant.failures;
+      part = λ bytes is.
+          let known = c.pieces.invariant.part bytes is in
+          let next = consumed _ _ piece known.1 c.in_ok-count.ensures.bytes.0 known.2 in (
+            known.0 ++ piece,
+            next.0,
+            next.1,
+            known.3 ∙ ap (λ l. known.0 ++ l) next.2 ∙ sym (append_assoc known.0 piece next.0),
+            omega (arith, known.4, c.take.ensures.size, length-append known.0 piece),
+            omega (arith, known.5, long, length-append known.0 piece, c.if-count-left.false),
+            λ more within.
+                let fits : length known.0 + length (piece ++ more) ≤ max_part =
+                omega (arith, within, length-append piece more, length-append known.0 piece) in
+                let room : g.P.PieceReader.size c.pieces.reader + length (piece ++ more) ≤ max_part =
+                omega (arith, fits, known.4) in
+                fed_on (g.P.PieceReader.ends c.args.reader.now)
+                (g.P.PieceReader.ends c.pieces.reader) (g.P.PieceReader.ends c.take.new.self)
+                known.0 piece more (known.6 (piece ++ more) fits)
+                (taken_with c.take.result taken (c.take.ensures.goes_on more room)),
+          );
+    }

@@ -1,0 +1,49 @@
+//! The parts of a bundle that are fed to their readers as they come.
+
+ghost use Rattle.std.specs.Prelude.{◌≡◌, ◌≢◌, ◌<◌, ◌≤◌, ℕ, List, [], ◌∷◌, Some, Err};
+ghost use Rattle.std.specs.Prelude.{IfErr, OnOk, length};
+ghost use Rattle.mc_text.specs.Bundle.{PartText};
+ghost use Rattle.mc_text.specs.Device.{counted};
+ghost use Rattle.mc_text.specs.Lines.{max_text};
+ghost use Rattle.mc_text.specs.PartsReading.{before, is_read as is_failed, parts_if};
+ghost use Rattle.mc_text.specs.PartsToCome.{GoesOn, others_if};
+ghost use Rattle.mc_domain.specs.PartsInTurn.{IsOpened};
+
+use crate::piece_reader::PieceReader;
+use mc_text::{BundleFault, Input, Parts};
+
+/// Feeds the present part to a reader, piece by piece through the buffer, up to the part's end.
+pub(crate) fn feed_part<R: Input, P: PieceReader>(
+    parts: &mut Parts<R>,
+    buffer: &mut [u8],
+    reader: &mut P,
+) -> Result<(), BundleFault>
+    requires opened { (name : List ℕ) × IsOpened parts.old name }
+    requires room { 0 < length buffer.old }
+    requires start { P.size reader.old ≡ 0 }
+    requires failures { parts.old.failed < u64.MAX }
+    // The part has bytes, and the reader's end is that of them all.
+    ensures part { (text : List ℕ) → parts.old.told ≡ Some text → OnOk result
+        ((later : List ℕ) × (part : PartText) × (parts.new.told ≡ Some later)
+        × (parts_if parts.old [] text ≡ before (part ∷ []) (others_if parts.new later))
+        × (parts.old.name ≡ Some part.name) × (length part.bytes ≤ max_text)
+        × (P.ends reader.old part.bytes ≡ P.ends reader.new [])) }
+    ensures named { OnOk result (parts.new.name ≡ parts.old.name) }
+    ensures open { OnOk result (parts.new.stage ≡ parts.old.stage) }
+    // Which fault it is, unless the input failed or memory ran out.
+    ensures fault { (text : List ℕ) → parts.old.told ≡ Some text → IfErr result (λ fault.
+        fault ≢ BundleFault.Read → fault ≢ BundleFault.Memory →
+        parts_if parts.old [] text ≡ Err fault) }
+    ensures goes_on { GoesOn parts.old parts.new }
+    ensures failures { parts.new.failed ≡ counted is_failed result parts.old.failed }
+{
+    'pieces: loop {
+        let count = parts.read(buffer)?;
+        if count == 0 {
+            return Ok(());
+        }
+        if reader.take(&buffer[..count]).is_err() {
+            return Err(BundleFault::Memory);
+        }
+    }
+}

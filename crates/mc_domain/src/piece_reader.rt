@@ -1,0 +1,101 @@
+//! The readers of kernel tables and of report lists, which are fed their texts in pieces.
+
+ghost use Rattle.std.specs.Prelude.{◌≡◌, ◌≢◌, ◌+◌, ◌≤◌, ◌++◌, ℕ, List, Err, OnOk, Result, is_some, length};
+ghost use Rattle.std.specs.Prelude.{if◌then◌else◌};
+ghost use Rattle.mc_text.specs.Lines.{max_text};
+ghost use Rattle.mc_tables.specs.Steps.{out_of_memory};
+
+use mc_igmp::ListReader;
+use mc_tables::{CacheReader, TableFault, TableFaultKind, VifReader};
+use mc_text::Memory;
+
+/// A reader that is fed its text in pieces.
+pub(crate) trait PieceReader {
+    // what reading ends with
+    ghost End: { Type 0 };
+
+    // what it ends with if these bytes come
+    ghost ends: { Self → List ℕ → End };
+
+    // how many of the bytes that have come count towards the limit of a text
+    ghost size: { Self → ℕ };
+
+    /// Takes the next piece of the text. A fault is kept until the text ends.
+    ///
+    /// # Errors
+    ///
+    /// `Memory` where a growth was refused. The reader is of no use then.
+    fn take(&mut self, piece: &[u8]) -> Result<(), Memory>
+        // Whatever bytes come then, reading ends as it would have with this piece before them.
+        ensures goes_on { (more : List ℕ) → size self.old + length (piece.now ++ more) ≤ max_text →
+            OnOk result (ends self.new more ≡ ends self.old (piece.now ++ more)) }
+        ensures size { size self.new ≤ size self.old + length piece.now };
+}
+
+/// Whether memory ran out. Any other fault is kept by the reader of the table that was fed.
+fn want_of_memory(fed: Result<(), TableFault>) -> Result<(), Memory>
+    ensures { OnOk result (fed ≢ Err out_of_memory) }
+{
+    match fed {
+        Ok(()) => Ok(()),
+        Err(
+            TableFault {
+                kind: TableFaultKind::Memory,
+                ..
+            },
+        ) => Err(Memory),
+        Err(_) => Ok(()),
+    }
+}
+
+impl PieceReader for VifReader {
+    ghost use Rattle.std.specs.FinMap.{FinMap};
+    ghost use Rattle.std.specs.Ordering.{nat_cmp};
+    ghost use Rattle.mc_tables.specs.VifTable.{VifText};
+    ghost use Rattle.mc_tables.specs.VifsSoFar.{vifs_if};
+    ghost use Rattle.mc_tables.specs.declared.fault.TableFault.{TableFault as FaultOfTable};
+
+    ghost End = { Result (FinMap nat_cmp VifText) FaultOfTable };
+
+    ghost ends = { vifs_if };
+
+    // after a fault none
+    ghost size = { λ s. if is_some s.fault then 0 else s.lines.size };
+
+    fn take(&mut self, piece: &[u8]) -> Result<(), Memory> {
+        want_of_memory(self.feed(piece))
+    }
+}
+
+impl PieceReader for CacheReader {
+    ghost use Rattle.mc_tables.specs.CacheTable.{CacheText};
+    ghost use Rattle.mc_tables.specs.RowsSoFar.{cache_if};
+    ghost use Rattle.mc_tables.specs.declared.fault.TableFault.{TableFault as FaultOfTable};
+
+    ghost End = { Result CacheText FaultOfTable };
+
+    ghost ends = { cache_if };
+
+    // after a fault none
+    ghost size = { λ s. if is_some s.fault then 0 else s.lines.size };
+
+    fn take(&mut self, piece: &[u8]) -> Result<(), Memory> {
+        want_of_memory(self.feed(piece))
+    }
+}
+
+impl PieceReader for ListReader {
+    ghost use Rattle.mc_igmp.specs.ListSoFar.{list_if};
+    ghost use Rattle.mc_igmp.specs.declared.fault.ListFault.{ListFault};
+    ghost use Rattle.mc_igmp.specs.declared.record.Record.{Record};
+
+    ghost End = { Result (List Record) ListFault };
+
+    ghost ends = { list_if };
+
+    ghost size = { λ s. s.size };
+
+    fn take(&mut self, piece: &[u8]) -> Result<(), Memory> {
+        self.feed(piece)
+    }
+}

@@ -1,8 +1,7 @@
 -- What a reader ends with whose file comes in pieces.
-use Rattle.std.specs.Prelude.{◌≡◌, ℕ, ◌≤◌, ◌<◌, List, [], length, Option, Some, None}
+use Rattle.std.specs.Prelude.{◌≡◌, ℕ, ◌≤◌, ◌<◌, List, length, Option, Some, None}
 use Rattle.std.specs.Prelude.{Result, Ok, Err, OnOk, IfErr, IfSome, refl}
-use Rattle.std.specs.Io.KnownBytes.{IsAtEnd}
-use Rattle.std.proofs.Common.{◌∙◌, sym, subst}
+use Rattle.std.proofs.Common.{subst}
 use Rattle.std.proofs.lemmas.Bool.{le-leb, lt-leb}
 use Rattle.mc_text.specs.Bundle.{max_part}
 use Rattle.mc_text.specs.Lines.{max_text}
@@ -11,14 +10,6 @@ use Rattle.mc_layout.specs.FilePart.{IsOfSource, part_bytes}
 use Rattle.mc_layout.specs.Files.{FileText, file_named}
 use Rattle.mc_layout.specs.declared.fault.FileFault.{FileFault}
 use Rattle.mc_layout.specs.declared.fault.FileFault.TheVariants.{Failed, Memory, TooLarge}
-
--- at the end nothing is left
-pub nothing_left : (new : Option (List ℕ)) (rest : List ℕ) → IsAtEnd new → new ≡ Some rest
-    → rest ≡ []
-nothing_left None rest is e = absurd cc
-nothing_left (Some ys) rest is e = let same : ys ≡ rest = cc in sym same ∙ is
-
--- ---- a file that was fed
 
 -- a file that was opened is there, and all of its bytes are to come
 pub found_there : (name : List ℕ) (told : List FileText) (left : Option (List ℕ))

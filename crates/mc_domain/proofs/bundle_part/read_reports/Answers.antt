@@ -1,29 +1,17 @@
-use Rattle.std.proofs.Common.{◌≡◌, ◌+◌, ap, cond, subst, sym, ◌∙◌}
-use Rattle.std.proofs.lemmas.Result.{err_from_is_err_and}
-use Rattle.mc_text.specs.PartsReading.{is_read as is_failed}
+use Rattle.std.proofs.Common.{◌≡◌, subst, sym, ◌∙◌}
 use Rattle.mc_text.specs.Steps.{refused_as}
 use Rattle.mc_text.proofs.ToComeLemmas.{goes_both}
 use Rattle.mc_igmp.specs.ReadingList.{read_list}
 use Rattle.mc_forward.specs.Assembling.{AreChannelsWanted}
 use Rattle.mc_domain.specs.PartsInTurn.{IsToldOf}
 use Rattle.mc_domain.specs.declared.fault.InputFault.TheVariants.{Reports as RefusedReports}
-use Rattle.mc_domain.proofs.TakenLemmas.{one_name, same_read}
+use Rattle.mc_domain.proofs.TakenLemmas.{one_name}
 use Rattle.mc_domain.proofs.bundle_part.read_reports.Goals as goal
 
 pub returns-in_err-feed_part-clause-goes_on : goal.returns-in_err-feed_part-clause-goes_on
 returns-in_err-feed_part-clause-goes_on g c =
     goes_both c.args.parts.now c.open_slot.new.parts c.feed_part.new.parts
     c.in_ok-open_slot.ensures.goes_on c.in_err-feed_part.ensures.goes_on
-
-pub returns-in_err-feed_part-clause-failures : goal.returns-in_err-feed_part-clause-failures
-returns-in_err-feed_part-clause-failures g c =
-    let p = err_from_is_err_and c.from_residual-in_err-feed_part.result
-    c.from_residual-in_err-feed_part.ensures.1 in
-    let fault = c.in_err-feed_part.field-0.0 in
-    let before = c.args.parts.now.failed in
-    rw (p.1, p.2) (c.in_err-feed_part.ensures.failures
-    ∙ ap (λ n. cond (is_failed fault) (n + 1) n) c.in_ok-open_slot.ensures.failures
-    ∙ ap (λ b. cond b (before + 1) before) (same_read fault))
 
 pub returns-clause-told : goal.returns-clause-told
 returns-clause-told g c = λ text told.

@@ -22,7 +22,7 @@ ghost use Rattle.mc_domain.specs.declared.fault.InputFault.TheVariants.{Cache as
 ghost use Rattle.mc_domain.specs.declared.source_fault.SourceFault.TheVariants.{Input as refused};
 
 use crate::fault::InputFault;
-use crate::fed_part::feed_part;
+use crate::fed_part::feed_slot;
 use crate::slot_part::{open_named, open_slot, read_on, read_to_end};
 use crate::source_fault::SourceFault;
 use crate::told::{cache_told, topology_of, vifs_told, wanted_told};
@@ -87,10 +87,9 @@ fn read_vifs<R: Input>(
     ensures goes_on { GoesOn parts.old parts.new }
     ensures failures { parts.new.failed ≡ counted is_read result parts.old.failed }
 {
-    open_slot(parts, topology, certified, number)?;
     let mut reader = VifReader::new(alloc);
-    feed_part(parts, buffer, &mut reader)?;
-    Ok(vifs_told(parts.name(), reader.finish()))
+    let name = feed_slot(parts, buffer, topology, certified, number, &mut reader)?;
+    Ok(vifs_told(name, reader.finish()))
 }
 
 /// The vifs of a router, in the part of the slot with a number.
@@ -140,10 +139,9 @@ fn read_cache<R: Input>(
     ensures goes_on { GoesOn parts.old parts.new }
     ensures failures { parts.new.failed ≡ counted is_read result parts.old.failed }
 {
-    open_slot(parts, topology, certified, number)?;
     let mut reader = reader;
-    feed_part(parts, buffer, &mut reader)?;
-    Ok(cache_told(parts.name(), reader.finish()))
+    let name = feed_slot(parts, buffer, topology, certified, number, &mut reader)?;
+    Ok(cache_told(name, reader.finish()))
 }
 
 /// The forwarding cache of a router, in the part of the slot with a number, of which this reader
@@ -197,10 +195,9 @@ fn read_reports<R: Input>(
     ensures goes_on { GoesOn parts.old parts.new }
     ensures failures { parts.new.failed ≡ counted is_read result parts.old.failed }
 {
-    open_slot(parts, topology, certified, number)?;
     let mut reader = ListReader::new(alloc);
-    feed_part(parts, buffer, &mut reader)?;
-    Ok(wanted_told(alloc, channels, parts.name(), reader.finish()))
+    let name = feed_slot(parts, buffer, topology, certified, number, &mut reader)?;
+    Ok(wanted_told(alloc, channels, name, reader.finish()))
 }
 
 /// Which of these channels a LAN wants, by its reports in the part of the slot with a number.

@@ -1,19 +1,24 @@
 //! The parts of a bundle that are fed to their readers as they come.
 
 ghost use Rattle.std.specs.Prelude.{◌≡◌, ◌≢◌, ◌<◌, ◌≤◌, ℕ, List, [], ◌∷◌, Some, Err};
-ghost use Rattle.std.specs.Prelude.{IfErr, OnOk, length};
+ghost use Rattle.std.specs.Prelude.{IfErr, IfOk, OnOk, drop, length};
 ghost use Rattle.mc_text.specs.Bundle.{PartText};
 ghost use Rattle.mc_text.specs.Device.{counted};
 ghost use Rattle.mc_text.specs.Lines.{max_text};
 ghost use Rattle.mc_text.specs.PartsReading.{before, is_read as is_failed, parts_if};
-ghost use Rattle.mc_text.specs.PartsToCome.{GoesOn, others_if};
-ghost use Rattle.mc_domain.specs.PartsInTurn.{IsOpened};
+ghost use Rattle.mc_text.specs.PartsToCome.{GoesOn, Passes, others_if};
+ghost use Rattle.mc_layout.specs.Layout.{slots};
+ghost use Rattle.mc_domain.specs.PartsInTurn.{IsAt, IsOpened, Refuses, names_from};
+ghost use Rattle.mc_domain.specs.SourceFault.{is_read};
 
 use crate::piece_reader::PieceReader;
-use mc_text::{BundleFault, Input, Parts};
+use crate::slot_part::open_slot;
+use crate::source_fault::SourceFault;
+use mc_text::{BundleFault, Input, PartName, Parts};
+use mc_topology::Topology;
 
 /// Feeds the present part to a reader, piece by piece through the buffer, up to the part's end.
-pub(crate) fn feed_part<R: Input, P: PieceReader>(
+fn feed_part<R: Input, P: PieceReader>(
     parts: &mut Parts<R>,
     buffer: &mut [u8],
     reader: &mut P,
@@ -46,4 +51,33 @@ pub(crate) fn feed_part<R: Input, P: PieceReader>(
             return Err(BundleFault::Memory);
         }
     }
+}
+
+/// Feeds the part of the slot with a number, which has to come next, to a reader. It answers the
+/// part's name.
+pub(crate) fn feed_slot<R: Input, P: PieceReader>(
+    parts: &mut Parts<R>,
+    buffer: &mut [u8],
+    topology: &Topology,
+    certified: bool,
+    number: u32,
+    reader: &mut P,
+) -> Result<PartName, SourceFault>
+    requires within { number < length (slots certified topology.now) }
+    requires few { number < u32.MAX }
+    requires room { 0 < length buffer.old }
+    requires start { P.size reader.old ≡ 0 }
+    requires failures { parts.old.failed < u64.MAX }
+    ensures part { IfOk result (λ name. Passes parts.old parts.new (λ part.
+        IsAt certified topology.now number part.name × (part.name ≡ name)
+        × (length part.bytes ≤ max_text)
+        × (P.ends reader.old part.bytes ≡ P.ends reader.new []))) }
+    ensures fault { IfErr result (Refuses parts.old
+        (names_from number (drop number (slots certified topology.now)))) }
+    ensures goes_on { GoesOn parts.old parts.new }
+    ensures failures { parts.new.failed ≡ counted is_read result parts.old.failed }
+{
+    open_slot(parts, topology, certified, number)?;
+    feed_part(parts, buffer, reader)?;
+    Ok(parts.name())
 }

@@ -9,24 +9,7 @@ use Rattle.hex.specs.Hex.{hex_digit_value, is_hex_digit, digit_or_error, pair_va
 use Rattle.hex.proofs.HexLemmas.{decode_pairs-ok}
 use Rattle.hex.proofs.Pairs.{prepend, decode_step}
 use Rattle.mc_text.specs.AddressWord.{value_or_16}
-
--- ---- one pair
-
--- a digit with a value below 16 reads as that
-value_read : (c i : ℕ) (o : Option ℕ) → unwrap_or o 16 < 16
-    → digit_or_error c i o ≡ Ok (unwrap_or o 16)
-value_read c i (Some v) h = refl
-value_read c i None h = absurd (omega arith)
-
-pub pair_read : (a b i byte : ℕ) → value_or_16 a < 16 → value_or_16 b < 16
-    → byte ≡ value_or_16 a * 16 + value_or_16 b → pair_value a b i ≡ Ok byte
-pair_read a b i byte high low is =
-    rw (value_read a i (hex_digit_value a) high, value_read b (i + 1) (hex_digit_value b) low, is)
-    refl
-
--- a byte with the value 16 is no digit
-pub no_digit : (c : ℕ) → 16 ≤ value_or_16 c → is_hex_digit c ≡ false
-no_digit c h = grind arith
+use Rattle.mc_text.proofs.DigitLaneLemmas.{pair_read, no_digit}
 
 -- what has a byte that is no digit doesn't decode
 not_decoded : (s : List ℕ) (k : ℕ) → k < length s → 16 ≤ value_or_16 (get_or s k 0)

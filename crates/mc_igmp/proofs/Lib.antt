@@ -2,7 +2,7 @@ pub mod AddressLemmas
 pub mod RecordsLemmas
 pub mod ChecksumLemmas
 pub mod DigitLemmas
-pub mod DigitLaneLemmas
+pub mod WrittenLemmas
 pub mod MessageLemmas
 pub mod ListLemmas
 pub mod PieceLemmas

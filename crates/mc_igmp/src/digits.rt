@@ -5,9 +5,9 @@ ghost use Rattle.std.specs.Prelude.{map, take, true, false, Ok};
 ghost use Rattle.std.specs.List.{list_all};
 ghost use Rattle.hex.specs.Hex.{decode_of, is_hex_digit};
 ghost use Rattle.mc_text.specs.AddressWord.{value_or_16};
-ghost use Rattle.mc_igmp.specs.DigitPairs.{AreWritten, pairs_of};
+ghost use Rattle.mc_igmp.specs.WrittenBytes.{AreWritten};
 
-use mc_text::hex_digit;
+use mc_text::{are_hex_digits, bytes_of_hex_digits, hex_digit};
 use std::simd::prelude::*;
 
 /// How many bytes are written together, of twice as many digits.
@@ -28,39 +28,6 @@ fn both(front: u8x16, back: u8x16) -> u8x32
             24, 25, 26, 27, 28, 29, 30, 31,
         ],
     )
-}
-
-/// Whether all bytes are digits.
-#[inline(always)]
-fn are_digits(text: u8x32) -> bool
-    ensures { result ≡ list_all is_hex_digit text }
-{
-    let decimal = (text - u8x32::splat(b'0')).simd_lt(u8x32::splat(10));
-    let small = text | u8x32::splat(0x20);
-    let letter = (small - u8x32::splat(b'a')).simd_lt(u8x32::splat(6));
-    (decimal | letter).all()
-}
-
-/// The values of digits: how far a decimal digit is from `0`, and a letter, as a small one, from the
-/// tenth code before `a`. Of the two the right one is the smaller.
-#[inline(always)]
-fn values_of(text: u8x32) -> u8x32
-    ensures { list_all is_hex_digit text ≡ true → result ≡ map value_or_16 text }
-{
-    let decimal = text - u8x32::splat(b'0');
-    let small = text | u8x32::splat(0x20);
-    decimal.simd_min(small - u8x32::splat(b'a' - 10))
-}
-
-/// The bytes of pairs of digits.
-#[inline(always)]
-fn bytes_of(text: u8x32) -> u8x16
-    ensures { list_all is_hex_digit text ≡ true → result ≡ pairs_of text }
-{
-    let values = values_of(text);
-    let high = values.swizzle([0, 2, 4, 6, 8, 10, 12, 14, 16, 18, 20, 22, 24, 26, 28, 30]);
-    let low = values.swizzle([1, 3, 5, 7, 9, 11, 13, 15, 17, 19, 21, 23, 25, 27, 29, 31]);
-    (high << u8x16::splat(4)) + low
 }
 
 /// The byte of two digits with these values.
@@ -97,10 +64,10 @@ fn write_piece(digits: &[u8], bytes: &mut [u8], at: usize) -> bool
     ensures only { result ≡ false → (out : List ℕ) → decode_of digits.now ≢ Ok out }
 {
     let text = u8x32::from_slice(&digits[2 * at..]);
-    if !are_digits(text) {
+    if !are_hex_digits(text) {
         return false;
     }
-    bytes_of(text).copy_to_slice(&mut bytes[at..]);
+    bytes_of_hex_digits(text).copy_to_slice(&mut bytes[at..]);
     true
 }
 
@@ -118,10 +85,10 @@ fn write_short(digits: &[u8], bytes: &mut [u8]) -> bool
         u8x16::from_slice(digits),
         u8x16::from_slice(&digits[2 * last..]),
     );
-    if !are_digits(text) {
+    if !are_hex_digits(text) {
         return false;
     }
-    let written = bytes_of(text);
+    let written = bytes_of_hex_digits(text);
     written.extract::<0, 8>().copy_to_slice(bytes);
     written.extract::<8, 8>().copy_to_slice(&mut bytes[last..]);
     true

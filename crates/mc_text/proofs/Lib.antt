@@ -5,6 +5,7 @@ pub mod AddrLemmas
 pub mod IndexLemmas
 pub mod PairLemmas
 pub mod AddressDigitLemmas
+pub mod DigitLaneLemmas
 pub mod AddressReading
 pub mod AddressTests
 pub mod NumberReading

@@ -5,6 +5,7 @@ pub mod Bundle
 pub mod BundleReading
 pub mod Device
 pub mod DeviceName
+pub mod DigitPairs
 pub mod Index
 pub mod Lines
 pub mod LineView

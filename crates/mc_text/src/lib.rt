@@ -30,5 +30,6 @@ pub use laws::{
 pub use memory::Memory;
 pub use pair::{pair_number, pair_numbers};
 pub use text::{
-    Addr, Line, Lines, MAX_TEXT, Order, Words, decimal, first_place_of, hex_digit, is_device_name,
+    Addr, Line, Lines, MAX_TEXT, Order, Words, are_hex_digits, bytes_of_hex_digits, decimal,
+    first_place_of, hex_digit, is_device_name,
 };

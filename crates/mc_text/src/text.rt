@@ -4,6 +4,7 @@
 mod addr;
 mod address_digits;
 mod device_name;
+mod digit_lanes;
 mod first_place;
 mod lines;
 mod number;
@@ -12,6 +13,7 @@ mod words;
 pub use addr::{Addr, Order};
 pub use address_digits::hex_digit;
 pub use device_name::is_device_name;
+pub use digit_lanes::{are_hex_digits, bytes_of_hex_digits};
 pub use first_place::first_place_of;
 pub use lines::{Line, Lines, MAX_TEXT};
 pub use number::decimal;

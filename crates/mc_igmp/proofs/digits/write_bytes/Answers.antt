@@ -1,5 +1,5 @@
 use Rattle.std.proofs.Common.{◌+◌, ◌-◌, length, arith}
-use Rattle.mc_igmp.proofs.DigitLaneLemmas.{written_less, written_whole}
+use Rattle.mc_igmp.proofs.WrittenLemmas.{written_less, written_whole}
 use Rattle.mc_igmp.proofs.digits.write_bytes.Goals as goal
 
 pub returns-clause-found : goal.returns-clause-found

@@ -1,14 +1,14 @@
 use Rattle.std.proofs.Common.{◌*◌, sym, ◌∙◌}
-use Rattle.mc_igmp.proofs.DigitLaneLemmas.{piece_refused, written_more}
+use Rattle.mc_igmp.proofs.WrittenLemmas.{piece_refused, written_more}
 use Rattle.mc_igmp.proofs.digits.write_piece.Goals as goal
 
-pub returns-then-not-are_digits-clause-only : goal.returns-then-not-are_digits-clause-only
-returns-then-not-are_digits-clause-only c refused =
+pub returns-then-not-are_hex_digits-clause-only : goal.returns-then-not-are_hex_digits-clause-only
+returns-then-not-are_hex_digits-clause-only c refused =
     piece_refused c.args.digits.now (2 * c.args.at) 32
-    (sym c.are_digits.ensures ∙ c.if-not-are_digits.true)
+    (sym c.are_hex_digits.ensures ∙ c.if-not-are_hex_digits.true)
 
 pub returns-clause-found : goal.returns-clause-found
 returns-clause-found c taken written =
-    let digits = sym c.are_digits.ensures ∙ c.if-not-are_digits.false in
-    written_more 16 c.args.digits.now c.args.bytes.now c.bytes_of.result c.args.at c.requires.digits
-    c.requires.room digits (c.bytes_of.ensures digits) written
+    let digits = sym c.are_hex_digits.ensures ∙ c.if-not-are_hex_digits.false in
+    written_more 16 c.args.digits.now c.args.bytes.now c.bytes_of_hex_digits.result c.args.at c.requires.digits
+    c.requires.room digits (c.bytes_of_hex_digits.ensures digits) written

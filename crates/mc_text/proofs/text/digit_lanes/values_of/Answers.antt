@@ -1,7 +1,7 @@
 use Rattle.std.proofs.Common.{bit_or, ◌∙◌}
 use Rattle.std.proofs.lemmas.Simd.{zip2_splat}
-use Rattle.mc_igmp.proofs.DigitLaneLemmas.{with_splat, less, smaller, values_are}
-use Rattle.mc_igmp.proofs.digits.values_of.Goals as goal
+use Rattle.mc_text.proofs.DigitLaneLemmas.{with_splat, less, smaller, values_are}
+use Rattle.mc_text.proofs.text.digit_lanes.values_of.Goals as goal
 
 pub returns : goal.returns
 returns c digits =

@@ -1,7 +1,7 @@
 use Rattle.std.proofs.Common.{bit_or}
 use Rattle.std.proofs.lemmas.Simd.{zip2_splat, zip2_of_maps}
-use Rattle.mc_igmp.proofs.DigitLaneLemmas.{with_splat, below, less, all_digits}
-use Rattle.mc_igmp.proofs.digits.are_digits.Goals as goal
+use Rattle.mc_text.proofs.DigitLaneLemmas.{with_splat, below, less, all_digits}
+use Rattle.mc_text.proofs.text.digit_lanes.are_hex_digits.Goals as goal
 
 pub returns : goal.returns
 returns c =

@@ -1,5 +1,5 @@
-use Rattle.mc_igmp.proofs.DigitLaneLemmas.{bytes_are}
-use Rattle.mc_igmp.proofs.digits.bytes_of.Goals as goal
+use Rattle.mc_text.proofs.DigitLaneLemmas.{bytes_are}
+use Rattle.mc_text.proofs.text.digit_lanes.bytes_of_hex_digits.Goals as goal
 
 pub returns : goal.returns
 returns c digits =

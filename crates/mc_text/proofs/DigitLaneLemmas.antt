@@ -1,25 +1,38 @@
 -- Hexadecimal digits, thirty-two at a time.
-use Rattle.std.proofs.Common.{◌≡◌, ◌≢◌, ℕ, zero, suc, ◌+◌, ◌-◌, ◌*◌, ◌%◌, ◌^◌, ◌<◌, ◌≤◌, Bool, true}
+use Rattle.std.proofs.Common.{◌≡◌, ℕ, zero, suc, ◌+◌, ◌-◌, ◌*◌, ◌%◌, ◌^◌, ◌<◌, ◌≤◌, Bool, true}
 use Rattle.std.proofs.Common.{false, not, cond, ltb, eqb, List, [], ◌∷◌, ◌++◌, map, length, take}
-use Rattle.std.proofs.Common.{drop, replicate, bit_or, refl, sym, ap, ap₂, ◌∙◌, subst, arith, w8, Fits, inl, inr, Ok}
+use Rattle.std.proofs.Common.{drop, replicate, bit_or, refl, sym, ap, ap₂, ◌∙◌, arith, w8, Fits, inl, inr, Ok}
+use Rattle.std.proofs.Common.{Option, Some, None, unwrap_or}
 use Rattle.std.specs.Prelude.{◌||◌, ◌&&◌}
 use Rattle.std.specs.List.{list_all}
-use Rattle.std.specs.Simd.Lanes.{Each1, zip2, mask_l, top, sel_l, pick_l, chunk, put_chunk}
+use Rattle.std.specs.Simd.Lanes.{Each1, zip2, mask_l, top, sel_l, pick_l}
 use Rattle.std.proofs.lemmas.Bool.{agree_below_at, and_parts, cases_lt, eqb-true}
 use Rattle.std.proofs.lemmas.Bool.Decides.{nat_tests}
-use Rattle.std.proofs.lemmas.List.{length-map, length-append, length-take-le, take_all, take_at, drop_at}
-use Rattle.std.proofs.lemmas.List.{take-take, append_assoc}
-use Rattle.std.specs.List.{range_with_len}
-use Rattle.std.proofs.lemmas.List.Sums.{list_all-from_AllPass}
-use Rattle.std.proofs.Math.Seq.{take-add}
-use Rattle.std.proofs.lemmas.Simd.{zip2_splat, map-map, mask_l-mod, length-chunk, take_more_put_chunk}
-use Rattle.std.proofs.lemmas.Simd.{length-put_chunk, pick_l-range_with_len}
-use Rattle.hex.specs.Hex.{is_hex_digit, decode_pairs, decode_of}
-use Rattle.hex.proofs.HexLemmas.{decode_of-even, decode_of-ok}
+use Rattle.std.proofs.lemmas.List.{length-map}
+use Rattle.std.proofs.lemmas.Simd.{zip2_splat, map-map, mask_l-mod}
+use Rattle.hex.specs.Hex.{hex_digit_value, is_hex_digit, digit_or_error, pair_value, decode_pairs, decode_of}
+use Rattle.hex.proofs.HexLemmas.{decode_of-even}
 use Rattle.hex.proofs.Pairs.{cons_byte, decode_pairs-ok_pair}
 use Rattle.mc_text.specs.AddressWord.{value_or_16}
-use Rattle.mc_igmp.specs.DigitPairs.{byte_of_pair, pairs_of, AreWritten}
-use Rattle.mc_igmp.proofs.DigitLemmas.{pair_read, no_digit}
+use Rattle.mc_text.specs.DigitPairs.{byte_of_pair, pairs_of}
+
+-- ---- one pair
+
+-- a digit with a value below 16 reads as that
+value_read : (c i : ℕ) (o : Option ℕ) → unwrap_or o 16 < 16
+    → digit_or_error c i o ≡ Ok (unwrap_or o 16)
+value_read c i (Some v) h = refl
+value_read c i None h = absurd (omega arith)
+
+pub pair_read : (a b i byte : ℕ) → value_or_16 a < 16 → value_or_16 b < 16
+    → byte ≡ value_or_16 a * 16 + value_or_16 b → pair_value a b i ≡ Ok byte
+pair_read a b i byte high low is =
+    rw (value_read a i (hex_digit_value a) high, value_read b (i + 1) (hex_digit_value b) low, is)
+    refl
+
+-- a byte with the value 16 is no digit
+pub no_digit : (c : ℕ) → 16 ≤ value_or_16 c → is_hex_digit c ≡ false
+no_digit c h = grind arith
 
 -- ---- what a lane becomes
 
@@ -162,10 +175,10 @@ bytes_are v values long digits is =
     picked values (ap length is ∙ length-map v value_or_16 ∙ long)
     ∙ ap pair_lanes is ∙ pairs_are v digits
 
--- ---- the bytes that are written
+-- ---- the bytes of pairs
 
 -- digits decode to the bytes of their pairs
-pairs_decoded : (i n : ℕ) (s : List ℕ) → length s ≡ 2 * n → list_all is_hex_digit s ≡ true
+pub pairs_decoded : (i n : ℕ) (s : List ℕ) → length s ≡ 2 * n → list_all is_hex_digit s ≡ true
     → decode_pairs i s ≡ Ok (pairs_of s)
 unfolding decode_pairs
 pairs_decoded i n [] even digits = refl
@@ -182,7 +195,7 @@ two_more : (n : ℕ) → suc (suc (2 * n)) ≡ 2 * suc n
 two_more n = omega arith
 
 -- of the first pairs only
-pairs_front : (n : ℕ) (s : List ℕ) → take n (pairs_of s) ≡ pairs_of (take (2 * n) s)
+pub pairs_front : (n : ℕ) (s : List ℕ) → take n (pairs_of s) ≡ pairs_of (take (2 * n) s)
 pairs_front zero s = refl
 pairs_front (suc n) [] = ap (λ k. pairs_of (take k [])) (two_more n)
 pairs_front (suc n) (a ∷ []) = ap (λ k. pairs_of (take k (a ∷ []))) (two_more n)
@@ -191,14 +204,14 @@ pairs_front (suc n) (a ∷ b ∷ s) =
     ∙ ap (λ k. pairs_of (take k (a ∷ b ∷ s))) (two_more n)
 
 -- of pairs one after another
-pairs_both : (n : ℕ) (s t : List ℕ) → length s ≡ 2 * n → pairs_of (s ++ t) ≡ pairs_of s ++ pairs_of t
+pub pairs_both : (n : ℕ) (s t : List ℕ) → length s ≡ 2 * n → pairs_of (s ++ t) ≡ pairs_of s ++ pairs_of t
 pairs_both n [] t even = refl
 pairs_both n (a ∷ []) t even = absurd (omega arith)
 pairs_both zero (a ∷ b ∷ s) t even = absurd (omega arith)
 pairs_both (suc n) (a ∷ b ∷ s) t even =
     ap (λ l. byte_of_pair a b ∷ l) (pairs_both n s t (omega arith))
 
-pairs_length : (n : ℕ) (s : List ℕ) → length s ≡ 2 * n → length (pairs_of s) ≡ n
+pub pairs_length : (n : ℕ) (s : List ℕ) → length s ≡ 2 * n → length (pairs_of s) ≡ n
 pairs_length zero [] even = refl
 pairs_length (suc n) [] even = absurd (omega arith)
 pairs_length n (a ∷ []) even = absurd (omega arith)
@@ -206,131 +219,26 @@ pairs_length zero (a ∷ b ∷ s) even = absurd (omega arith)
 pairs_length (suc n) (a ∷ b ∷ s) even = ap suc (pairs_length n s (omega arith))
 
 -- what passes whole passes in front, and two parts that pass do together
-all_front : (passes : ℕ → Bool) (n : ℕ) (s : List ℕ) → list_all passes s ≡ true
+pub all_front : (passes : ℕ → Bool) (n : ℕ) (s : List ℕ) → list_all passes s ≡ true
     → list_all passes (take n s) ≡ true
 all_front passes zero s all = refl
 all_front passes (suc n) [] all = refl
 all_front passes (suc n) (b ∷ s) all =
     let p = and_parts (passes b) _ all in rw p.0 (all_front passes n s p.1)
 
-all_both : (passes : ℕ → Bool) (s t : List ℕ) → list_all passes s ≡ true → list_all passes t ≡ true
+pub all_both : (passes : ℕ → Bool) (s t : List ℕ) → list_all passes s ≡ true → list_all passes t ≡ true
     → list_all passes (s ++ t) ≡ true
 all_both passes [] t first second = second
 all_both passes (b ∷ s) t first second =
     let p = and_parts (passes b) _ first in rw p.0 (all_both passes s t p.1 second)
 
-all_back : (passes : ℕ → Bool) (n : ℕ) (s : List ℕ) → list_all passes s ≡ true
+pub all_back : (passes : ℕ → Bool) (n : ℕ) (s : List ℕ) → list_all passes s ≡ true
     → list_all passes (drop n s) ≡ true
 all_back passes zero s all = all
 all_back passes (suc n) [] all = refl
 all_back passes (suc n) (b ∷ s) all = all_back passes n s (and_parts (passes b) _ all).1
 
--- fewer bytes are written where more are
-pub written_less : (digits bytes : List ℕ) (m k : ℕ) → m ≤ k → AreWritten digits bytes k
-    → AreWritten digits bytes m
-written_less digits bytes m k few written =
-    let digits_front : take (2 * m) (take (2 * k) digits) ≡ take (2 * m) digits =
-    take-take (2 * m) (2 * k) digits (omega arith) in (
-      subst (λ s. list_all is_hex_digit s ≡ true) digits_front
-          (all_front is_hex_digit (2 * m) (take (2 * k) digits) written.0),
-      sym (take-take m k bytes few) ∙ ap (take m) written.1
-          ∙ pairs_front m (take (2 * k) digits) ∙ ap pairs_of digits_front,
-    )
-
--- a piece of n bytes more is written
-pub written_more : (n : ℕ) (digits bytes piece : List ℕ) (at : ℕ) → 2 * (at + n) ≤ length digits
-    → at + n ≤ length bytes → list_all is_hex_digit (chunk (2 * at) (2 * n) digits) ≡ true
-    → piece ≡ pairs_of (chunk (2 * at) (2 * n) digits) → AreWritten digits bytes at
-    → AreWritten digits (put_chunk at bytes piece) (at + n)
-written_more n digits bytes piece at fits room all is written =
-    let text = chunk (2 * at) (2 * n) digits in
-    let size : length piece ≡ n =
-    ap length is ∙ pairs_length n text (length-chunk (2 * at) (2 * n) digits (omega arith)) in
-    let more : 2 * (at + n) ≡ 2 * at + 2 * n = omega arith in
-    let front : take (2 * (at + n)) digits ≡ take (2 * at) digits ++ text =
-    ap (λ k. take k digits) more ∙ take-add (2 * at) (2 * n) digits in
-    let even = length-take-le (2 * at) digits (omega arith) in (
-      subst (λ s. list_all is_hex_digit s ≡ true) (sym front)
-          (all_both is_hex_digit (take (2 * at) digits) text written.0 all),
-      take_more_put_chunk at bytes piece (at + n) (omega (arith, size)) (omega arith)
-          ∙ ap₂ (λ a b. a ++ b) written.1 is
-          ∙ sym (pairs_both at (take (2 * at) digits) text even) ∙ ap pairs_of (sym front),
-    )
-
--- all bytes are written
-pub written_whole : (digits bytes : List ℕ) (count : ℕ) → count ≡ length bytes
-    → length digits ≡ 2 * length bytes → AreWritten digits bytes count → decode_of digits ≡ Ok bytes
-written_whole digits bytes count is twice written =
-    let whole : take (2 * count) digits ≡ digits = take_all (2 * count) digits (omega arith) in
-    decode_of-even digits (omega arith)
-    ∙ pairs_decoded 0 (length bytes) digits twice
-    (subst (λ s. list_all is_hex_digit s ≡ true) whole written.0)
-    ∙ ap Ok (ap pairs_of (sym whole) ∙ sym written.1 ∙ take_all count bytes (omega arith))
-
--- where a piece has another byte than digits, nothing is decoded
-pub piece_refused : (digits : List ℕ) (i n : ℕ) → list_all is_hex_digit (chunk i n digits) ≡ false
-    → (out : List ℕ) → decode_of digits ≢ Ok out
-piece_refused digits i n other out e =
-    let all = list_all-from_AllPass is_hex_digit digits (decode_of-ok digits out e).1 in
-    cc (sym other ∙ all_front is_hex_digit n (drop i digits) (all_back is_hex_digit i digits all))
-
--- ---- few digits, the first sixteen and the last
-
--- the halves of the bytes of two parts
-halves : (a b w : List ℕ) → length a ≡ 16 → length b ≡ 16 → w ≡ pairs_of (a ++ b)
-    → (pick_l 0 (w ++ w) (range_with_len 0 8) ≡ pairs_of a)
-    × (pick_l 0 (w ++ w) (range_with_len 8 8) ≡ pairs_of b)
-halves a b w size_a size_b is =
-    let p = pairs_of a in
-    let q = pairs_of b in
-    let parts : w ≡ p ++ q = is ∙ pairs_both 8 a b size_a in
-    let size_p = pairs_length 8 a size_a in
-    let size_q = pairs_length 8 b size_b in
-    let size : length (w ++ w) ≡ 32 =
-    omega (arith, length-append w w, ap length parts, length-append p q, size_p, size_q) in
-    let joined : w ++ w ≡ p ++ (q ++ w) = ap (λ l. l ++ w) parts ∙ append_assoc p q w in (
-      pick_l-range_with_len 0 (w ++ w) 0 8 (omega (arith, size))
-          ∙ ap (take 8) joined ∙ take_at p (q ++ w) 8 size_p,
-      pick_l-range_with_len 0 (w ++ w) 8 8 (omega (arith, size))
-          ∙ ap (λ l. take 8 (drop 8 l)) joined ∙ ap (take 8) (drop_at p (q ++ w) 8 size_p)
-          ∙ take_at q w 8 size_q,
-    )
-
-pub short_written : (digits bytes text w : List ℕ) → length digits ≡ 2 * length bytes
-    → 8 ≤ length bytes → length bytes < 16
-    → text ≡ chunk 0 16 digits ++ chunk (2 * (length bytes - 8)) 16 digits
-    → list_all is_hex_digit text ≡ true → w ≡ pairs_of text
-    → decode_of digits ≡ Ok (put_chunk (length bytes - 8)
-    (put_chunk 0 bytes (pick_l 0 (w ++ w) (range_with_len 0 8)))
-    (pick_l 0 (w ++ w) (range_with_len 8 8)))
-short_written digits bytes text w twice some few parts all is =
-    let last = length bytes - 8 in
-    let a = chunk 0 16 digits in
-    let b = chunk (2 * last) 16 digits in
-    let size_a : length a ≡ 16 = length-chunk 0 16 digits (omega arith) in
-    let size_b : length b ≡ 16 = length-chunk (2 * last) 16 digits (omega arith) in
-    let whole : list_all is_hex_digit (a ++ b) ≡ true =
-    subst (λ s. list_all is_hex_digit s ≡ true) parts all in
-    let all_a = subst (λ s. list_all is_hex_digit s ≡ true) (take_at a b 16 size_a)
-    (all_front is_hex_digit 16 (a ++ b) whole) in
-    let all_b = subst (λ s. list_all is_hex_digit s ≡ true) (drop_at a b 16 size_a)
-    (all_back is_hex_digit 16 (a ++ b) whole) in
-    let half = halves a b w size_a size_b (is ∙ ap pairs_of parts) in
-    let first = put_chunk 0 bytes (pick_l 0 (w ++ w) (range_with_len 0 8)) in
-    let second = put_chunk last first (pick_l 0 (w ++ w) (range_with_len 8 8)) in
-    let same : length first ≡ length bytes = length-put_chunk 0 bytes _ in
-    let still : length second ≡ length bytes = length-put_chunk last first _ ∙ same in
-    let front = written_more 8 digits bytes _ 0 (omega arith) (omega arith) all_a half.0 (refl, refl) in
-    let before = written_less digits first last 8 (omega arith) front in
-    let written = written_more 8 digits first _ last (omega arith) (omega (arith, same)) all_b half.1
-    before in
-    written_whole digits second (last + 8) (omega (arith, still)) (omega (arith, still)) written
-
-pub short_refused : (digits text : List ℕ) (i : ℕ) → text ≡ chunk 0 16 digits ++ chunk i 16 digits
-    → list_all is_hex_digit text ≡ false → (out : List ℕ) → decode_of digits ≢ Ok out
-short_refused digits text i parts other out e =
-    let all = list_all-from_AllPass is_hex_digit digits (decode_of-ok digits out e).1 in
-    let front = all_front is_hex_digit 16 digits all in
-    let back = all_front is_hex_digit 16 (drop i digits) (all_back is_hex_digit i digits all) in
-    cc (sym other ∙ ap (list_all is_hex_digit) parts
-    ∙ all_both is_hex_digit (chunk 0 16 digits) (chunk i 16 digits) front back)
+-- so they are what digits decode to
+pub digits_decoded : (n : ℕ) (s : List ℕ) → length s ≡ 2 * n → list_all is_hex_digit s ≡ true
+    → decode_of s ≡ Ok (pairs_of s)
+digits_decoded n s even digits = decode_of-even s (omega arith) ∙ pairs_decoded 0 n s even digits

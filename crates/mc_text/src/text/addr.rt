@@ -4,8 +4,8 @@ ghost use Rattle.std.specs.Prelude.{◌≡◌, ℕ, ◌<◌, ◌^◌, ◌==◌, 
 ghost use Rattle.std.specs.Int.{w32, from_be_bytes};
 ghost use Rattle.mc_text.specs.Addr.{IsAddr, IsForwardedGroup, IsSource, is_forwarded_group};
 ghost use Rattle.mc_text.specs.Addr.{is_source, octets_of, dotted};
-ghost use Rattle.mc_text.specs.AddressReading.{address_of_text, address_of_word};
-ghost use Rattle.mc_text.specs.AddressWord.{IsAddressWord};
+ghost use Rattle.mc_text.specs.AddressReading.{address_of_text, address_of_word, octets_in_order};
+ghost use Rattle.mc_text.specs.AddressWord.{IsAddressWord, printed_octets};
 
 use crate::text::address_digits::four_bytes;
 use std::fmt;
@@ -54,13 +54,7 @@ fn address_shown(word: &[u8], order: Order) -> Option<Addr>
     ensures only { (a : ℕ) → IsAddr a → IsAddressWord order word.now a → result ≡ Some a }
 {
     let bytes = four_bytes(word)?;
-    Some(match order {
-        Order::Big => Addr::from_octets(bytes),
-        Order::Little => {
-            let [first, second, third, fourth] = bytes;
-            Addr::from_octets([fourth, third, second, first])
-        }
-    })
+    Some(Addr::from_printed_octets(bytes, order))
 }
 
 impl Addr {
@@ -86,6 +80,22 @@ impl Addr {
         ensures value { result ≡ address_of_word order word.now }
     {
         address_shown(word, order)
+    }
+
+    /// The address of the four bytes that the digits of its word are, from left to right.
+    #[inline(always)]
+    pub fn from_printed_octets(bytes: [u8; 4], order: Order) -> Addr
+        ensures value { result ≡ from_be_bytes w32 (octets_in_order order bytes) }
+        ensures printed { printed_octets order result ≡ bytes }
+        ensures in_range { IsAddr result }
+    {
+        match order {
+            Order::Big => Addr::from_octets(bytes),
+            Order::Little => {
+                let [first, second, third, fourth] = bytes;
+                Addr::from_octets([fourth, third, second, first])
+            }
+        }
     }
 
     /// The address with these octets, of which the first is the most significant.

@@ -1,11 +1,11 @@
 -- Bytes from pairs of hexadecimal digits, a pair at a time.
-use Rattle.std.proofs.Common.{◌≡◌, ◌≢◌, ℕ, ◌+◌, ◌*◌, ◌<◌, ◌≤◌, true, false, List, length, get_or}
-use Rattle.std.proofs.Common.{take, drop, Option, Some, None, Ok, unwrap_or}
-use Rattle.std.proofs.Common.{inl, inr, refl, arith, slice_set, bit_or}
+use Rattle.std.proofs.Common.{◌≡◌, ◌≢◌, ℕ, ◌+◌, ◌*◌, ◌<◌, ◌≤◌, true, List, length, get_or}
+use Rattle.std.proofs.Common.{take, drop, Ok}
+use Rattle.std.proofs.Common.{inl, inr, arith, slice_set, bit_or}
 use Rattle.std.proofs.lemmas.Bool.{cases_lt}
 use Rattle.std.proofs.lemmas.List.Elements.{All-get_or}
 use Rattle.std.proofs.lemmas.Nat.{or_lt, le_or_l, le_or_r}
-use Rattle.hex.specs.Hex.{hex_digit_value, is_hex_digit, digit_or_error, pair_value, decode_pairs}
+use Rattle.hex.specs.Hex.{is_hex_digit, decode_pairs}
 use Rattle.hex.proofs.HexLemmas.{decode_pairs-ok}
 use Rattle.hex.proofs.Pairs.{prepend, decode_step}
 use Rattle.mc_text.specs.AddressWord.{value_or_16}

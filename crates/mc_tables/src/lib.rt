@@ -2,6 +2,7 @@
 //! `/proc/net/ip_mr_vif` and `/proc/net/ip_mr_cache`.
 #![tactic(auto)]
 
+mod address_words;
 mod apart;
 mod cache_line;
 mod cache_reader;

@@ -8,17 +8,18 @@ ghost use Rattle.std.specs.Prelude.{position, true};
 ghost use Rattle.std.specs.Char.{is_ascii_digit};
 ghost use Rattle.mc_text.specs.Lines.{words_of};
 ghost use Rattle.mc_tables.specs.declared.entry.Oif.{Oif};
-ghost use Rattle.mc_tables.specs.TableWords.{address_in, is_counter, is_decimal, number_in};
+ghost use Rattle.mc_tables.specs.TableWords.{is_counter, is_decimal, number_in};
 ghost use Rattle.mc_tables.specs.CacheReading.{oif_in, oifs_in, row_in_words};
 ghost use Rattle.mc_tables.specs.FlatRows.{row_with};
 ghost use Rattle.mc_tables.specs.Counters.{HasCounters};
 
+use crate::address_words::{addresses_at_front, after_addresses};
 use crate::cache_row::CacheRow;
 use crate::entry::Oif;
 use crate::marked_line::MarkedLine;
 use crate::outgoing::MAX_THRESHOLD;
 use crate::table_words::{MAX_VIF, number};
-use mc_text::{Addr, Order};
+use mc_text::Order;
 use std::alloc::AllocError;
 
 /// The place of the first byte that is no space.
@@ -67,31 +68,6 @@ fn digits_at_front(line: &[u8]) -> Option<(&[u8], &[u8])>
     ensures digits { IfSome result (λ parts. is_decimal parts.0.now ≡ true) }
 {
     digits_before(without_spaces(line), b' ')
-}
-
-/// The address of eight bytes and a space with which a line begins.
-#[tactic(auto, using(crate::proofs::PlainLemmas::address_words))]
-fn address_at_front(line: &[u8], order: Order) -> Option<Addr>
-    ensures long { IfSome result (λ address. 9 ≤ length line.now) }
-    ensures words { IfSome result (λ address.
-        words_of line.now ≡ take 8 line.now ∷ words_of (drop 9 line.now)) }
-    ensures address { IfSome result (λ address.
-        address_in order (take 8 line.now) ≡ Some address) }
-{
-    if line.len() > 8 && line[8] == b' ' {
-        Addr::from_hex_word(&line[..8], order)
-    } else {
-        None
-    }
-}
-
-/// What stands behind an address and its space.
-#[tactic(auto, using(crate::proofs::PlainLemmas::rest_of))]
-fn after_address(line: &[u8]) -> &[u8]
-    requires { 9 ≤ length line.now }
-    ensures { result.now ≡ drop 9 line.now }
-{
-    &line[9..]
 }
 
 /// An incoming vif of one digit, which is printed in three bytes, with which a line begins, and
@@ -194,10 +170,8 @@ pub fn row_at_front(line: &[u8], order: Order) -> Option<(CacheRow, &[u8])>
         oifs_in (words_of found.1.now) ≡ Ok oifs →
         row_in_words order (words_of line.now) ≡ Ok (row_with found.0 oifs)) }
 {
-    let group = address_at_front(line, order)?;
-    let rest = after_address(line);
-    let origin = address_at_front(rest, order)?;
-    let (iif, rest) = iif_at_front(after_address(rest))?;
+    let (group, origin) = addresses_at_front(line, order)?;
+    let (iif, rest) = iif_at_front(after_addresses(line))?;
     let rest = after_counters(rest)?;
     let row = CacheRow {
         group,

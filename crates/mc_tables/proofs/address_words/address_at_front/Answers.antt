@@ -1,7 +1,7 @@
 use Rattle.std.proofs.Common.{take}
 use Rattle.mc_tables.proofs.AddressLemmas.{address_is}
 use Rattle.mc_tables.proofs.PlainLemmas.{address_words}
-use Rattle.mc_tables.proofs.plain_row.address_at_front.Goals as goal
+use Rattle.mc_tables.proofs.address_words.address_at_front.Goals as goal
 
 pub returns-then-line-eq32-clause-words : goal.returns-then-line-eq32-clause-words
 returns-then-line-eq32-clause-words c =

@@ -72,6 +72,7 @@ fn digits_at_front(line: &[u8]) -> Option<(&[u8], &[u8])>
 
 /// An incoming vif of one digit, which is printed in three bytes, with which a line begins, and
 /// what stands behind it.
+#[inline(always)]
 #[tactic(auto, using(crate::proofs::PlainLemmas::short_iif))]
 fn one_digit_iif_at_front(line: &[u8]) -> Option<(u8, &[u8])>
     ensures { IfSome result (λ found. (word : List ℕ)
@@ -86,6 +87,7 @@ fn one_digit_iif_at_front(line: &[u8]) -> Option<(u8, &[u8])>
 }
 
 /// The same of one of two digits.
+#[inline(always)]
 #[tactic(auto, using(crate::proofs::PlainLemmas::two_iif))]
 fn two_digit_iif_at_front(line: &[u8]) -> Option<(u8, &[u8])>
     ensures { IfSome result (λ found. (word : List ℕ)
@@ -142,6 +144,7 @@ fn after_counter(line: &[u8]) -> Option<&[u8]>
 
 /// What stands behind the three counters that are a line's first words, if they are near its
 /// front.
+#[inline(always)]
 fn after_near_counters(line: &[u8]) -> Option<&[u8]>
     ensures { IfSome result (λ after. HasCounters line.now after.now) }
 {
@@ -182,6 +185,7 @@ pub fn row_at_front(line: &[u8], order: Order) -> Option<(CacheRow, &[u8])>
 }
 
 /// Whether a byte is a decimal digit but 0.
+#[inline(always)]
 fn is_from_1_to_9(byte: u8) -> bool
     ensures { result ≡ (nat_le 49 byte && nat_le byte 57) }
 {
@@ -190,6 +194,7 @@ fn is_from_1_to_9(byte: u8) -> bool
 
 /// An outgoing vif of one digit with a threshold of one, with which a line begins, and what stands
 /// behind it.
+#[inline(always)]
 #[tactic(auto, using(crate::proofs::PlainLemmas::short_first))]
 fn one_digit_oif_at_front(line: &[u8]) -> Option<(Oif, &[u8])>
     ensures word { IfSome result (λ found. (word : List ℕ)
@@ -211,6 +216,7 @@ fn one_digit_oif_at_front(line: &[u8]) -> Option<(Oif, &[u8])>
 
 /// An outgoing vif of two digits with a threshold of one, with which a line begins, and what stands
 /// behind it.
+#[inline(always)]
 #[tactic(auto, using(crate::proofs::PlainLemmas::two_first))]
 fn two_digit_oif_at_front(line: &[u8]) -> Option<(Oif, &[u8])>
     ensures word { IfSome result (λ found. (word : List ℕ)

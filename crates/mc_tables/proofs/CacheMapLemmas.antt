@@ -15,7 +15,8 @@ use Rattle.std.proofs.lemmas.List.{length_push}
 use Rattle.std.specs.BTreeMap.{is_at}
 use Rattle.std.specs.Map.{lookup}
 use Rattle.mc_tables.specs.CacheTable.{EntryText, CacheText, key_cmp}
-use Rattle.mc_tables.specs.CacheNumbers.{entries_by, number_in, AreNumbers, MoreNumbers}
+use Rattle.mc_tables.specs.CacheNumbers.{entries_by, number_in, AreNumbers, KeptText, MoreNumbers}
+use Rattle.mc_tables.specs.ListedRows.{ListedSet}
 use Rattle.mc_tables.proofs.CacheLemmas.{key_total, key_laws}
 
 -- the table that numbers, entries and groups make
@@ -28,6 +29,11 @@ table_with numbers es groups = record {
 
 abbrev pub table_kept : List ((ℕ × ℕ) × ℕ) → List EntryText → List ℕ → CacheText
 table_kept numbers es groups = table_with numbers es (set.from_list groups)
+
+-- the rows that are kept of these
+abbrev pub kept_with : ListedSet → List ((ℕ × ℕ) × ℕ) → List EntryText → List ℕ → KeptText
+kept_with listed numbers es groups =
+    record { table = table_kept numbers es groups; listed = listed; groups = groups }
 
 -- only equal keys tie
 pub key_antisymmetric : IsAntisymmetric key_cmp

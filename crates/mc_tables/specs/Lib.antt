@@ -19,6 +19,8 @@ pub mod ListedRows
 pub mod OtherRows
 pub mod Apart
 pub mod RowsSoFar
+pub mod Notes
+pub mod NotesSoFar
 pub use Rattle.mc_text.specs.Addr
 pub use Rattle.mc_text.specs.AddressReading
 pub use Rattle.mc_text.specs.DeviceName

@@ -12,6 +12,7 @@ ghost use Rattle.mc_tables.specs.CacheTable.{table_of};
 ghost use Rattle.mc_tables.specs.CacheSteps.{row_added, entry_added, group_added};
 ghost use Rattle.mc_tables.specs.FlatRows.{row_with};
 ghost use Rattle.mc_tables.specs.ListedRows.{is_in, is_kept_by};
+ghost use Rattle.mc_tables.specs.NotesSoFar.{IsEntered, first_added};
 
 use crate::cache_row::CacheRow;
 use crate::entry::{Entry, Oif};
@@ -144,15 +145,57 @@ impl CacheRows {
         ensures listed { self.new.listed ≡ self.old.listed }
         ensures refused { OnErr result (self.new.table.numbered ≡ self.old.table.numbered) }
     {
+        match self.enter(key, iif, oifs)? {
+            Numbered::New => Ok(true),
+            Numbered::Repeated => Err(TableFaultKind::RepeatedEntry),
+            Numbered::Unlisted => Ok(false),
+        }
+    }
+
+    /// Adds an entry if its source and group can have a number and have none.
+    pub fn add_first(
+        &mut self,
+        key: &(Addr, Addr),
+        iif: u8,
+        oifs: &[Oif],
+    ) -> Result<(), TableFaultKind>
+        requires room { length self.old.table.numbered < 65536 }
+        requires few { length oifs.now ≤ 32 }
+        ensures added { OnOk result (self.new
+            ≡ first_added self.old key.now (record { iif = iif; oifs = oifs.now })) }
+        ensures fault { IfErr result (λ fault. fault ≡ Memory) }
+        ensures listed { self.new.listed ≡ self.old.listed }
+        ensures room { length self.new.table.numbered ≤ length self.old.table.numbered + 1 }
+    {
+        self.enter(key, iif, oifs)?;
+        Ok(())
+    }
+
+    /// Adds an entry if its source and group can have a number and have none, and answers what
+    /// became of it.
+    fn enter(
+        &mut self,
+        key: &(Addr, Addr),
+        iif: u8,
+        oifs: &[Oif],
+    ) -> Result<Numbered, TableFaultKind>
+        requires room { length self.old.table.numbered < 65536 }
+        requires few { length oifs.now ≤ 32 }
+        ensures entered { IfOk result
+            (IsEntered key.now (record { iif = iif; oifs = oifs.now }) self.old self.new) }
+        ensures fault { IfErr result (λ fault. fault ≡ Memory) }
+        ensures listed { self.new.listed ≡ self.old.listed }
+        ensures refused { OnErr result (self.new.table.numbered ≡ self.old.table.numbered) }
+    {
         let number = self.entries.len() as u32;
         self.entries.reserve(oifs.len())?;
         match self.numbers.add(key, number)? {
             Numbered::New => {
                 self.entries.push(iif, oifs)?;
-                Ok(true)
+                Ok(Numbered::New)
             }
-            Numbered::Repeated => Err(TableFaultKind::RepeatedEntry),
-            Numbered::Unlisted => Ok(false),
+            Numbered::Repeated => Ok(Numbered::Repeated),
+            Numbered::Unlisted => Ok(Numbered::Unlisted),
         }
     }
 

@@ -1,0 +1,95 @@
+-- What is noted of the rows of a cache besides the table of those that are kept.
+use Rattle.std.specs.Prelude.{ℕ, ◌==◌, Bool, not, List, [], ◌∷◌, length, take, filter}
+use Rattle.std.specs.Prelude.{map as map_list, Option, Some, None, Result, Ok, if◌then◌else◌}
+use Rattle.std.specs.List.{filter_map}
+use Rattle.std.specs.Option.{option_map}
+use Rattle.std.specs.FinMap as map
+use Rattle.std.specs.FinSet as set
+use Rattle.mc_text.specs.declared.text.addr.Order.{Order}
+use Rattle.mc_tables.specs.declared.fault.TableFault.{TableFault}
+use Rattle.mc_text.specs.Steps.{◌>>=◌}
+use Rattle.mc_tables.specs.CacheTable.{EntryText, RowText, CacheText, key_cmp, key_of, table_of}
+use Rattle.mc_tables.specs.CacheReading.{cache_rows_in}
+use Rattle.mc_tables.specs.ListedRows.{is_listed, kept_rows}
+
+-- ---- rows
+
+-- The source and the group of an unresolved row: one for packets that no route was there for
+-- (ipmr_cache_unresolved in net/ipv4/ipmr.c, which sets the incoming vif to -1).
+abbrev pub unresolved_by : Option EntryText → ℕ × ℕ → Option (ℕ × ℕ)
+unresolved_by None key = Some key
+unresolved_by (Some entry) key = None
+
+abbrev pub unresolved_key : RowText → Option (ℕ × ℕ)
+unresolved_key row = unresolved_by row.entry (row.origin, row.group)
+
+-- the origin, which is 0, the group and the entry of a resolved row for every source
+abbrev pub every_source_entry : RowText → Option ((ℕ × ℕ) × EntryText)
+every_source_entry row =
+    if row.origin == 0 then option_map (λ entry. ((row.origin, row.group), entry)) row.entry
+    else None
+
+-- Which of those concern the packets of a listed source and group: the rows of the group, and those
+-- of the group 0.0.0.0 (ipmr_cache_find_any in net/ipv4/ipmr.c).
+abbrev pub keys_for_every_source : List (ℕ × ℕ) → List (ℕ × ℕ)
+keys_for_every_source listed = (0, 0) ∷ map_list (λ key. (0, key.1)) listed
+
+-- ---- what is noted
+
+-- the group of a source and a group before the source, so that they stand by group
+abbrev pub group_first : ℕ × ℕ → ℕ × ℕ
+group_first key = (key.1, key.0)
+
+-- pairs by the first and then by the second, each once
+abbrev pub in_order : List (ℕ × ℕ) → List (ℕ × ℕ)
+in_order pairs = map.keys (map.from_entries {R = key_cmp} (map_list (λ pair. (pair, tt {0})) pairs))
+
+-- The listed sources and groups of unresolved rows; the first row for every source of each group of
+-- which these are noted; of the resolved rows whose source and group are not listed how many there
+-- are, and the 20 lowest, by group and then by source, each with its group first.
+pub record NotesText : Type 0 where
+  pub unresolved : set.FinSet key_cmp
+  pub for_every_source : map.FinMap key_cmp EntryText
+  pub unlisted : ℕ
+  pub lowest : List (ℕ × ℕ)
+
+-- the sources and groups of the resolved rows that are not listed
+abbrev pub unlisted_keys : List (ℕ × ℕ) → List RowText → List (ℕ × ℕ)
+unlisted_keys listed rows =
+    filter (λ key. not (is_listed (Some listed) key)) (filter_map key_of rows)
+
+abbrev pub notes_of : List (ℕ × ℕ) → List RowText → NotesText
+notes_of listed rows = record {
+  unresolved = set.from_list (filter (is_listed (Some listed)) (filter_map unresolved_key rows));
+  -- of two rows of one group the map has the first
+  for_every_source = map.from_entries
+      (filter (λ exact. is_listed (Some (keys_for_every_source listed)) exact.0)
+      (filter_map every_source_entry rows));
+  unlisted = length (unlisted_keys listed rows);
+  lowest = take 20 (in_order (map_list group_first (unlisted_keys listed rows)));
+}
+
+-- ---- the table and the notes
+
+pub record NotedText : Type 0 where
+  pub table : CacheText
+  pub notes : NotesText
+
+-- those of a text's rows, of which the listed ones are kept, or the first fault
+abbrev pub noted_in : Order → List (ℕ × ℕ) → List ℕ → Result NotedText TableFault
+noted_in order listed text =
+    cache_rows_in order text >>= λ rows.
+    Ok (record { table = table_of (kept_rows (Some listed) rows); notes = notes_of listed rows })
+
+-- ---- look-ups
+
+-- a row that there is, or else another one, each with its group
+abbrev pub row_or : ℕ → Option EntryText → Option (ℕ × EntryText) → Option (ℕ × EntryText)
+row_or group None other = other
+row_or group (Some entry) other = Some (group, entry)
+
+-- the row for every source of a group, or else that of the group 0.0.0.0, and whose it is
+abbrev pub every_source_row : NotesText → ℕ → Option (ℕ × EntryText)
+every_source_row notes group =
+    row_or group (map.get notes.for_every_source (0, group))
+    (row_or 0 (map.get notes.for_every_source (0, 0)) None)

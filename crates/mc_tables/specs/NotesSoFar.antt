@@ -1,0 +1,201 @@
+-- Notes of a cache whose text comes in pieces, row by row.
+use Rattle.std.specs.Prelude.{◌≡◌, ℕ, ◌+◌, ◌&&◌, true, false, not, List, [], ◌∷◌, ◌++◌}
+use Rattle.std.specs.Prelude.{take, Option, Some, None, is_some, Result, Ok, Err, codes}
+use Rattle.std.specs.Prelude.{if◌then◌else◌}
+use Rattle.std.specs.FinMap as map
+use Rattle.std.specs.FinSet as set
+use Rattle.std.specs.declared.cmp.Ordering.{Ordering}
+use Rattle.std.specs.declared.cmp.Ordering.TheVariants.{Less, Equal, Greater}
+use Rattle.mc_text.specs.declared.text.addr.Order.{Order}
+use Rattle.mc_text.specs.Lines.{LineText, words_of}
+use Rattle.mc_text.specs.Steps.{◌>>=◌}
+use Rattle.mc_tables.specs.declared.fault.TableFault.{TableFault}
+use Rattle.mc_tables.specs.declared.fault.TableFaultKind.{TableFaultKind}
+use Rattle.mc_tables.specs.declared.listed_numbers.Numbered.{Numbered}
+use Rattle.mc_tables.specs.declared.listed_numbers.Numbered.TheVariants.{New, Repeated, Unlisted}
+use Rattle.mc_tables.specs.Steps.{unless_fault}
+use Rattle.mc_tables.specs.LinesSoFar.{LinesSoFar, no_lines, read_after, lines_to_come}
+use Rattle.mc_tables.specs.CacheTable.{EntryText, RowText, CacheText, key_cmp, key_of, table_of}
+use Rattle.mc_tables.specs.CacheNumbers.{KeptText}
+use Rattle.mc_tables.specs.CacheReading.{row_in_words}
+use Rattle.mc_tables.specs.ListedRows.{ListedSet, is_in, listed_set}
+use Rattle.mc_tables.specs.RowsSoFar.{ListedSoFar, no_rows, row_step, table_from}
+use Rattle.mc_tables.specs.Notes.{unresolved_key, every_source_entry, keys_for_every_source}
+use Rattle.mc_tables.specs.Notes.{group_first, in_order, NotesText, NotedText}
+
+-- ---- one entry more
+
+-- an entry more of a source and a group that have none
+abbrev pub with_entry : KeptText → ℕ × ℕ → EntryText → KeptText
+with_entry kept key entry = record {
+  table = record {
+    entries = map.insert kept.table.entries key entry;
+    numbered = kept.table.numbered ++ entry ∷ [];
+    wildcards = kept.table.wildcards;
+  };
+  listed = kept.listed;
+  groups = kept.groups;
+}
+
+-- what became of an entry that was to be added
+abbrev pub IsEntered : ℕ × ℕ → EntryText → (old new : KeptText) → Numbered → Type 0
+IsEntered key entry old new New =
+    (is_in old.listed key ≡ true) × (is_some (map.get old.table.entries key) ≡ false)
+    × (new ≡ with_entry old key entry)
+IsEntered key entry old new Repeated =
+    (is_in old.listed key ≡ true) × (is_some (map.get old.table.entries key) ≡ true) × (new ≡ old)
+IsEntered key entry old new Unlisted = (is_in old.listed key ≡ false) × (new ≡ old)
+
+-- an entry more, if its source and group can have one and have none
+abbrev pub first_added : KeptText → ℕ × ℕ → EntryText → KeptText
+first_added kept key entry =
+    if is_in kept.listed key && not (is_some (map.get kept.table.entries key))
+    then with_entry kept key entry else kept
+
+-- ---- the lowest pairs
+
+-- a pair before the pairs from p on, or p with those after it, where the pair is less, equal or
+-- greater
+abbrev pub put_at : Ordering → (pair p : ℕ × ℕ) (ps put : List (ℕ × ℕ)) → List (ℕ × ℕ)
+put_at Less pair p ps put = pair ∷ p ∷ ps
+put_at Equal pair p ps put = p ∷ ps
+put_at Greater pair p ps put = p ∷ put
+
+-- a pair more in its place, if it isn't there
+abbrev pub put_pair : ℕ × ℕ → List (ℕ × ℕ) → List (ℕ × ℕ)
+put_pair pair [] = pair ∷ []
+put_pair pair (p ∷ ps) = put_at (key_cmp pair p) pair p ps (put_pair pair ps)
+
+-- ---- row by row
+
+-- The sources and groups that are listed, and those of them of unresolved rows; the first rows for
+-- every source; how many rows are of others, and the lowest of those.
+pub record NotesSoFar : Type 0 where
+  pub listed : ListedSet
+  pub unresolved : set.FinSet key_cmp
+  pub first : KeptText
+  pub unlisted : ℕ
+  pub lowest : List (ℕ × ℕ)
+
+-- no rows have come
+abbrev pub no_notes : List (ℕ × ℕ) → NotesSoFar
+no_notes listed = record {
+  listed = listed_set (Some listed);
+  unresolved = set.empty;
+  first = record {
+    table = table_of [];
+    listed = listed_set (Some (keys_for_every_source listed));
+    groups = [];
+  };
+  unlisted = 0;
+  lowest = [];
+}
+
+-- an unresolved row, if it is one
+abbrev pub unresolved_noted : NotesSoFar → Option (ℕ × ℕ) → NotesSoFar
+unresolved_noted notes None = notes
+unresolved_noted notes (Some key) = record {
+  listed = notes.listed;
+  unresolved = if is_in notes.listed key then set.insert notes.unresolved key else notes.unresolved;
+  first = notes.first;
+  unlisted = notes.unlisted;
+  lowest = notes.lowest;
+}
+
+-- a row for every source, if it is one
+abbrev pub every_source_noted : NotesSoFar → Option ((ℕ × ℕ) × EntryText) → NotesSoFar
+every_source_noted notes None = notes
+every_source_noted notes (Some exact) = record {
+  listed = notes.listed;
+  unresolved = notes.unresolved;
+  first = first_added notes.first exact.0 exact.1;
+  unlisted = notes.unlisted;
+  lowest = notes.lowest;
+}
+
+-- a row of a source and a group that are not listed
+abbrev pub unlisted_noted : NotesSoFar → ℕ × ℕ → NotesSoFar
+unlisted_noted notes key = record {
+  listed = notes.listed;
+  unresolved = notes.unresolved;
+  first = notes.first;
+  unlisted = notes.unlisted + 1;
+  lowest = take 20 (put_pair (group_first key) notes.lowest);
+}
+
+-- a row of a source and a group, if it is one
+abbrev pub exact_noted : NotesSoFar → Option (ℕ × ℕ) → NotesSoFar
+exact_noted notes None = notes
+exact_noted notes (Some key) = if is_in notes.listed key then notes else unlisted_noted notes key
+
+-- a row more
+abbrev pub row_noted : NotesSoFar → RowText → NotesSoFar
+row_noted notes row =
+    exact_noted
+    (every_source_noted (unresolved_noted notes (unresolved_key row)) (every_source_entry row))
+    (key_of row)
+
+-- what is told of them
+abbrev pub told : NotesSoFar → NotesText
+told notes = record {
+  unresolved = notes.unresolved;
+  for_every_source = notes.first.table.entries;
+  unlisted = notes.unlisted;
+  lowest = notes.lowest;
+}
+
+-- ---- line by line
+
+-- the row of a line more, if it is one
+abbrev pub read_noted : NotesSoFar → Result RowText TableFaultKind → NotesSoFar
+read_noted notes (Err kind) = notes
+read_noted notes (Ok row) = row_noted notes row
+
+abbrev pub line_noted : Order → NotesSoFar → LineText → NotesSoFar
+line_noted order notes line = read_noted notes (row_in_words order (words_of line.bytes))
+
+abbrev pub notes_from : Order → NotesSoFar → List LineText → NotesSoFar
+notes_from order notes [] = notes
+notes_from order notes (line ∷ lines) = notes_from order (line_noted order notes line) lines
+
+-- the rows so far and the notes of them
+pub record NotedSoFar : Type 0 where
+  pub rows : ListedSoFar
+  pub notes : NotesSoFar
+
+-- a line more, or the first fault
+abbrev pub noted_step : NotedSoFar → LineText → Result NotedSoFar TableFault
+noted_step so_far line =
+    row_step so_far.rows line >>= λ rows.
+    Ok (record { rows = rows; notes = line_noted so_far.rows.order so_far.notes line })
+
+-- the table and the notes of these rows and those of the lines after them, or the first fault
+abbrev pub noted_from : NotedSoFar → List LineText → Result NotedText TableFault
+noted_from so_far lines =
+    table_from so_far.rows lines >>= λ table.
+    Ok (record { table = table; notes = told (notes_from so_far.rows.order so_far.notes lines) })
+
+-- ---- how far reading has come
+
+-- the lines, the rows with the notes, and the fault if one was answered
+pub record NotedCacheSoFar : Type 0 where
+  pub lines : LinesSoFar
+  pub rows : NotedSoFar
+  pub fault : Option TableFault
+
+-- nothing has come, and these are listed
+abbrev pub no_noted_rows : Order → List (ℕ × ℕ) → NotedSoFar
+no_noted_rows order listed =
+    record { rows = no_rows order (listed_set (Some listed)); notes = no_notes listed }
+
+abbrev pub no_noted_cache : Order → List (ℕ × ℕ) → NotedCacheSoFar
+no_noted_cache order listed =
+    record { lines = no_lines; rows = no_noted_rows order listed; fault = None }
+
+-- the table and the notes if these bytes come
+abbrev pub noted_after : LinesSoFar → NotedSoFar → List ℕ → Result NotedText TableFault
+noted_after lines so_far more = read_after (codes "Group") (noted_from so_far) lines more
+
+-- what reading ends with if these bytes come: the table and the notes, or the first fault
+abbrev pub noted_if : NotedCacheSoFar → List ℕ → Result NotedText TableFault
+noted_if cache more = unless_fault cache.fault (noted_after cache.lines cache.rows more)

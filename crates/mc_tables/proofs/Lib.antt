@@ -29,6 +29,7 @@ pub mod ListedPairLemmas
 pub mod KeptRowLemmas
 pub mod RowsSoFarLemmas
 pub mod RowRuleLemmas
+pub mod LowestLemmas
 pub mod NoteLemmas
 pub mod ListedPartLemmas
 pub mod RuleLemmas

@@ -5,6 +5,7 @@
 mod address_words;
 mod apart;
 mod cache_line;
+mod cache_notes;
 mod cache_reader;
 mod cache_row;
 mod cache_rows;
@@ -18,7 +19,9 @@ mod laws;
 mod listed_numbers;
 mod listed_pairs;
 mod listed_rows;
+mod lowest_pairs;
 mod marked_line;
+mod notes_so_far;
 mod other_rows;
 mod outgoing;
 mod piece_lines;
@@ -32,6 +35,7 @@ mod vif_row;
 mod vif_rows;
 mod vif_table;
 
+pub use cache_notes::CacheNotes;
 pub use cache_reader::CacheReader;
 pub use cache_table::CacheTable;
 pub use entry::{Entry, Oif};

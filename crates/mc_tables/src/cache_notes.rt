@@ -1,0 +1,80 @@
+//! What is noted of the rows of a forwarding cache besides its table.
+
+ghost use Rattle.std.specs.Prelude.{◌≡◌};
+ghost use Rattle.std.specs.FinSet as set;
+ghost use Rattle.mc_tables.specs.Notes.{every_source_row};
+ghost use Rattle.mc_tables.specs.NotesSoFar.{told};
+
+use crate::entry::Entry;
+use crate::notes_so_far::NotesSoFar;
+use mc_text::Addr;
+use std::marker::Model;
+
+/// Which listed sources and groups have an unresolved row, which row for every source comes first,
+/// and which resolved rows are of sources and groups that aren't listed.
+#[derive(Debug, Drop)]
+pub struct CacheNotes {
+    notes: NotesSoFar,
+}
+
+impl Model for CacheNotes {
+    ghost use Rattle.std.specs.Coded.{codes};
+    ghost use Rattle.mc_tables.specs.CacheTable.{entries_code};
+    ghost use Rattle.mc_tables.specs.ListedRows.{pairs_code};
+    ghost use Rattle.mc_tables.specs.Notes.{NotesText};
+    ghost use Rattle.mc_tables.specs.NotesSoFar.{told};
+
+    ghost Value = { NotesText };
+
+    ghost coded = { Prim.hlevel (codes, pairs_code, entries_code) };
+
+    ghost view = { λ s. told s.notes };
+}
+
+impl CacheNotes {
+    /// The notes of all rows.
+    pub(crate) fn of(notes: NotesSoFar) -> CacheNotes
+        ensures { result ≡ told notes }
+    {
+        CacheNotes { notes }
+    }
+
+    /// Whether a source and a group are listed and an unresolved row has them: packets came for
+    /// which the router had no route.
+    pub fn is_unresolved(&self, source: Addr, group: Addr) -> bool
+        ensures { result ≡ set.contains self.now.unresolved (source, group) }
+    {
+        self.notes.is_unresolved(source, group)
+    }
+
+    /// The first resolved row of origin 0.0.0.0 and this group, if that is a listed one, or else
+    /// that of the group 0.0.0.0; and which of the two groups it has.
+    pub fn row_for_every_source(&self, group: Addr) -> Option<(Addr, Entry<'_>)>
+        ensures { result ≡ every_source_row self.now group }
+    {
+        if let Some(entry) = self.notes.first_for_every_source(group) {
+            return Some((group, entry));
+        }
+        let every_group = Addr::from_octets([0, 0, 0, 0]);
+        match self.notes.first_for_every_source(every_group) {
+            Some(entry) => Some((every_group, entry)),
+            None => None,
+        }
+    }
+
+    /// How many resolved rows of an origin other than 0.0.0.0 have a source and a group that aren't
+    /// listed.
+    pub fn unlisted_rows(&self) -> u32
+        ensures { result ≡ self.now.unlisted }
+    {
+        self.notes.unlisted()
+    }
+
+    /// The groups and sources of the lowest 20 of those rows, or of all if they are fewer: each as
+    /// its group and its source, by group and then by source.
+    pub fn lowest_unlisted(&self) -> &[(Addr, Addr)]
+        ensures { result.now ≡ self.now.lowest }
+    {
+        self.notes.lowest()
+    }
+}

@@ -1,0 +1,61 @@
+//! The lowest of many pairs of addresses.
+
+ghost use Rattle.std.specs.Prelude.{◌≡◌, [], OnOk, take};
+ghost use Rattle.mc_tables.specs.NotesSoFar.{put_pair};
+
+use mc_text::Addr;
+use std::alloc::{AllocError, Global};
+use std::marker::Model;
+
+/// How many are kept at most.
+const MOST: usize = 20;
+
+/// The lowest of the pairs that came, ascending and each once. Its value in contracts is their list.
+#[derive(Debug, Drop)]
+pub struct LowestPairs {
+    pairs: Vec<(Addr, Addr)>,
+}
+
+impl Model for LowestPairs {
+    ghost use Rattle.std.specs.Prelude.{ℕ, List, ◌≤◌, length};
+    ghost use Rattle.std.specs.List.Sorted.{IsStrictlySortedBy};
+    ghost use Rattle.mc_tables.specs.CacheTable.{key_cmp};
+
+    ghost Value = { List (ℕ × ℕ) };
+
+    ghost view = { λ s. s.pairs.items };
+
+    ghost invariant = { λ s. IsStrictlySortedBy key_cmp s.pairs.items × (length s.pairs.items ≤ 20) };
+}
+
+impl LowestPairs {
+    /// None came.
+    pub fn new(alloc: Global) -> LowestPairs
+        ensures { result ≡ [] }
+    {
+        LowestPairs {
+            pairs: Vec::new(alloc),
+        }
+    }
+
+    /// One more came. Most are only compared with the greatest that is kept.
+    pub fn add(&mut self, pair: (Addr, Addr)) -> Result<(), AllocError>
+        ensures { OnOk result (self.new ≡ take 20 (put_pair pair self.old)) }
+    {
+        if self.pairs.len() >= MOST && self.pairs[MOST - 1] <= pair {
+            return Ok(());
+        }
+        if let Err(place) = self.pairs.binary_search(&pair) {
+            self.pairs.insert(place, pair)?;
+            self.pairs.truncate(MOST);
+        }
+        Ok(())
+    }
+
+    /// Those that are kept.
+    pub fn as_slice(&self) -> &[(Addr, Addr)]
+        ensures { result.now ≡ self.now }
+    {
+        self.pairs.as_slice()
+    }
+}

@@ -1,6 +1,7 @@
 -- What is noted of the rows of a cache besides the table of those that are kept.
 use Rattle.std.specs.Prelude.{ℕ, ◌==◌, Bool, not, List, [], ◌∷◌, length, take, filter}
 use Rattle.std.specs.Prelude.{map as map_list, Option, Some, None, Result, Ok, if◌then◌else◌}
+use Rattle.std.specs.Coded.{Coded, coded×, coded_ℕ}
 use Rattle.std.specs.List.{filter_map}
 use Rattle.std.specs.Option.{option_map}
 use Rattle.std.specs.FinMap as map
@@ -8,7 +9,8 @@ use Rattle.std.specs.FinSet as set
 use Rattle.mc_text.specs.declared.text.addr.Order.{Order}
 use Rattle.mc_tables.specs.declared.fault.TableFault.{TableFault}
 use Rattle.mc_text.specs.Steps.{◌>>=◌}
-use Rattle.mc_tables.specs.CacheTable.{EntryText, RowText, CacheText, key_cmp, key_of, table_of}
+use Rattle.mc_tables.specs.CacheTable.{EntryText, RowText, CacheText, entry_code, key_cmp, key_of}
+use Rattle.mc_tables.specs.CacheTable.{table_of}
 use Rattle.mc_tables.specs.CacheReading.{cache_rows_in}
 use Rattle.mc_tables.specs.ListedRows.{is_listed, kept_rows}
 
@@ -52,6 +54,10 @@ pub record NotesText : Type 0 where
   pub for_every_source : map.FinMap key_cmp EntryText
   pub unlisted : ℕ
   pub lowest : List (ℕ × ℕ)
+
+-- a map by source and group is stored as such
+abbrev pub entries_code : Coded (map.FinMap key_cmp EntryText)
+entries_code = map.code (coded× coded_ℕ coded_ℕ) entry_code
 
 -- the sources and groups of the resolved rows that are not listed
 abbrev pub unlisted_keys : List (ℕ × ℕ) → List RowText → List (ℕ × ℕ)

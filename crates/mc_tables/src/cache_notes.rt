@@ -19,9 +19,8 @@ pub struct CacheNotes {
 
 impl Model for CacheNotes {
     ghost use Rattle.std.specs.Coded.{codes};
-    ghost use Rattle.mc_tables.specs.CacheTable.{entries_code};
     ghost use Rattle.mc_tables.specs.ListedRows.{pairs_code};
-    ghost use Rattle.mc_tables.specs.Notes.{NotesText};
+    ghost use Rattle.mc_tables.specs.Notes.{NotesText, entries_code};
     ghost use Rattle.mc_tables.specs.NotesSoFar.{told};
 
     ghost Value = { NotesText };

@@ -18,6 +18,7 @@ use Rattle.std.proofs.lemmas.Map.Views.{Contains-from_any, list_any-from_Contain
 use Rattle.mc_text.specs.Pair.{pair_of}
 use Rattle.mc_text.proofs.PairLemmas.{pair_of-injective}
 use Rattle.mc_tables.specs.CacheTable.{key_cmp, same_key}
+use Rattle.mc_tables.specs.Notes.{keys_for_every_source}
 use Rattle.mc_tables.proofs.CacheLemmas.{key_laws, key_total}
 use Rattle.mc_tables.proofs.CacheMapLemmas.{key_antisymmetric}
 use Rattle.mc_tables.proofs.OtherRowLemmas.{same_is}
@@ -91,17 +92,18 @@ same_set xs ys same =
     ]
     ∙ sym (set.contains-from_list key_total ys q))
 
--- what numbers among these are of, the pairs of these have
-moved : (xs ys : List ℕ) → ((n : ℕ) → Contains xs n → Contains ys n) → (q : ℕ × ℕ)
-    → Contains (map pair_of xs) q → Contains (map pair_of ys) q
-moved xs ys same q among =
-    let within : among.0 < length xs = omega (arith, length-map xs pair_of, among.1) in
-    let n : ℕ = get_or xs among.0 0 in
-    let own : pair_of n ≡ q = sym (get_or-map pair_of xs among.0 0 q within) ∙ among.2 in
-    let there = same n (Contains-get_or xs among.0 0 within) in (
+-- what elements among these give, those that are among others give too
+moved : {A : Type 0} (f : A → ℕ × ℕ) (d : A) (xs ys : List A)
+    → ((x : A) → Contains xs x → Contains ys x) → (q : ℕ × ℕ)
+    → Contains (map f xs) q → Contains (map f ys) q
+moved f d xs ys same q among =
+    let within : among.0 < length xs = omega (arith, length-map xs f, among.1) in
+    let x = get_or xs among.0 d in
+    let own : f x ≡ q = sym (get_or-map f xs among.0 d q within) ∙ among.2 in
+    let there = same x (Contains-get_or xs among.0 d within) in (
       there.0,
-      omega (arith, length-map ys pair_of, there.1),
-      get_or-map pair_of ys there.0 n q there.1 ∙ ap pair_of there.2 ∙ own,
+      omega (arith, length-map ys f, there.1),
+      get_or-map f ys there.0 x q there.1 ∙ ap f there.2 ∙ own,
     )
 
 -- the pairs of the same numbers are the same
@@ -110,7 +112,24 @@ pub same_pairs : (kept made : List ℕ) (pairs : List (ℕ × ℕ)) → map pair
     → (q : ℕ × ℕ) → Contains (map pair_of kept) q ↔ Contains pairs q
 same_pairs kept made pairs is same q = (
   λ among. subst (λ (ps : List (ℕ × ℕ)). Contains ps q) is
-      (moved kept made (λ n. (same n).0) q among),
-  λ among. moved made kept (λ n. (same n).1) q
+      (moved pair_of 0 kept made (λ n. (same n).0) q among),
+  λ among. moved pair_of 0 made kept (λ n. (same n).1) q
       (subst (λ (ps : List (ℕ × ℕ)). Contains ps q) (sym is) among),
 )
+
+-- ---- rows for every source
+
+-- the same pairs have the same groups
+pub same_groups : (kept pairs made every : List (ℕ × ℕ))
+    → ((q : ℕ × ℕ) → Contains kept q ↔ Contains pairs q) → made ≡ keys_for_every_source pairs
+    → ((q : ℕ × ℕ) → Contains every q ↔ Contains made q)
+    → set.from_list {R = key_cmp} every ≡ set.from_list (keys_for_every_source kept)
+same_groups kept pairs made every same is all =
+    let group : ℕ × ℕ → ℕ × ℕ = λ key. (0, key.1) in
+    same_set every made all
+    ∙ ap (λ (l : List (ℕ × ℕ)). set.from_list {R = key_cmp} l) is
+    ∙ ap (λ (s : set.FinSet key_cmp). set.insert s (0, 0))
+    (same_set (map group pairs) (map group kept) (λ q. (
+      moved group (0, 0) pairs kept (λ p. (same p).1) q,
+      moved group (0, 0) kept pairs (λ p. (same p).0) q,
+    )))

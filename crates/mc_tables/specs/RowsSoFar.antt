@@ -84,6 +84,15 @@ abbrev pub first_fault : {A : Type 0} → List OtherRow → Result A TableFault 
 first_fault others (Ok x) = Ok x
 first_fault others (Err fault) = without_repeat others >>= λ _. Err fault
 
+-- the first fault, where a line has one of this kind
+abbrev pub first_refusal : Result (Unit {0}) TableFault → TableFault → TableFault
+first_refusal (Ok u) fault = fault
+first_refusal (Err first) fault = first
+
+abbrev pub refused : List OtherRow → ℕ → TableFaultKind → TableFault
+refused others line kind =
+    first_refusal (without_repeat others) (record { line = line; kind = kind })
+
 -- a line more, or the first fault
 abbrev pub row_step : ListedSoFar → LineText → Result ListedSoFar TableFault
 row_step so_far line = first_fault so_far.rows.others (at_line line.number (line_added so_far line))

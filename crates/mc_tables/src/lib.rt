@@ -21,6 +21,7 @@ mod listed_pairs;
 mod listed_rows;
 mod lowest_pairs;
 mod marked_line;
+mod noted_pairs;
 mod notes_so_far;
 mod other_rows;
 mod outgoing;
@@ -47,6 +48,7 @@ pub use laws::{
     vifs_are_numbered_to_31,
 };
 pub use listed_pairs::ListedPairs;
+pub use noted_pairs::NotedPairs;
 pub use vif::Vif;
 pub use vif_reader::VifReader;
 pub use vif_table::VifTable;

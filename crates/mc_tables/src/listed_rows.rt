@@ -1,6 +1,6 @@
 //! The rows of a cache, of which those of listed sources and groups are kept.
 
-ghost use Rattle.std.specs.Prelude.{◌≡◌, ◌≢◌, [], ◌<◌, ◌≤◌, length, OnOk, OnErr, IfErr, IfOk, Ok};
+ghost use Rattle.std.specs.Prelude.{◌≡◌, ◌≢◌, [], ◌+◌, ◌<◌, ◌≤◌, length, OnOk, OnErr, IfErr, IfOk, Ok};
 ghost use Rattle.std.specs.Prelude.{Err};
 ghost use Rattle.mc_text.specs.LineView.{line_text};
 ghost use Rattle.mc_tables.specs.declared.fault.TableFaultKind.TheVariants.{Memory};
@@ -8,7 +8,10 @@ ghost use Rattle.mc_tables.specs.CacheTable.{IsCache};
 ghost use Rattle.mc_tables.specs.OtherRows.{without_repeat};
 ghost use Rattle.mc_tables.specs.CacheSteps.{row_with_room};
 ghost use Rattle.mc_tables.specs.FlatRows.{row_with};
-ghost use Rattle.mc_tables.specs.RowsSoFar.{no_rows, line_added};
+ghost use Rattle.mc_tables.specs.ListedRows.{is_kept_by};
+ghost use Rattle.mc_tables.specs.RowsSoFar.{no_rows, one_added, line_added, refused};
+ghost use Rattle.mc_tables.specs.NotesSoFar.{line_noted};
+ghost use Rattle.mc_tables.specs.Steps.{out_of_memory};
 
 use crate::cache_line::read_row;
 use crate::cache_row::CacheRow;
@@ -17,6 +20,7 @@ use crate::entry::Oif;
 use crate::fault::{TableFault, TableFaultKind};
 use crate::header::check_header;
 use crate::key_numbers::KeyNumbers;
+use crate::notes_so_far::NotesSoFar;
 use crate::other_rows::OtherRows;
 use crate::rows::Rows;
 use mc_text::{Line, Order};
@@ -89,11 +93,50 @@ impl ListedRows {
         ensures others { OnErr result (self.new.rows.others ≡ self.old.rows.others) }
     {
         let row = read_row_with_room(self.count, line, self.order, &mut self.oifs)?;
-        if !self.kept.add(&row, &self.oifs)? {
-            self.others.add(row.origin, row.group, line.number)?;
-        }
-        self.count += 1;
+        let (kept, others, count) = (&mut self.kept, &mut self.others, &mut self.count);
+        add_read(kept, others, count, &row, &self.oifs, line.number)?;
         Ok(())
+    }
+
+    /// The same, and notes the row.
+    pub fn add_noted(
+        &mut self,
+        line: &Line<'_>,
+        notes: &mut NotesSoFar,
+    ) -> Result<(), TableFaultKind>
+        requires listed { notes.old.listed ≡ self.old.listed }
+        requires first { length notes.old.first.table.numbered ≤ self.old.rows.count }
+        requires unlisted { notes.old.unlisted ≤ self.old.rows.count }
+        ensures added { OnOk result (line_added self.old (line_text line.now) ≡ Ok self.new) }
+        ensures noted { OnOk result
+            (notes.new ≡ line_noted self.old.order notes.old (line_text line.now)) }
+        ensures fault { IfErr result (λ fault. fault ≢ Memory →
+            line_added self.old (line_text line.now) ≡ Err fault) }
+        ensures others { IfErr result (λ fault. fault ≢ Memory →
+            self.new.rows.others ≡ self.old.rows.others) }
+        ensures listed { notes.new.listed ≡ self.new.listed }
+        ensures first { length notes.new.first.table.numbered ≤ self.new.rows.count }
+        ensures unlisted { notes.new.unlisted ≤ self.new.rows.count }
+    {
+        let row = read_row_with_room(self.count, line, self.order, &mut self.oifs)?;
+        let (kept, others, count) = (&mut self.kept, &mut self.others, &mut self.count);
+        let is_kept = add_read(kept, others, count, &row, &self.oifs, line.number)?;
+        notes.add(&row, &self.oifs, is_kept)
+    }
+
+    /// What a line is refused for that has this fault: an earlier row that repeats one comes first.
+    pub fn refused_at(&mut self, line: u32, kind: TableFaultKind) -> TableFault
+        ensures memory { kind ≡ Memory → result ≡ out_of_memory }
+        ensures first { kind ≢ Memory → result ≢ out_of_memory →
+            refused self.old.rows.others line kind ≡ result }
+    {
+        if kind == TableFaultKind::Memory {
+            return kind.at(0);
+        }
+        match self.check_repeats() {
+            Ok(()) => kind.at(line),
+            Err(first) => first,
+        }
     }
 
     /// Refuses rows of which one isn't kept and has the source and the group of an earlier line's.
@@ -103,6 +146,42 @@ impl ListedRows {
     {
         self.others.check_repeats()
     }
+}
+
+/// Adds a row that was read, with its outgoing vifs, and answers whether it is kept.
+fn add_read(
+    kept: &mut CacheRows,
+    others: &mut OtherRows,
+    count: &mut usize,
+    row: &CacheRow,
+    oifs: &[Oif],
+    line: u32,
+) -> Result<bool, TableFaultKind>
+    requires room { count.old < 65536 }
+    requires few { length oifs.now ≤ 32 }
+    requires numbered { length kept.old.table.numbered ≤ count.old }
+    ensures kept { IfOk result (λ is_kept.
+        is_kept ≡ is_kept_by kept.old.listed (row_with row.now oifs.now)) }
+    ensures added { OnOk result (one_added kept.old.listed
+        (record { table = kept.old.table; others = others.old; count = count.old })
+        (row_with row.now oifs.now) line
+        ≡ Ok (record { table = kept.new.table; others = others.new; count = count.new })) }
+    ensures fault { IfErr result (λ fault. fault ≢ Memory → one_added kept.old.listed
+        (record { table = kept.old.table; others = others.old; count = count.old })
+        (row_with row.now oifs.now) line
+        ≡ Err fault) }
+    ensures others { OnErr result (others.new ≡ others.old) }
+    ensures listed { kept.new.listed ≡ kept.old.listed }
+    ensures numbered { length kept.new.table.numbered ≤ count.new }
+    ensures count { OnOk result (count.new ≡ count.old + 1) }
+    ensures same { OnErr result (count.new ≡ count.old) }
+{
+    let is_kept = kept.add(row, oifs)?;
+    if !is_kept {
+        others.add(row.origin, row.group, line)?;
+    }
+    *count += 1;
+    Ok(is_kept)
 }
 
 /// Reads the row of a line after so many others.
@@ -150,11 +229,7 @@ impl Rows for ListedRows {
         }
         match self.add_row(line) {
             Ok(()) => Ok(()),
-            Err(TableFaultKind::Memory) => Err(TableFaultKind::Memory.at(0)),
-            Err(kind) => {
-                self.check_repeats()?;
-                Err(kind.at(line.number))
-            }
+            Err(kind) => Err(self.refused_at(line.number, kind)),
         }
     }
 }

@@ -1,0 +1,14 @@
+use Rattle.std.proofs.Common.{ℕ, ◌≡◌, ◌∙◌, List, ap}
+use Rattle.mc_tables.specs.Notes.{keys_for_every_source}
+use Rattle.mc_tables.proofs.ListedPairLemmas.{same_groups}
+use Rattle.mc_tables.proofs.noted_pairs.NotedPairs.of.Goals as goal
+
+pub invariant_of-result : goal.invariant_of-result
+invariant_of-result c =
+    let made : c.deref.result.now ≡ keys_for_every_source c.args.pairs.now =
+    c.deref.ensures.value ∙ c.in_ok-pairs_for_every_source.ensures in (
+      c.in_ok-clone.ensures.cases,
+      same_groups c.in_ok-pairs.pairs c.args.pairs.now c.deref.result.now
+          c.in_ok-for_every_source.for_every_source c.in_ok-pairs.ensures made
+          c.in_ok-for_every_source.ensures,
+    )

@@ -31,6 +31,7 @@ pub mod RowsSoFarLemmas
 pub mod RowRuleLemmas
 pub mod LowestLemmas
 pub mod NoteLemmas
+pub mod NotedLemmas
 pub mod ListedPartLemmas
 pub mod RuleLemmas
 pub mod LawLemmas

@@ -27,7 +27,7 @@ key_is : (key k : ℕ × ℕ) → same_key key k ≡ ((k.0 == key.0) && (k.1 == 
 key_is key k = grind (arith, nat_tests)
 
 -- the set has those that are listed
-in_listed : (listed : Listed) (key : ℕ × ℕ) → is_in (listed_set listed) key ≡ is_listed listed key
+pub in_listed : (listed : Listed) (key : ℕ × ℕ) → is_in (listed_set listed) key ≡ is_listed listed key
 in_listed None key = refl
 in_listed (Some keys) key =
     set.contains-from_list key_total keys key

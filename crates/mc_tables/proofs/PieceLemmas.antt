@@ -230,7 +230,7 @@ left_begun lines without some =
     ∙ line_alone (lines.ended + 1) lines.begun without some
 
 -- and else there is none
-left_none : (lines : LinesSoFar) → eqb (length lines.begun) 0 ≡ true → lines_to_come lines [] ≡ []
+pub left_none : (lines : LinesSoFar) → eqb (length lines.begun) 0 ≡ true → lines_to_come lines [] ≡ []
 left_none lines none =
     ap (lines_from (lines.ended + 1)) (append-nil lines.begun ∙ empty_is lines.begun none)
 

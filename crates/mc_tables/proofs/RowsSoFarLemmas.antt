@@ -48,12 +48,12 @@ bind_twice true d x f g = refl
 bind_twice false d x f g = refl
 
 -- one element more that passes, and one that doesn't
-filter_more : {X : Type 0} (p : X → Bool) (xs : List X) (x : X) → p x ≡ true
+pub filter_more : {X : Type 0} (p : X → Bool) (xs : List X) (x : X) → p x ≡ true
     → filter p (xs ++ x ∷ []) ≡ filter p xs ++ x ∷ []
 filter_more p xs x is =
     filter-append p xs (x ∷ []) ∙ ap (λ b. filter p xs ++ cond b (x ∷ []) []) is
 
-filter_same : {X : Type 0} (p : X → Bool) (xs : List X) (x : X) → p x ≡ false
+pub filter_same : {X : Type 0} (p : X → Bool) (xs : List X) (x : X) → p x ≡ false
     → filter p (xs ++ x ∷ []) ≡ filter p xs
 filter_same p xs x is =
     filter-append p xs (x ∷ []) ∙ ap (λ b. filter p xs ++ cond b (x ∷ []) []) is
@@ -81,7 +81,7 @@ others_more listed rows row key is own =
     ∙ keys_more (filter (λ r. not (is_kept listed r)) rows) row key own
 
 -- one row more counts one more
-one_more : (rows : List RowText) (row : RowText) → length (rows ++ row ∷ []) ≡ length rows + 1
+pub one_more : (rows : List RowText) (row : RowText) → length (rows ++ row ∷ []) ≡ length rows + 1
 one_more rows row = length-append rows (row ∷ [])
 
 -- ---- lines by their numbers

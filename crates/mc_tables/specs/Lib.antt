@@ -21,6 +21,7 @@ pub mod Apart
 pub mod RowsSoFar
 pub mod Notes
 pub mod NotesSoFar
+pub mod NotedReading
 pub use Rattle.mc_text.specs.Addr
 pub use Rattle.mc_text.specs.AddressReading
 pub use Rattle.mc_text.specs.DeviceName

@@ -1,18 +1,13 @@
 -- What is noted of the rows of a cache besides the table of those that are kept.
 use Rattle.std.specs.Prelude.{ℕ, ◌==◌, Bool, not, List, [], ◌∷◌, length, take, filter}
-use Rattle.std.specs.Prelude.{map as map_list, Option, Some, None, Result, Ok, if◌then◌else◌}
+use Rattle.std.specs.Prelude.{map as map_list, Option, Some, None, if◌then◌else◌}
 use Rattle.std.specs.Coded.{Coded, coded×, coded_ℕ}
 use Rattle.std.specs.List.{filter_map}
 use Rattle.std.specs.Option.{option_map}
 use Rattle.std.specs.FinMap as map
 use Rattle.std.specs.FinSet as set
-use Rattle.mc_text.specs.declared.text.addr.Order.{Order}
-use Rattle.mc_tables.specs.declared.fault.TableFault.{TableFault}
-use Rattle.mc_text.specs.Steps.{◌>>=◌}
-use Rattle.mc_tables.specs.CacheTable.{EntryText, RowText, CacheText, entry_code, key_cmp, key_of}
-use Rattle.mc_tables.specs.CacheTable.{table_of}
-use Rattle.mc_tables.specs.CacheReading.{cache_rows_in}
-use Rattle.mc_tables.specs.ListedRows.{is_listed, kept_rows}
+use Rattle.mc_tables.specs.CacheTable.{EntryText, RowText, entry_code, key_cmp, key_of}
+use Rattle.mc_tables.specs.ListedRows.{is_listed}
 
 -- ---- rows
 
@@ -74,18 +69,6 @@ notes_of listed rows = record {
   unlisted = length (unlisted_keys listed rows);
   lowest = take 20 (in_order (map_list group_first (unlisted_keys listed rows)));
 }
-
--- ---- the table and the notes
-
-pub record NotedText : Type 0 where
-  pub table : CacheText
-  pub notes : NotesText
-
--- those of a text's rows, of which the listed ones are kept, or the first fault
-abbrev pub noted_in : Order → List (ℕ × ℕ) → List ℕ → Result NotedText TableFault
-noted_in order listed text =
-    cache_rows_in order text >>= λ rows.
-    Ok (record { table = table_of (kept_rows (Some listed) rows); notes = notes_of listed rows })
 
 -- ---- look-ups
 

@@ -1,6 +1,6 @@
 -- Notes of a cache whose text comes in pieces, row by row.
 use Rattle.std.specs.Prelude.{◌≡◌, ℕ, ◌+◌, ◌&&◌, true, false, not, List, [], ◌∷◌, ◌++◌}
-use Rattle.std.specs.Prelude.{take, Option, Some, None, is_some, Result, Ok, Err, codes}
+use Rattle.std.specs.Prelude.{take, Option, Some, None, is_some, Result, Ok, Err}
 use Rattle.std.specs.Prelude.{if◌then◌else◌}
 use Rattle.std.specs.FinMap as map
 use Rattle.std.specs.FinSet as set
@@ -8,20 +8,15 @@ use Rattle.std.specs.declared.cmp.Ordering.{Ordering}
 use Rattle.std.specs.declared.cmp.Ordering.TheVariants.{Less, Equal, Greater}
 use Rattle.mc_text.specs.declared.text.addr.Order.{Order}
 use Rattle.mc_text.specs.Lines.{LineText, words_of}
-use Rattle.mc_text.specs.Steps.{◌>>=◌}
-use Rattle.mc_tables.specs.declared.fault.TableFault.{TableFault}
 use Rattle.mc_tables.specs.declared.fault.TableFaultKind.{TableFaultKind}
 use Rattle.mc_tables.specs.declared.listed_numbers.Numbered.{Numbered}
 use Rattle.mc_tables.specs.declared.listed_numbers.Numbered.TheVariants.{New, Repeated, Unlisted}
-use Rattle.mc_tables.specs.Steps.{unless_fault}
-use Rattle.mc_tables.specs.LinesSoFar.{LinesSoFar, no_lines, read_after, lines_to_come}
-use Rattle.mc_tables.specs.CacheTable.{EntryText, RowText, CacheText, key_cmp, key_of, table_of}
+use Rattle.mc_tables.specs.CacheTable.{EntryText, RowText, key_cmp, key_of, table_of}
 use Rattle.mc_tables.specs.CacheNumbers.{KeptText}
 use Rattle.mc_tables.specs.CacheReading.{row_in_words}
 use Rattle.mc_tables.specs.ListedRows.{ListedSet, is_in, listed_set}
-use Rattle.mc_tables.specs.RowsSoFar.{ListedSoFar, no_rows, row_step, table_from}
 use Rattle.mc_tables.specs.Notes.{unresolved_key, every_source_entry, keys_for_every_source}
-use Rattle.mc_tables.specs.Notes.{group_first, in_order, NotesText, NotedText}
+use Rattle.mc_tables.specs.Notes.{group_first, NotesText}
 
 -- ---- one entry more
 
@@ -157,45 +152,3 @@ line_noted order notes line = read_noted notes (row_in_words order (words_of lin
 abbrev pub notes_from : Order → NotesSoFar → List LineText → NotesSoFar
 notes_from order notes [] = notes
 notes_from order notes (line ∷ lines) = notes_from order (line_noted order notes line) lines
-
--- the rows so far and the notes of them
-pub record NotedSoFar : Type 0 where
-  pub rows : ListedSoFar
-  pub notes : NotesSoFar
-
--- a line more, or the first fault
-abbrev pub noted_step : NotedSoFar → LineText → Result NotedSoFar TableFault
-noted_step so_far line =
-    row_step so_far.rows line >>= λ rows.
-    Ok (record { rows = rows; notes = line_noted so_far.rows.order so_far.notes line })
-
--- the table and the notes of these rows and those of the lines after them, or the first fault
-abbrev pub noted_from : NotedSoFar → List LineText → Result NotedText TableFault
-noted_from so_far lines =
-    table_from so_far.rows lines >>= λ table.
-    Ok (record { table = table; notes = told (notes_from so_far.rows.order so_far.notes lines) })
-
--- ---- how far reading has come
-
--- the lines, the rows with the notes, and the fault if one was answered
-pub record NotedCacheSoFar : Type 0 where
-  pub lines : LinesSoFar
-  pub rows : NotedSoFar
-  pub fault : Option TableFault
-
--- nothing has come, and these are listed
-abbrev pub no_noted_rows : Order → List (ℕ × ℕ) → NotedSoFar
-no_noted_rows order listed =
-    record { rows = no_rows order (listed_set (Some listed)); notes = no_notes listed }
-
-abbrev pub no_noted_cache : Order → List (ℕ × ℕ) → NotedCacheSoFar
-no_noted_cache order listed =
-    record { lines = no_lines; rows = no_noted_rows order listed; fault = None }
-
--- the table and the notes if these bytes come
-abbrev pub noted_after : LinesSoFar → NotedSoFar → List ℕ → Result NotedText TableFault
-noted_after lines so_far more = read_after (codes "Group") (noted_from so_far) lines more
-
--- what reading ends with if these bytes come: the table and the notes, or the first fault
-abbrev pub noted_if : NotedCacheSoFar → List ℕ → Result NotedText TableFault
-noted_if cache more = unless_fault cache.fault (noted_after cache.lines cache.rows more)

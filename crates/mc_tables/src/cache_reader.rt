@@ -141,9 +141,11 @@ impl CacheReader {
 }
 
 /// Refuses a text that ends here: a row that repeats one, and then its last line.
-fn check_end(lines: &PieceLines, rows: &mut ListedRows) -> Result<(), TableFault>
+pub(crate) fn check_end(lines: &PieceLines, rows: &mut ListedRows) -> Result<(), TableFault>
     ensures end { result ≡ rows_end lines.now rows.old }
     ensures table { rows.new.rows.table ≡ rows.old.rows.table }
+    ensures listed { rows.new.listed ≡ rows.old.listed }
+    ensures count { rows.new.rows.count ≡ rows.old.rows.count }
     ensures rules { AreLinesSoFar lines.now }
 {
     // Before the header has ended there are no rows.

@@ -21,7 +21,10 @@ mod listed_pairs;
 mod listed_rows;
 mod lowest_pairs;
 mod marked_line;
+mod noted_cache;
 mod noted_pairs;
+mod noted_reader;
+mod noted_rows;
 mod notes_so_far;
 mod other_rows;
 mod outgoing;
@@ -48,7 +51,9 @@ pub use laws::{
     vifs_are_numbered_to_31,
 };
 pub use listed_pairs::ListedPairs;
+pub use noted_cache::NotedCache;
 pub use noted_pairs::NotedPairs;
+pub use noted_reader::NotedReader;
 pub use vif::Vif;
 pub use vif_reader::VifReader;
 pub use vif_table::VifTable;

@@ -129,6 +129,8 @@ impl ListedRows {
         ensures memory { kind ≡ Memory → result ≡ out_of_memory }
         ensures first { kind ≢ Memory → result ≢ out_of_memory →
             refused self.old.rows.others line kind ≡ result }
+        ensures listed { self.new.listed ≡ self.old.listed }
+        ensures count { self.new.rows.count ≡ self.old.rows.count }
     {
         if kind == TableFaultKind::Memory {
             return kind.at(0);
@@ -143,6 +145,8 @@ impl ListedRows {
     pub fn check_repeats(&mut self) -> Result<(), TableFault>
         ensures repeats { result ≡ without_repeat self.old.rows.others }
         ensures table { self.new.rows.table ≡ self.old.rows.table }
+        ensures listed { self.new.listed ≡ self.old.listed }
+        ensures count { self.new.rows.count ≡ self.old.rows.count }
     {
         self.others.check_repeats()
     }

@@ -263,3 +263,15 @@ pub lowest_more : (ps : List (ℕ × ℕ)) (pair : ℕ × ℕ)
     → take 20 (in_order (ps ++ pair ∷ [])) ≡ take 20 (put_pair pair (take 20 (in_order ps)))
 lowest_more ps pair =
     ap (take 20) (order_more ps pair) ∙ sym (take_put 20 pair (in_order ps))
+
+-- a list of no length
+empty_is : {A : Type 0} (xs : List A) → length xs ≡ 0 → xs ≡ []
+empty_is [] none = refl
+empty_is (x ∷ xs) none = absurd (omega (arith, none))
+
+-- none is the lowest of none
+pub nothing_lowest : [] ≡ take 20 (in_order [])
+nothing_lowest =
+    let none = fin.empty {X = Unit {0}} {R = key_cmp} in
+    ap (λ (es : List ((ℕ × ℕ) × Unit {0})). take 20 (map (λ (e : (ℕ × ℕ) × Unit {0}). e.0) es))
+    (sym (empty_is (fin.entries none) (sym (fin.len-entries none) ∙ fin.len-empty key_cmp (Unit {0}))))

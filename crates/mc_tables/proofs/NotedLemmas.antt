@@ -1,12 +1,12 @@
 -- A cache that is read with notes of its rows.
-use Rattle.std.proofs.Common.{◌≡◌, ℕ, ◌+◌, ◌≤◌, true, false, cond, eqb, List, [], ◌∷◌, ◌++◌, length, take}
+use Rattle.std.proofs.Common.{◌≡◌, ℕ, ◌+◌, ◌≤◌, Bool, true, false, cond, eqb, List, [], ◌∷◌, ◌++◌, length, take}
 use Rattle.std.proofs.Common.{drop, Option, Some, None, Result, Ok, Err, refl, sym, ap, subst, ◌∙◌, inl, inr}
 use Rattle.std.specs.Prelude.{◌&&◌, not, nat_lt, filter, is_some, map as map_list, codes}
 use Rattle.std.specs.FinMap as map
 use Rattle.std.specs.FinSet as set
 use Rattle.std.specs.List.{filter_map, cons_option}
 use Rattle.std.specs.Ordering.{eq_by_cmp}
-use Rattle.std.proofs.lemmas.Bool.{cases_Bool}
+use Rattle.std.proofs.lemmas.Bool.{cases_Bool, le-ltb}
 use Rattle.std.proofs.lemmas.List.{append-nil, length_push, map-append}
 use Rattle.std.proofs.lemmas.List.Elements.{filter_map-append}
 use Rattle.mc_text.specs.declared.text.addr.Order.{Order}
@@ -21,6 +21,7 @@ use Rattle.mc_tables.specs.TableLines.{header_in, lines_in, rows_after}
 use Rattle.mc_tables.specs.LinesSoFar.{LinesSoFar, WithoutLineFeed, header_line, lines_to_come, no_lines}
 use Rattle.mc_tables.specs.LinesSoFar.{ReadsInSteps}
 use Rattle.mc_tables.specs.CacheTable.{CacheText, EntryText, RowText, key_cmp, key_of, table_of}
+use Rattle.mc_tables.specs.CacheNumbers.{KeptText}
 use Rattle.mc_tables.specs.CacheReading.{cache_rows_in, entry_repeats, row_at, row_in_line, row_in_words}
 use Rattle.mc_tables.specs.CacheSteps.{row_with_room}
 use Rattle.mc_tables.specs.ListedRows.{is_in, is_listed, kept_rows, listed_set}
@@ -30,8 +31,8 @@ use Rattle.mc_tables.specs.RowsSoFar.{listed_added, one_added, row_step, rows_en
 use Rattle.mc_tables.specs.Notes.{every_source_entry, group_first, in_order, keys_for_every_source}
 use Rattle.mc_tables.specs.Notes.{notes_of, unlisted_keys, unresolved_key}
 use Rattle.mc_tables.specs.NotesSoFar.{NotesSoFar, every_source_noted, exact_noted, line_noted}
-use Rattle.mc_tables.specs.NotesSoFar.{no_notes, notes_from, read_noted, row_noted, told}
-use Rattle.mc_tables.specs.NotesSoFar.{unresolved_noted}
+use Rattle.mc_tables.specs.NotesSoFar.{first_added, no_notes, notes_from, put_pair, read_noted, row_noted, told}
+use Rattle.mc_tables.specs.NotesSoFar.{unresolved_noted, with_entry}
 use Rattle.mc_tables.specs.NotedReading.{NotedSoFar, no_noted_cache, no_noted_rows, noted_after}
 use Rattle.mc_tables.specs.NotedReading.{noted_from, noted_if, noted_in, noted_step}
 use Rattle.mc_text.proofs.StepLemmas.{bind_ok, ok_is}
@@ -39,7 +40,7 @@ use Rattle.mc_tables.proofs.StepLemmas.{at_line_ok, demand_then}
 use Rattle.mc_tables.proofs.CacheLemmas.{key_total}
 use Rattle.mc_tables.proofs.CacheMapLemmas.{key_antisymmetric}
 use Rattle.mc_tables.proofs.ListedLemmas.{in_listed}
-use Rattle.mc_tables.proofs.LowestLemmas.{lowest_more}
+use Rattle.mc_tables.proofs.LowestLemmas.{lowest_more, nothing_lowest}
 use Rattle.mc_tables.proofs.NumberLemmas.{no_some}
 use Rattle.mc_tables.proofs.OtherRowLemmas.{same_is}
 use Rattle.mc_tables.proofs.PieceLemmas.{left_none}
@@ -197,9 +198,52 @@ record Tells (listed unresolved : List (ℕ × ℕ)) (exacts : List ((ℕ × ℕ
   pub unlisted_is : notes.unlisted ≡ length (NotIn listed keys)
   pub lowest_is : notes.lowest ≡ take 20 (in_order (map_list group_first (NotIn listed keys)))
 
--- a source and a group are among the listed ones where they are listed
-in_set : (listed : List (ℕ × ℕ)) (s : set.FinSet key_cmp) (key : ℕ × ℕ) → Unit {0} → Unit {0}
-in_set listed s key u = u
+-- entries, of which the last has a key that none before it has
+entry_new : (es : List ((ℕ × ℕ) × EntryText)) (exact : (ℕ × ℕ) × EntryText)
+    → is_some (map.get (map.from_entries {R = key_cmp} es) exact.0) ≡ false
+    → map.from_entries {R = key_cmp} (es ++ exact ∷ [])
+    ≡ map.insert (map.from_entries es) exact.0 exact.1
+entry_new es exact none =
+    map.from_entries_push key_total key_antisymmetric es exact.0 exact.1
+    (sym (map.get-from_entries key_total es exact.0)
+    ∙ no_some (map.get (map.from_entries {R = key_cmp} es) exact.0) none)
+
+-- what is found stays found with one more behind it
+still_found : (q : ℕ × ℕ) (es : List ((ℕ × ℕ) × EntryText)) (exact : (ℕ × ℕ) × EntryText)
+    → is_some (map.find key_cmp q es) ≡ true
+    → map.find key_cmp q (es ++ exact ∷ []) ≡ map.find key_cmp q es
+still_found q [] exact there = absurd cc
+still_found q (e ∷ es) exact there =
+    elim (eq_by_cmp key_cmp q e.0) as (λ b. is_some (cond b (Some e.1) (map.find key_cmp q es)) ≡ true
+    → cond b (Some e.1) (map.find key_cmp q (es ++ exact ∷ []))
+    ≡ cond b (Some e.1) (map.find key_cmp q es)) [
+      | true ↦ λ _. refl
+      | false ↦ still_found q es exact
+    ] there
+
+-- and another key is not found there
+other_found : (q : ℕ × ℕ) (es : List ((ℕ × ℕ) × EntryText)) (exact : (ℕ × ℕ) × EntryText)
+    → eq_by_cmp key_cmp q exact.0 ≡ false
+    → map.find key_cmp q (es ++ exact ∷ []) ≡ map.find key_cmp q es
+other_found q [] exact other = ap (λ b. cond b (Some exact.1) None) other
+other_found q (e ∷ es) exact other =
+    ap (cond (eq_by_cmp key_cmp q e.0) (Some e.1)) (other_found q es exact other)
+
+-- entries, of which the last has the key of one before it
+entry_again : (es : List ((ℕ × ℕ) × EntryText)) (exact : (ℕ × ℕ) × EntryText)
+    → is_some (map.get (map.from_entries {R = key_cmp} es) exact.0) ≡ true
+    → map.from_entries {R = key_cmp} (es ++ exact ∷ []) ≡ map.from_entries es
+entry_again es exact there =
+    let found : is_some (map.find key_cmp exact.0 es) ≡ true =
+    ap is_some (sym (map.get-from_entries key_total es exact.0)) ∙ there in
+    map.same_map key_total key_antisymmetric _ _ (λ q.
+    map.get-from_entries key_total (es ++ exact ∷ []) q
+    ∙ elim (cases_Bool (eq_by_cmp key_cmp q exact.0)) [
+      | inl same ↦ still_found q es exact
+          (ap (λ (k : ℕ × ℕ). is_some (map.find key_cmp k es)) (same_is q exact.0 same) ∙ found)
+      | inr other ↦ other_found q es exact other
+    ]
+    ∙ sym (map.get-from_entries key_total es q))
 
 module _ (listed unresolved : List (ℕ × ℕ)) (exacts : List ((ℕ × ℕ) × EntryText))
     (keys : List (ℕ × ℕ)) (notes : NotesSoFar)
@@ -230,3 +274,213 @@ module _ (listed unresolved : List (ℕ × ℕ)) (exacts : List ((ℕ × ℕ) ×
     unlisted_is = before.unlisted_is;
     lowest_is = before.lowest_is;
   }
+
+  -- one more that may be for every source
+  tells_first : (own : Option ((ℕ × ℕ) × EntryText))
+      → Tells listed unresolved (exacts ++ cons_option own []) keys (every_source_noted notes own)
+  tells_first None = rw append-nil before
+  tells_first (Some exact) =
+      let groups = keys_for_every_source listed in
+      let old = notes.first in
+      let first = EntriesIn groups exacts in
+      let one = with_entry old exact.0 exact.1 in
+      let there = is_some (map.get old.table.entries exact.0) in
+      let known : is_in old.listed exact.0 ≡ is_listed (Some groups) exact.0 =
+      ap (λ l. is_in l exact.0) before.first_listed ∙ in_listed (Some groups) exact.0 in
+      let kept : first_added old exact.0 exact.1
+      ≡ cond (is_listed (Some groups) exact.0 && not there) one old =
+      ap (λ b. cond (b && not there) one old) known in
+      let has_it : is_some (map.get (map.from_entries {R = key_cmp} first) exact.0) ≡ there =
+      ap (λ (m : map.FinMap key_cmp EntryText). is_some (map.get m exact.0)) (sym before.first_is) in
+      let more : List ((ℕ × ℕ) × EntryText) → Type 0 = λ l.
+      (cond (is_listed (Some groups) exact.0 && not there) one old).table.entries
+      ≡ map.from_entries l in
+      record {
+        listed_is = before.listed_is;
+        first_listed = ap (λ (k : KeptText). k.listed) kept
+            ∙ elim (is_listed (Some groups) exact.0 && not there) as (λ b.
+            (cond b one old).listed ≡ listed_set (Some groups)) [
+              | true ↦ before.first_listed
+              | false ↦ before.first_listed
+            ];
+        unresolved_is = before.unresolved_is;
+        first_is = ap (λ (k : KeptText). k.table.entries) kept
+            ∙ elim (cases_Bool (is_listed (Some groups) exact.0)) [
+              | inr other ↦
+                  ap (λ b. (cond (b && not there) one old).table.entries) other
+                  ∙ before.first_is
+                  ∙ ap (λ l. map.from_entries l)
+                  (sym (filter_same (λ e. is_listed (Some groups) e.0) exacts exact other))
+              | inl is ↦
+                  ap (λ b. (cond (b && not there) one old).table.entries) is
+                  ∙ elim (cases_Bool there) [
+                    | inl again ↦
+                        ap (λ b. (cond (not b) one old).table.entries) again
+                        ∙ before.first_is
+                        ∙ sym (entry_again first exact (has_it ∙ again))
+                    | inr new ↦
+                        ap (λ b. (cond (not b) one old).table.entries) new
+                        ∙ ap (λ (m : map.FinMap key_cmp EntryText). map.insert m exact.0 exact.1)
+                        before.first_is
+                        ∙ sym (entry_new first exact (has_it ∙ new))
+                  ]
+                  ∙ ap (λ l. map.from_entries l)
+                  (sym (filter_more (λ e. is_listed (Some groups) e.0) exacts exact is))
+            ];
+        unlisted_is = before.unlisted_is;
+        lowest_is = before.lowest_is;
+      }
+
+  -- one more that may be of a source and a group
+  tells_key : (own : Option (ℕ × ℕ))
+      → Tells listed unresolved exacts (keys ++ cons_option own []) (exact_noted notes own)
+  tells_key None = rw append-nil before
+  tells_key (Some key) =
+      let passes : ℕ × ℕ → Bool = λ k. not (is_listed (Some listed) k) in
+      elim (cases_Bool (is_listed (Some listed) key)) [
+        | inl is ↦
+            rw (has key ∙ is) (record {
+              listed_is = before.listed_is;
+              first_listed = before.first_listed;
+              unresolved_is = before.unresolved_is;
+              first_is = before.first_is;
+              unlisted_is = before.unlisted_is
+                  ∙ ap length (sym (filter_same passes keys key (ap not is)));
+              lowest_is = before.lowest_is
+                  ∙ ap (λ l. take 20 (in_order (map_list group_first l)))
+                  (sym (filter_same passes keys key (ap not is)));
+            })
+        | inr other ↦
+            rw (has key ∙ other) (record {
+              listed_is = before.listed_is;
+              first_listed = before.first_listed;
+              unresolved_is = before.unresolved_is;
+              first_is = before.first_is;
+              unlisted_is = ap (λ n. n + 1) before.unlisted_is
+                  ∙ sym (length_push (NotIn listed keys) key)
+                  ∙ ap length (sym (filter_more passes keys key (ap not other)));
+              lowest_is = ap (λ l. take 20 (put_pair (group_first key) l)) before.lowest_is
+                  ∙ sym (lowest_more (map_list group_first (NotIn listed keys)) (group_first key))
+                  ∙ ap (λ l. take 20 (in_order l))
+                  (sym (map-append group_first (NotIn listed keys) (key ∷ [])))
+                  ∙ ap (λ l. take 20 (in_order (map_list group_first l)))
+                  (sym (filter_more passes keys key (ap not other)));
+            })
+      ]
+
+-- the notes so far are those of these rows
+abbrev TellsRows : List (ℕ × ℕ) → List RowText → NotesSoFar → Type 0
+TellsRows listed rows notes =
+    Tells listed (filter_map unresolved_key rows) (filter_map every_source_entry rows)
+    (filter_map key_of rows) notes
+
+-- with one row more
+tells_row : (listed : List (ℕ × ℕ)) (rows : List RowText) (row : RowText) (notes : NotesSoFar)
+    → TellsRows listed rows notes → TellsRows listed (rows ++ row ∷ []) (row_noted notes row)
+tells_row listed rows row notes before =
+    let us = filter_map unresolved_key rows in
+    let es = filter_map every_source_entry rows in
+    let ks = filter_map key_of rows in
+    let u = unresolved_key row in
+    let e = every_source_entry row in
+    let first = tells_unresolved listed us es ks notes before u in
+    let second = tells_first listed (us ++ cons_option u []) es ks (unresolved_noted notes u) first e in
+    let third = tells_key listed (us ++ cons_option u []) (es ++ cons_option e []) ks
+    (every_source_noted (unresolved_noted notes u) e) second (key_of row) in
+    rw (
+      filter_map-append unresolved_key rows (row ∷ []),
+      filter_map-append every_source_entry rows (row ∷ []),
+      filter_map-append key_of rows (row ∷ []),
+    ) third
+
+-- none of them
+tells_none : (listed : List (ℕ × ℕ)) → TellsRows listed [] (no_notes listed)
+tells_none listed = record {
+  listed_is = refl;
+  first_listed = refl;
+  unresolved_is = refl;
+  first_is = refl;
+  unlisted_is = refl;
+  lowest_is = nothing_lowest;
+}
+
+-- what is told of them
+told_is : (listed : List (ℕ × ℕ)) (rows : List RowText) (notes : NotesSoFar)
+    → TellsRows listed rows notes → told notes ≡ notes_of listed rows
+told_is listed rows notes tells =
+    rw (tells.unresolved_is, tells.first_is, tells.unlisted_is, tells.lowest_is) refl
+
+-- ---- the notes of a text's rows
+
+-- a line that is read after others is read as a row
+row_read : (order : Order) (earlier : List RowText) (line : LineText) (row : RowText)
+    → row_in_line order earlier line ≡ Ok row → row_in_words order (words_of line.bytes) ≡ Ok row
+unfolding row_in_line
+row_read order earlier line row is =
+    let words = words_of line.bytes in
+    let judge : RowText → Result RowText TableFaultKind = λ r.
+    demand (not (entry_repeats earlier r)) RepeatedEntry >>= λ _. Ok r in
+    let ended = demand_then line.ended Unended
+    (λ _. demand (nat_lt (length earlier) 65536) TooLarge
+    >>= λ _. row_in_words order words >>= judge) row is in
+    let room = demand_then (nat_lt (length earlier) 65536) TooLarge
+    (λ _. row_in_words order words >>= judge) row ended.1 in
+    let read = bind_ok (row_in_words order words) judge row room.1 in
+    let kept = demand_then (not (entry_repeats earlier read.0)) RepeatedEntry (λ _. Ok read.0) row
+    read.2 in
+    read.1 ∙ kept.1
+
+-- the lines after some rows
+tells_lines : (order : Order) (listed : List (ℕ × ℕ)) (lines : List LineText)
+    (earlier rows : List RowText) (notes : NotesSoFar) → TellsRows listed earlier notes
+    → rows_after (row_at order) earlier lines ≡ Ok rows
+    → TellsRows listed rows (notes_from order notes lines)
+tells_lines order listed [] earlier rows notes tells is =
+    subst (λ (r : List RowText). TellsRows listed r notes)
+    (ok_is {E = TableFault} earlier rows is) tells
+tells_lines order listed (line ∷ lines) earlier rows notes tells is =
+    let read = bind_ok (row_at order earlier line)
+    (λ row. rows_after (row_at order) (earlier ++ row ∷ []) lines) rows is in
+    let row = read.0 in
+    let words : row_in_words order (words_of line.bytes) ≡ Ok row =
+    row_read order earlier line row (at_line_ok line.number (row_in_line order earlier line) row read.1) in
+    let noted : line_noted order notes line ≡ row_noted notes row =
+    ap (read_noted notes) words in
+    tells_lines order listed lines (earlier ++ row ∷ []) rows (line_noted order notes line)
+    (subst (λ (n : NotesSoFar). TellsRows listed (earlier ++ row ∷ []) n) (sym noted)
+    (tells_row listed earlier row notes tells)) read.2
+
+-- the lines after a header
+lines_are : (lines rest : List LineText) → header_in (codes "Group") lines ≡ Ok rest
+    → drop 1 lines ≡ rest
+lines_are [] rest is = absurd cc
+lines_are (header ∷ lines) rest is =
+    let read = bind_ok (at_line 1 (header_line (codes "Group") header)) (λ _. Ok lines) rest is in
+    ok_is {E = TableFault} lines rest read.2
+
+-- with nothing before it, a text is read as the whole text
+pub noted_whole : (order : Order) (listed : List (ℕ × ℕ)) (text : List ℕ)
+    → length text ≤ 16777216
+    → noted_if (no_noted_cache order listed) text ≡ noted_in order listed text
+noted_whole order listed text within =
+    let fits : nat_lt 16777216 (length text) ≡ false = le-ltb 16777216 (length text) within in
+    let start = no_noted_rows order listed in
+    let left = drop 1 (lines_of text) in
+    noted_is no_lines start text
+    ∙ ap (λ r. r >>= with_notes order (no_notes listed) left) (reads_whole order (Some listed) text within)
+    ∙ elim (cache_rows_in order text) as (λ r. cache_rows_in order text ≡ r
+    → ((r >>= λ rows. Ok (table_of (kept_rows (Some listed) rows)))
+    >>= with_notes order (no_notes listed) left)
+    ≡ (r >>= λ rows. Ok (record {
+      table = table_of (kept_rows (Some listed) rows);
+      notes = notes_of listed rows;
+    }))) [
+      | Err fault ↦ λ is. refl
+      | Ok rows ↦ λ is.
+          let read = bind_ok (header_in (codes "Group") (lines_of text)) (rows_after (row_at order) [])
+          rows (rw fits at is) in
+          let tells = tells_lines order listed left [] rows (no_notes listed) (tells_none listed)
+          (ap (rows_after (row_at order) []) (lines_are (lines_of text) read.0 read.1) ∙ read.2) in
+          ap (λ n. Ok (record { table = table_of (kept_rows (Some listed) rows); notes = n }))
+          (told_is listed rows (notes_from order (no_notes listed) left) tells)
+    ] refl

@@ -17,7 +17,7 @@ use Rattle.mc_tables.specs.declared.fault.TableFaultKind.{TableFaultKind}
 use Rattle.mc_tables.specs.declared.fault.TableFaultKind.TheVariants.{RepeatedEntry, TooLarge, Unended}
 use Rattle.mc_tables.specs.declared.noted_cache.NotedCache.{NotedCache}
 use Rattle.mc_tables.specs.Steps.{at_line, demand}
-use Rattle.mc_tables.specs.TableLines.{header_in, lines_in, rows_after}
+use Rattle.mc_tables.specs.TableLines.{header_in, rows_after}
 use Rattle.mc_tables.specs.LinesSoFar.{LinesSoFar, WithoutLineFeed, header_line, lines_to_come, no_lines}
 use Rattle.mc_tables.specs.LinesSoFar.{ReadsInSteps}
 use Rattle.mc_tables.specs.CacheTable.{CacheText, EntryText, RowText, key_cmp, key_of, table_of}
@@ -29,7 +29,7 @@ use Rattle.mc_tables.specs.OtherRows.{OtherRow, without_repeat}
 use Rattle.mc_tables.specs.RowsSoFar.{ListedSoFar, RowsSoFar, cache_after, first_fault, line_added}
 use Rattle.mc_tables.specs.RowsSoFar.{listed_added, one_added, row_step, rows_end, table_from}
 use Rattle.mc_tables.specs.Notes.{every_source_entry, group_first, in_order, keys_for_every_source}
-use Rattle.mc_tables.specs.Notes.{notes_of, unlisted_keys, unresolved_key}
+use Rattle.mc_tables.specs.Notes.{notes_of, unresolved_key}
 use Rattle.mc_tables.specs.NotesSoFar.{NotesSoFar, every_source_noted, exact_noted, line_noted}
 use Rattle.mc_tables.specs.NotesSoFar.{first_added, no_notes, notes_from, put_pair, read_noted, row_noted, told}
 use Rattle.mc_tables.specs.NotesSoFar.{unresolved_noted, with_entry}

@@ -1,5 +1,5 @@
 -- What is noted of the rows of a cache besides the table of those that are kept.
-use Rattle.std.specs.Prelude.{ℕ, ◌==◌, Bool, not, List, [], ◌∷◌, length, take, filter}
+use Rattle.std.specs.Prelude.{ℕ, ◌==◌, not, List, ◌∷◌, length, take, filter}
 use Rattle.std.specs.Prelude.{map as map_list, Option, Some, None, if◌then◌else◌}
 use Rattle.std.specs.Coded.{Coded, coded×, coded_ℕ}
 use Rattle.std.specs.List.{filter_map}

@@ -1,13 +1,11 @@
-use Rattle.std.proofs.Common.{ℕ, ◌≡◌, ◌∙◌, [], ◌∷◌, ◌++◌, List, sym, ap, subst, true, false, refl}
+use Rattle.std.proofs.Common.{ℕ, ◌∙◌, [], ◌∷◌, ◌++◌, List, sym, ap, subst}
 use Rattle.std.specs.Prelude.{is_some}
-use Rattle.std.specs.FinMap as map
 use Rattle.std.proofs.lemmas.List.{length-map, map_push}
 use Rattle.mc_tables.specs.declared.entry.Oif.{Oif}
 use Rattle.mc_tables.specs.CacheTable.{EntryText}
 use Rattle.mc_tables.specs.CacheNumbers.{entries_by, IsNumbered, KeptText, KeysText, MoreNumbers}
 use Rattle.mc_tables.specs.FlatRows.{entry_of, entries_of}
-use Rattle.mc_tables.specs.ListedRows.{is_in}
-use Rattle.mc_tables.specs.NotesSoFar.{with_entry, IsEntered}
+use Rattle.mc_tables.specs.NotesSoFar.{IsEntered}
 use Rattle.mc_tables.specs.declared.listed_numbers.Numbered.TheVariants.{New, Repeated, Unlisted}
 use Rattle.mc_tables.proofs.CacheMapLemmas.{table_kept, entry_there, inserted, more_answers, kept_with}
 use Rattle.mc_tables.proofs.cache_rows.CacheRows.enter.Goals as goal
@@ -65,7 +63,7 @@ returns-in-Repeated-clause-entered c =
       own.0,
       entry_there key numbers (entries_of lists) c.self.invariant ∙ own.1,
       ap (λ (ls : List (ℕ × List Oif)). kept_with c.add.new.self.listed c.add.new.self.numbers
-      (entries_of ls) groups) c.in_ok-reserve.ensures.lists
+          (entries_of ls) groups) c.in_ok-reserve.ensures.lists
           ∙ ap (λ (keys : KeysText). kept_with keys.listed keys.numbers (entries_of lists) groups)
           own.2,
     )
@@ -83,7 +81,7 @@ returns-in-Unlisted-clause-entered c =
     groups) Unlisted) c.self.view_is (
       own.0,
       ap (λ (ls : List (ℕ × List Oif)). kept_with c.add.new.self.listed c.add.new.self.numbers
-      (entries_of ls) groups) c.in_ok-reserve.ensures.lists
+          (entries_of ls) groups) c.in_ok-reserve.ensures.lists
           ∙ ap (λ (keys : KeysText). kept_with keys.listed keys.numbers (entries_of lists) groups)
           own.1,
     )

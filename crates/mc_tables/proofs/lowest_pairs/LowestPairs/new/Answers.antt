@@ -1,4 +1,4 @@
-use Rattle.std.proofs.Common.{ℕ, ◌≤◌, List, [], length, sym, subst, arith}
+use Rattle.std.proofs.Common.{ℕ, ◌≤◌, List, length, sym, subst, arith}
 use Rattle.std.specs.List.Sorted.{IsStrictlySortedBy}
 use Rattle.mc_tables.specs.CacheTable.{key_cmp}
 use Rattle.mc_tables.proofs.lowest_pairs.LowestPairs.new.Goals as goal

@@ -1,4 +1,4 @@
-use Rattle.std.proofs.Common.{ℕ, ◌≡◌, ◌∙◌, List, ap}
+use Rattle.std.proofs.Common.{◌≡◌, ◌∙◌}
 use Rattle.mc_tables.specs.Notes.{keys_for_every_source}
 use Rattle.mc_tables.proofs.ListedPairLemmas.{same_groups}
 use Rattle.mc_tables.proofs.noted_pairs.NotedPairs.of.Goals as goal

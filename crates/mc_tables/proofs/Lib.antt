@@ -32,6 +32,7 @@ pub mod RowRuleLemmas
 pub mod LowestLemmas
 pub mod NoteLemmas
 pub mod NotedLemmas
+pub mod NoteRuleLemmas
 pub mod ListedPartLemmas
 pub mod RuleLemmas
 pub mod LawLemmas

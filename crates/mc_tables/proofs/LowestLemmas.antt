@@ -235,7 +235,8 @@ find_more q pair (p ∷ ps) =
     (cond (eq_by_cmp key_cmp q pair) (Some (tt {0})) (fin.find key_cmp q (as_keys ps)))
     ≡ cond (eq_by_cmp key_cmp q pair) (Some (tt {0}))
     (cond a (Some (tt {0})) (fin.find key_cmp q (as_keys ps)))) [
-      | true ↦ elim (eq_by_cmp key_cmp q pair) as (λ b. Some (tt {0}) ≡ cond b (Some (tt {0})) (Some (tt {0}))) [
+      | true ↦ elim (eq_by_cmp key_cmp q pair) as
+          (λ b. Some (tt {0}) ≡ cond b (Some (tt {0})) (Some (tt {0}))) [
         | true ↦ refl
         | false ↦ refl
       ]

@@ -1,5 +1,6 @@
 -- A cache that is read with notes of its rows.
-use Rattle.std.proofs.Common.{◌≡◌, ℕ, ◌+◌, ◌≤◌, Bool, true, false, cond, eqb, List, [], ◌∷◌, ◌++◌, length, take}
+use Rattle.std.proofs.Common.{◌≡◌, ℕ, ◌+◌, ◌≤◌, Bool, true, false, cond, eqb, List, [], ◌∷◌, ◌++◌}
+use Rattle.std.proofs.Common.{length, take}
 use Rattle.std.proofs.Common.{drop, Option, Some, None, Result, Ok, Err, refl, sym, ap, subst, ◌∙◌, inl, inr}
 use Rattle.std.specs.Prelude.{◌&&◌, not, nat_lt, filter, is_some, map as map_list, codes}
 use Rattle.std.specs.FinMap as map
@@ -31,7 +32,8 @@ use Rattle.mc_tables.specs.RowsSoFar.{listed_added, one_added, row_step, rows_en
 use Rattle.mc_tables.specs.Notes.{every_source_entry, group_first, in_order, keys_for_every_source}
 use Rattle.mc_tables.specs.Notes.{notes_of, unresolved_key}
 use Rattle.mc_tables.specs.NotesSoFar.{NotesSoFar, every_source_noted, exact_noted, line_noted}
-use Rattle.mc_tables.specs.NotesSoFar.{first_added, no_notes, notes_from, put_pair, read_noted, row_noted, told}
+use Rattle.mc_tables.specs.NotesSoFar.{first_added, no_notes, notes_from, put_pair, read_noted}
+use Rattle.mc_tables.specs.NotesSoFar.{row_noted, told}
 use Rattle.mc_tables.specs.NotesSoFar.{unresolved_noted, with_entry}
 use Rattle.mc_tables.specs.NotedReading.{NotedSoFar, no_noted_cache, no_noted_rows, noted_after}
 use Rattle.mc_tables.specs.NotedReading.{noted_from, noted_if, noted_in, noted_step}

@@ -1,12 +1,12 @@
 -- What is noted of the rows of a cache besides the table of those that are kept.
 use Rattle.std.specs.Prelude.{ℕ, ◌==◌, not, List, ◌∷◌, length, take, filter}
-use Rattle.std.specs.Prelude.{map as map_list, Option, Some, None, if◌then◌else◌}
+use Rattle.std.specs.Prelude.{map as map_list, Option, Some, None, IfSome, if◌then◌else◌}
 use Rattle.std.specs.Coded.{Coded, coded×, coded_ℕ}
 use Rattle.std.specs.List.{filter_map}
 use Rattle.std.specs.Option.{option_map}
 use Rattle.std.specs.FinMap as map
 use Rattle.std.specs.FinSet as set
-use Rattle.mc_tables.specs.CacheTable.{EntryText, RowText, entry_code, key_cmp, key_of}
+use Rattle.mc_tables.specs.CacheTable.{EntryText, IsEntry, RowText, entry_code, key_cmp, key_of}
 use Rattle.mc_tables.specs.ListedRows.{is_listed}
 
 -- ---- rows
@@ -69,6 +69,10 @@ notes_of listed rows = record {
   unlisted = length (unlisted_keys listed rows);
   lowest = take 20 (in_order (map_list group_first (unlisted_keys listed rows)));
 }
+
+-- what all notes keep: each entry stands as those of a table do
+abbrev pub EntriesStand : NotesText → Type 0
+EntriesStand notes = (key : ℕ × ℕ) → IfSome (map.get notes.for_every_source key) IsEntry
 
 -- ---- look-ups
 

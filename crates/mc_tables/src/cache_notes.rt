@@ -1,8 +1,9 @@
 //! What is noted of the rows of a forwarding cache besides its table.
 
-ghost use Rattle.std.specs.Prelude.{◌≡◌};
+ghost use Rattle.std.specs.Prelude.{◌≡◌, IfSome};
 ghost use Rattle.std.specs.FinSet as set;
-ghost use Rattle.mc_tables.specs.Notes.{every_source_row};
+ghost use Rattle.mc_tables.specs.CacheTable.{IsEntry};
+ghost use Rattle.mc_tables.specs.Notes.{EntriesStand, every_source_row};
 ghost use Rattle.mc_tables.specs.NotesSoFar.{told};
 
 use crate::entry::Entry;
@@ -20,7 +21,7 @@ pub struct CacheNotes {
 impl Model for CacheNotes {
     ghost use Rattle.std.specs.Coded.{codes};
     ghost use Rattle.mc_tables.specs.ListedRows.{pairs_code};
-    ghost use Rattle.mc_tables.specs.Notes.{NotesText, entries_code};
+    ghost use Rattle.mc_tables.specs.Notes.{EntriesStand, NotesText, entries_code};
     ghost use Rattle.mc_tables.specs.NotesSoFar.{told};
 
     ghost Value = { NotesText };
@@ -28,11 +29,14 @@ impl Model for CacheNotes {
     ghost coded = { Prim.hlevel (codes, pairs_code, entries_code) };
 
     ghost view = { λ s. told s.notes };
+
+    ghost invariant = { λ s. EntriesStand (told s.notes) };
 }
 
 impl CacheNotes {
     /// The notes of all rows.
     pub(crate) fn of(notes: NotesSoFar) -> CacheNotes
+        requires { EntriesStand (told notes) }
         ensures { result ≡ told notes }
     {
         CacheNotes { notes }
@@ -49,7 +53,9 @@ impl CacheNotes {
     /// The first resolved row of origin 0.0.0.0 and this group, if that is a listed one, or else
     /// that of the group 0.0.0.0; and which of the two groups it has.
     pub fn row_for_every_source(&self, group: Addr) -> Option<(Addr, Entry<'_>)>
-        ensures { result ≡ every_source_row self.now group }
+        ensures row { result ≡ every_source_row self.now group }
+        ensures stands { IfSome result (λ row. IsEntry row.1) }
+        ensures rules { EntriesStand self.now }
     {
         if let Some(entry) = self.notes.first_for_every_source(group) {
             return Some((group, entry));

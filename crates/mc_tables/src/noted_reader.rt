@@ -34,6 +34,8 @@ impl Model for NotedReader {
     ghost use Rattle.mc_tables.specs.CacheTable.{IsCache, cache_code};
     ghost use Rattle.mc_tables.specs.ListedRows.{pairs_code};
     ghost use Rattle.mc_tables.specs.RowsSoFar.{rows_code};
+    ghost use Rattle.mc_tables.specs.Notes.{EntriesStand};
+    ghost use Rattle.mc_tables.specs.NotesSoFar.{told};
     ghost use Rattle.mc_tables.specs.NotedReading.{NotedCacheSoFar};
 
     ghost Value = { NotedCacheSoFar };
@@ -43,7 +45,8 @@ impl Model for NotedReader {
 
     ghost view = { λ s. record { lines = s.lines; rows = s.rows; fault = s.fault } };
 
-    ghost invariant = { λ s. s.fault ≡ None → IsCache s.rows.rows.rows.table };
+    ghost invariant = { λ s. s.fault ≡ None →
+        IsCache s.rows.rows.rows.table × EntriesStand (told s.rows.notes) };
 }
 
 impl NotedReader {

@@ -5,6 +5,7 @@ ghost use Rattle.mc_text.specs.LineView.{line_text};
 ghost use Rattle.mc_tables.specs.CacheTable.{IsCache};
 ghost use Rattle.mc_tables.specs.LinesSoFar.{AreLinesSoFar};
 ghost use Rattle.mc_tables.specs.RowsSoFar.{rows_end};
+ghost use Rattle.mc_tables.specs.Notes.{EntriesStand};
 ghost use Rattle.mc_tables.specs.NotesSoFar.{told};
 ghost use Rattle.mc_tables.specs.NotedReading.{no_noted_rows};
 
@@ -76,7 +77,8 @@ impl NotedRows {
 
     /// The table of the rows that are kept, and the notes.
     pub fn into_noted(self) -> NotedCache
-        requires { IsCache self.rows.rows.table }
+        requires table { IsCache self.rows.rows.table }
+        requires notes { EntriesStand (told self.notes) }
         ensures table { result.table ≡ self.rows.rows.table }
         ensures notes { result.notes ≡ told self.notes }
     {
@@ -92,6 +94,8 @@ impl Rows for NotedRows {
     ghost use Rattle.std.specs.Prelude.{codes};
     ghost use Rattle.mc_tables.specs.CacheTable.{IsCache};
     ghost use Rattle.mc_tables.specs.declared.noted_cache.NotedCache.{NotedCache};
+    ghost use Rattle.mc_tables.specs.Notes.{EntriesStand};
+    ghost use Rattle.mc_tables.specs.NotesSoFar.{told};
     ghost use Rattle.mc_tables.specs.NotedReading.{noted_step, noted_from};
 
     ghost Table = { NotedCache };
@@ -102,9 +106,8 @@ impl Rows for NotedRows {
 
     ghost table = { noted_from };
 
-    ghost stand = { λ so_far. IsCache so_far.rows.rows.table };
+    ghost stand = { λ so_far. IsCache so_far.rows.rows.table × EntriesStand (told so_far.notes) };
 
-    #[tactic(auto, using(crate::proofs::RowRuleLemmas::line_keeps))]
     fn add_line(&mut self, ended: u32, line: &Line<'_>) -> Result<(), TableFault> {
         if ended == 0 {
             return check_header(line, b"Group");

@@ -1,5 +1,5 @@
 -- How what is told of a fault is written, by the names of the topology and of the vif tables.
-use Rattle.std.specs.Prelude.{ℕ, ◌/◌, ◌%◌, ◌==◌, ◌&&◌, not, nat_le, Bool, List, [], ◌∷◌, ◌++◌, Option}
+use Rattle.std.specs.Prelude.{ℕ, ◌+◌, ◌/◌, ◌%◌, ◌==◌, ◌&&◌, not, nat_le, Bool, List, [], ◌∷◌, ◌++◌, Option}
 use Rattle.std.specs.Prelude.{Some, None, if◌then◌else◌, codes, decimal, flat_map}
 use Rattle.std.specs.Str.{bytes_eq}
 use Rattle.mc_text.specs.Addr.{dotted}
@@ -19,12 +19,19 @@ use Rattle.mc_explain.specs.declared.told.Told.TheVariants.{LeastTtl, StoppedAt}
 abbrev pub hex_digit_of : ℕ → ℕ
 hex_digit_of d = if nat_le d 9 then 48 + d else 87 + d
 
--- a byte of a device's name: as it is from 0x21 to 0x7e, but for the backslash, and else `\xhh`
+-- a byte that is written as it is: from 0x21 to 0x7e, but for the backslash
+abbrev pub is_plain : ℕ → Bool
+is_plain b = (nat_le 0x21 b && nat_le b 0x7e) && not (b == 0x5c)
+
+-- a byte of a device's name; one that isn't plain is written `\xhh`
 abbrev pub byte_text : ℕ → List ℕ
 byte_text b =
-    if (nat_le 0x21 b && nat_le b 0x7e) && not (b == 0x5c)
+    if is_plain b
     then b ∷ []
-    else codes "\\x" ++ hex_digit_of (b / 16) ∷ hex_digit_of (b % 16) ∷ []
+    else codes "\\x" ++ (hex_digit_of (b / 16) ∷ hex_digit_of (b % 16) ∷ [])
+
+abbrev pub name_text : List ℕ → List ℕ
+name_text name = flat_map byte_text name
 
 -- a vif by its number, where its table has no line for it or no device
 abbrev pub vif_number_text : ℕ → List ℕ
@@ -33,7 +40,7 @@ vif_number_text vif = codes "vif/" ++ decimal vif
 abbrev pub device_text_of : (vif : ℕ) → Option VifText → List ℕ
 device_text_of vif None = vif_number_text vif
 device_text_of vif (Some v) =
-    if bytes_eq v.device no_device then vif_number_text vif else flat_map byte_text v.device
+    if bytes_eq v.device no_device then vif_number_text vif else name_text v.device
 
 -- the device of a router's vif, as `eth1`
 abbrev pub device_text : DomainValue → (router vif : ℕ) → List ℕ
@@ -69,24 +76,42 @@ incoming_text d router NoRow = []
 
 -- ---- lines
 
--- why a vif is placed on no LAN, the first of these that holds
-abbrev pub unplaced_text : DomainValue → (router : ℕ) → Option VifText → List ℕ
-unplaced_text d router None = codes "has no line in vif-" ++ router_name d.topology router
-unplaced_text d router (Some v) =
+-- why a vif of the table is placed on no LAN, the first of these that holds
+abbrev pub reason_text : VifText → List ℕ
+reason_text v =
     if v.register
-    then codes "is PIM's register vif: copies go to the rendezvous point until its Register-Stop comes; if this stays, look why it does not"
+    then codes "is PIM's register vif: copies go to the rendezvous point until its Register-Stop "
+    ++ codes "comes; if this stays, look why it does not"
     else if v.tunnel then codes "is a tunnel"
     else if bytes_eq v.device no_device then codes "has lost its device"
     else codes "is on no listed LAN"
 
--- what taking out costs packets of the flow: nothing, if their TTL is at least this
+-- why a router's vif is placed on no LAN
+abbrev pub unplaced_text : DomainValue → (router : ℕ) → Option VifText → List ℕ
+unplaced_text d router None = codes "has no line in vif-" ++ router_name d.topology router
+unplaced_text d router (Some v) = reason_text v
+
+-- what taking out costs a flow that is listed with less than the least TTL,
+abbrev pub dear_text : (lan : List ℕ) (least ttl : ℕ) → List ℕ
+dear_text lan least ttl =
+    codes "packets sent with less than ttl " ++ (decimal least
+    ++ (codes " may then not reach " ++ (lan
+    ++ (codes " and LANs behind it, and this flow is listed with ttl " ++ decimal ttl))))
+
+-- and any other one: nothing
 abbrev pub cost_text : DomainValue → Flow → (lan least : ℕ) → List ℕ
 cost_text d f lan least =
     if nat_le least f.ttl
     then codes "each LAN that this flow's packets reach is reached without it"
-    else codes "packets sent with less than ttl " ++ (decimal least
-    ++ (codes " may then not reach " ++ (lan_name d.topology lan
-    ++ (codes " and LANs behind it, and this flow is listed with ttl " ++ decimal f.ttl))))
+    else dear_text (lan_name d.topology lan) least f.ttl
+
+-- where a packet was stopped
+abbrev pub stopped_text : DomainValue → (router vif threshold ttl : ℕ) → List ℕ
+stopped_text d router vif threshold ttl =
+    codes "  stopped at " ++ (router_name d.topology router
+    ++ (codes " " ++ (device_text d router vif
+    ++ (codes ": the copy has ttl " ++ (decimal ttl
+    ++ (codes ", and is sent only above threshold " ++ (decimal threshold ++ codes "\n")))))))
 
 -- the lines of one thing that is told of a flow, with its number
 abbrev pub told_text : DomainValue → (number : ℕ) → Flow → Told → List ℕ
@@ -115,11 +140,7 @@ told_text d number f (LeastTtl lan least) =
     codes "  " ++ (lan_name d.topology lan
     ++ (codes " is reached by packets sent with ttl " ++ (decimal least
     ++ (codes " or more; this flow is listed with ttl " ++ (decimal f.ttl ++ codes "\n")))))
-told_text d number f (StoppedAt router vif threshold ttl) =
-    codes "  stopped at " ++ (router_name d.topology router
-    ++ (codes " " ++ (device_text d router vif
-    ++ (codes ": the copy has ttl " ++ (decimal ttl
-    ++ (codes ", and is sent only above threshold " ++ (decimal threshold ++ codes "\n")))))))
+told_text d number f (StoppedAt router vif threshold ttl) = stopped_text d router vif threshold ttl
 
 -- the lines of all that is told of a flow, in order
 abbrev pub told_lines : DomainValue → (number : ℕ) → Flow → List Told → List ℕ

@@ -2,6 +2,10 @@
 //! follow from the tables.
 #![tactic(auto)]
 
+mod device_text;
+mod row_text;
 mod told;
+mod told_text;
 
 pub use told::Told;
+pub use told_text::push_told;

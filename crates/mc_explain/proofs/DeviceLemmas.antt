@@ -1,0 +1,20 @@
+-- Bytes of a device's name that are escaped.
+use Rattle.std.proofs.Common.{◌≡◌, ℕ, ◌+◌, ◌-◌, ◌/◌, ◌%◌, ◌^◌, ◌<◌, Bool, false, cond, nat_le, nat_lt}
+use Rattle.std.proofs.Common.{[], ◌∷◌, ap, ap₂, ◌∙◌, arith}
+use Rattle.std.specs.Fmt.{padded_integral, format_spec, digits, digit_glyph}
+use Rattle.std.proofs.lemmas.Fmt.{hex_byte}
+use Rattle.mc_explain.specs.ExplanationText.{hex_digit_of}
+
+-- std's digit is the same one
+glyph : (d : ℕ) → digit_glyph false d ≡ hex_digit_of d
+glyph d = ap (λ (b : Bool). cond b (48 + d) (87 + d)) (same d)
+  where
+    same : (d : ℕ) → nat_lt d 10 ≡ nat_le d 9
+    same d = grind arith
+
+-- what `{:02x}` writes of a byte
+pub hex_text : (b : ℕ) → b < 256
+    → padded_integral (format_spec 32 0 4 2 (2 ^ 64 - 1)) false [] (digits 16 false b)
+    ≡ hex_digit_of (b / 16) ∷ hex_digit_of (b % 16) ∷ []
+hex_text b small = hex_byte false b small
+    ∙ ap₂ (λ x y. x ∷ y ∷ []) (glyph (b / 16)) (glyph (b % 16))

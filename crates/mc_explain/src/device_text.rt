@@ -1,0 +1,86 @@
+//! The device of a vif as it is written.
+
+ghost use Rattle.std.specs.Prelude.{◌≡◌, Some};
+ghost use Rattle.mc_explain.specs.ExplanationText.{byte_text, device_text, name_text};
+ghost use Rattle.mc_explain.specs.ExplanationText.{is_plain as plain};
+
+use mc_forward::FlowView;
+use mc_topology::RouterNo;
+use std::fmt;
+
+/// The kernel's word for a vif without a device.
+pub(crate) const NO_DEVICE: &[u8] = b"none";
+
+/// Whether a byte of a device's name is written as it is.
+fn is_plain(byte: u8) -> bool
+    ensures { result ≡ plain byte }
+{
+    matches!(byte, 0x21..=0x7e) && byte != b'\\'
+}
+
+/// A byte of a device's name, as `e` or `\x20`.
+#[derive(Clone, Copy, Drop)]
+struct ShownByte {
+    byte: u8,
+}
+
+impl fmt::Display for ShownByte {
+    ghost output = { λ shown. Some (byte_text shown.byte) };
+
+    #[tactic(auto, using(crate::proofs::DeviceLemmas::hex_text))]
+    fn fmt<W: fmt::Write>(&self, f: &mut fmt::Formatter<W>) -> fmt::Result {
+        let byte = self.byte;
+        if is_plain(byte) {
+            f.write_char(char::from(byte))
+        } else {
+            write!(f, "\\x{byte:02x}")
+        }
+    }
+}
+
+/// A device's name, as `eth1`.
+#[derive(Clone, Copy, Drop)]
+struct ShownName<'n> {
+    name: &'n [u8],
+}
+
+impl<'n> fmt::Display for ShownName<'n> {
+    ghost output = { λ shown. Some (name_text shown.name.now) };
+
+    fn fmt<W: fmt::Write>(&self, f: &mut fmt::Formatter<W>) -> fmt::Result {
+        for byte in self.name {
+            let byte = ShownByte { byte: *byte };
+            write!(f, "{byte}")?;
+        }
+        Ok(())
+    }
+}
+
+/// The device of a router's vif, as `eth1`, or the vif's number where its table has no line for it
+/// or no device, as `vif/3`.
+#[derive(Clone, Copy, Drop)]
+pub(crate) struct ShownDevice<'v> {
+    /// A flow of the domain.
+    pub(crate) view: &'v FlowView<'v>,
+    /// The router.
+    pub(crate) router: RouterNo,
+    /// Its vif.
+    pub(crate) vif: u8,
+}
+
+impl<'v> fmt::Display for ShownDevice<'v> {
+    ghost output = { λ shown. Some (device_text shown.view.now.domain shown.router shown.vif) };
+
+    fn fmt<W: fmt::Write>(&self, f: &mut fmt::Formatter<W>) -> fmt::Result {
+        let vif = self.vif;
+        match self.view.vif(self.router, vif) {
+            Some(line) if line.device() != NO_DEVICE => {
+                let name = ShownName {
+                    name: line.device(),
+                };
+                write!(f, "{name}")
+            }
+            _ => write!(f, "vif/{vif}"),
+        }
+    }
+}

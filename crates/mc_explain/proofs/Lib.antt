@@ -1,2 +1,3 @@
 pub mod DeviceLemmas
+pub mod LanStartLemmas
 pub mod ToldLemmas

@@ -1,2 +1,4 @@
 pub mod Explained
 pub mod ExplanationText
+pub mod LanStart
+pub mod WantedText

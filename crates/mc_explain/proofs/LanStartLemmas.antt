@@ -1,0 +1,114 @@
+-- The front of a list of LANs, as the list grows.
+use Rattle.std.proofs.Common.{◌≡◌, ℕ, zero, suc, ◌+◌, ◌<◌, ◌≤◌, min, Bool, true, false, cond}
+use Rattle.std.proofs.Common.{List, [], ◌∷◌, ◌++◌, length, take, filter, replicate}
+use Rattle.std.proofs.Common.{◌-◌, codes, decimal, flat_map, refl, ap, ap₂, sym, ◌∙◌, subst, arith, length-append, append-nil}
+use Rattle.std.specs.Prelude.{slice_set, slice_index_or}
+use Rattle.std.proofs.lemmas.List.{take_more_set, take-append-le, length-take, take_all, nil_from_length}
+use Rattle.std.proofs.lemmas.List.Elements.{filter-append}
+use Rattle.mc_theory.specs.Lists.{below}
+use Rattle.mc_forward.proofs.BelowLemmas.{below-more}
+use Rattle.mc_topology.specs.Topology.{TopologyValue}
+use Rattle.mc_explain.specs.LanStart.{LanStart, IsStartOf, start_text}
+use Rattle.mc_explain.specs.WantedText.{behind_space, lans_text, missed_too_text, more_text}
+use Rattle.mc_explain.specs.WantedText.{wanted_text}
+
+-- ---- the array of the first 8
+
+-- one more is put behind fewer than 8
+pub kept-put : (a : List ℕ) (c x : ℕ) → length a ≡ 8 → c < 8
+    → take (min (c + 1) 8) (slice_set a c x) ≡ take 8 (take (min c 8) a ++ x ∷ [])
+kept-put a c x full few =
+    let next : min (c + 1) 8 ≡ c + 1 = omega arith in
+    let here : min c 8 ≡ c = omega arith in
+    let short : length (take c a ++ x ∷ []) ≤ 8 =
+    omega (arith, length-append (take c a) (x ∷ []), length-take c a) in
+    ap (λ n. take n (slice_set a c x)) next ∙ take_more_set a c x (omega arith)
+    ∙ sym (take_all 8 (take c a ++ x ∷ []) short)
+    ∙ ap (λ n. take 8 (take n a ++ x ∷ [])) (sym here)
+
+-- where 8 are there, they stay
+pub kept-full : (a : List ℕ) (c x : ℕ) → length a ≡ 8 → 8 ≤ c
+    → take (min (c + 1) 8) a ≡ take 8 (take (min c 8) a ++ x ∷ [])
+kept-full a c x full many =
+    let next : min (c + 1) 8 ≡ 8 = omega arith in
+    let here : min c 8 ≡ 8 = omega arith in
+    let whole : take 8 a ≡ a = take_all 8 a (omega arith) in
+    ap (λ n. take n a) next ∙ sym (take-append-le 8 a (x ∷ []) (omega arith))
+    ∙ ap (λ ys. take 8 (ys ++ x ∷ [])) (sym whole)
+    ∙ ap (λ n. take 8 (take n a ++ x ∷ [])) (sym here)
+
+-- ---- the list
+
+take-take-append : (k : ℕ) (xs ys : List ℕ) → take k (take k xs ++ ys) ≡ take k (xs ++ ys)
+take-take-append zero xs ys = refl
+take-take-append (suc k) [] ys = refl
+take-take-append (suc k) (x ∷ xs) ys = ap (λ zs. x ∷ zs) (take-take-append k xs ys)
+
+-- one LAN more
+start-more : (s s' : LanStart) (xs : List ℕ) (x : ℕ) → IsStartOf s xs
+    → s'.first ≡ take 8 (s.first ++ x ∷ []) → s'.count ≡ s.count + 1 → IsStartOf s' (xs ++ x ∷ [])
+start-more s s' xs x is first count = record {
+  first = first ∙ ap (λ ys. take 8 (ys ++ x ∷ [])) is.first ∙ take-take-append 8 xs (x ∷ []);
+  count = let n = is.count in omega (arith, count, n, length-append xs (x ∷ []));
+}
+
+-- those below one more that pass a test
+filter-next : (p : ℕ → Bool) (n : ℕ)
+    → filter p (below (n + 1)) ≡ filter p (below n) ++ filter p (n ∷ [])
+filter-next p n = ap (filter p) (below-more n) ∙ filter-append p (below n) (n ∷ [])
+
+-- where the next LAN passes, the list has one more,
+pub start-passed : (p : ℕ → Bool) (s s' : LanStart) (n : ℕ) → IsStartOf s (filter p (below n))
+    → p n ≡ true → s'.first ≡ take 8 (s.first ++ n ∷ []) → s'.count ≡ s.count + 1
+    → IsStartOf s' (filter p (below (n + 1)))
+start-passed p s s' n is passes first count =
+    let one : filter p (n ∷ []) ≡ n ∷ [] = ap (λ (b : Bool). cond b (n ∷ []) []) passes in
+    subst (IsStartOf s') (ap (λ ys. filter p (below n) ++ ys) (sym one) ∙ sym (filter-next p n))
+    (start-more s s' (filter p (below n)) n is first count)
+
+-- and where it doesn't, it stays
+pub start-passed_not : (p : ℕ → Bool) (s : LanStart) (n : ℕ) → IsStartOf s (filter p (below n))
+    → p n ≡ false → IsStartOf s (filter p (below (n + 1)))
+start-passed_not p s n is fails =
+    let none : filter p (n ∷ []) ≡ [] = ap (λ (b : Bool). cond b (n ∷ []) []) fails in
+    subst (IsStartOf s) (sym (filter-next p n ∙ ap (λ ys. filter p (below n) ++ ys) none
+    ∙ append-nil (filter p (below n)))) is
+
+-- ---- the lines
+
+-- the list as it is written
+start-text : (t : TopologyValue) (s : LanStart) (lans : List ℕ) → IsStartOf s lans
+    → start_text t s ≡ lans_text t lans
+start-text t s lans is =
+    ap₂ (λ ls n. flat_map (behind_space t) ls ++ more_text (n - 8)) is.first is.count
+
+-- of no LAN
+pub wanted-none : (t : TopologyValue) (s : LanStart) (lans : List ℕ) → IsStartOf s lans
+    → s.count ≡ 0 → lans ≡ []
+wanted-none t s lans is none = nil_from_length lans (let n = is.count in omega (arith, n, none))
+
+-- of some that want the flow
+pub wanted-some : (t : TopologyValue) (s : LanStart) (n : ℕ) (lans : List ℕ) → IsStartOf s lans
+    → n ≡ s.count → 0 < n
+    → codes "  wanted " ++ (decimal n ++ (codes ":" ++ (start_text t s ++ codes "\n")))
+    ≡ wanted_text t lans
+wanted-some t s n [] is told some = absurd (let none = is.count in omega (arith, none, told, some))
+wanted-some t s n (lan ∷ lans) is told some =
+    ap₂ (λ m text. codes "  wanted " ++ (decimal m ++ (codes ":" ++ (text ++ codes "\n"))))
+    (told ∙ is.count) (start-text t s (lan ∷ lans) is)
+
+-- of some that were missed too
+pub missed-some : (t : TopologyValue) (s : LanStart) (lans : List ℕ) → IsStartOf s lans
+    → 0 < s.count
+    → codes "  also missed:" ++ (start_text t s ++ codes "\n") ≡ missed_too_text t lans
+missed-some t s [] is some = absurd (let n = is.count in omega (arith, n, some))
+missed-some t s (lan ∷ lans) is some =
+    ap (λ text. codes "  also missed:" ++ (text ++ codes "\n")) (start-text t s (lan ∷ lans) is)
+
+-- ---- marks
+
+-- at first no LAN is marked
+pub unmarked : (n lan : ℕ) → slice_index_or (replicate n false) lan false ≡ false
+unmarked zero lan = refl
+unmarked (suc n) zero = refl
+unmarked (suc n) (suc lan) = unmarked n lan

@@ -1,0 +1,61 @@
+-- The lines that tell which LANs want a flow, and which more of them carried no copy of a packet.
+use Rattle.std.specs.Prelude.{ℕ, ◌-◌, ◌==◌, ◌&&◌, not, Bool, List, [], ◌∷◌, ◌++◌, length}
+use Rattle.std.specs.Prelude.{is_some, if◌then◌else◌, codes, decimal, filter, flat_map, take}
+use Rattle.mc_topology.specs.Topology.{TopologyValue, lan_name}
+use Rattle.mc_theory.specs.Lists.{below}
+use Rattle.mc_theory.specs.Flights.{Copy}
+use Rattle.mc_theory.specs.Findings.{copy_on}
+use Rattle.mc_forward.specs.Domains.{DomainValue, wants_of}
+use Rattle.mc_forward.specs.Journeys.{Journey}
+
+-- ---- a list of LANs by their names, of which the first 8 are shown
+
+-- how many more there are
+abbrev pub more_text : ℕ → List ℕ
+more_text more = if more == 0 then [] else codes " and " ++ (decimal more ++ codes " more")
+
+abbrev pub behind_space : TopologyValue → (lan : ℕ) → List ℕ
+behind_space t lan = codes " " ++ lan_name t lan
+
+-- as ` l1 l2` or ` l1 l2 l3 l4 l5 l6 l7 l8 and 3 more`
+abbrev pub lans_text : TopologyValue → List ℕ → List ℕ
+lans_text t lans = flat_map (behind_space t) (take 8 lans) ++ more_text (length lans - 8)
+
+-- ---- the LANs that want a flow
+
+-- in the topology's order
+abbrev pub wanting : DomainValue → (flow : ℕ) → List ℕ
+wanting d flow = filter (wants_of d flow) (below (length d.topology.lans))
+
+abbrev pub wanted_text : TopologyValue → (lans : List ℕ) → List ℕ
+wanted_text t [] = codes "  wanted 0: no report asks for it\n"
+wanted_text t (lan ∷ lans) =
+    codes "  wanted " ++ (decimal (length (lan ∷ lans))
+    ++ (codes ":" ++ (lans_text t (lan ∷ lans) ++ codes "\n")))
+
+-- the line of a flow
+abbrev pub wanted_line : DomainValue → (flow : ℕ) → List ℕ
+wanted_line d flow = wanted_text d.topology (wanting d flow)
+
+-- ---- the LANs that were missed besides
+
+-- whether a LAN that isn't this one wants the flow, and carried none of these copies
+abbrev pub is_missed_too : DomainValue → (flow : ℕ) → List Copy → (missed lan : ℕ) → Bool
+is_missed_too d flow copies missed lan =
+    (wants_of d flow lan && not (is_some (copy_on copies lan))) && not (lan == missed)
+
+-- in the topology's order, by the flight of a packet
+abbrev pub missed_too : Journey → (missed : ℕ) → List ℕ
+missed_too j missed =
+    filter (is_missed_too j.domain j.flow j.flight.carried missed)
+    (below (length j.domain.topology.lans))
+
+-- nothing where there are none
+abbrev pub missed_too_text : TopologyValue → (lans : List ℕ) → List ℕ
+missed_too_text t [] = []
+missed_too_text t (lan ∷ lans) =
+    codes "  also missed:" ++ (lans_text t (lan ∷ lans) ++ codes "\n")
+
+-- the line of a flight in which that LAN was missed
+abbrev pub missed_too_line : Journey → (missed : ℕ) → List ℕ
+missed_too_line j missed = missed_too_text j.domain.topology (missed_too j missed)

@@ -1,7 +1,8 @@
 -- The front of a list of LANs, as the list grows.
 use Rattle.std.proofs.Common.{◌≡◌, ℕ, zero, suc, ◌+◌, ◌<◌, ◌≤◌, min, Bool, true, false, cond}
 use Rattle.std.proofs.Common.{List, [], ◌∷◌, ◌++◌, length, take, filter, replicate}
-use Rattle.std.proofs.Common.{◌-◌, codes, decimal, flat_map, refl, ap, ap₂, sym, ◌∙◌, subst, arith, length-append, append-nil}
+use Rattle.std.proofs.Common.{◌-◌, codes, decimal, flat_map, refl, ap, ap₂, sym, ◌∙◌, subst, arith}
+use Rattle.std.proofs.Common.{length-append, append-nil}
 use Rattle.std.specs.Prelude.{slice_set, slice_index_or}
 use Rattle.std.proofs.lemmas.List.{take_more_set, take-append-le, length-take, take_all, nil_from_length}
 use Rattle.std.proofs.lemmas.List.Elements.{filter-append}

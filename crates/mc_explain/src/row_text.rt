@@ -116,11 +116,13 @@ impl<'v> fmt::Display for ShownIncoming<'v> {
         (row_of shown.view.now.domain shown.view.now.flow shown.router)) };
 
     fn fmt<W: fmt::Write>(&self, f: &mut fmt::Formatter<W>) -> fmt::Result {
-        let (view, router) = (self.view, self.router);
-        match view.row(router) {
+        match self.view.row(self.router) {
             RowFor::Exact(entry) => {
-                let vif = entry.iif;
-                let device = ShownDevice { view, router, vif };
+                let device = ShownDevice {
+                    view: self.view,
+                    router: self.router,
+                    vif: entry.iif,
+                };
                 write!(f, "{device}")
             }
             RowFor::Open | RowFor::NoRow => Ok(()),

@@ -100,8 +100,9 @@ fn push_sent_onto(
 {
     let device = ShownDevice { view, router, vif };
     let row = ShownRow { view, flow, router };
-    let lan = view.topology().lan_name_or_empty(lan);
-    let router = view.topology().router_name_or_empty(router);
+    let topology = view.topology();
+    let lan = topology.lan_name_or_empty(lan);
+    let router = topology.router_name_or_empty(router);
     writeln!(text, "  sent onto {lan} by {router} at {device}: {row}")
 }
 
@@ -121,9 +122,10 @@ fn push_circle(
     let incoming = ShownIncoming { view, router };
     let device = ShownDevice { view, router, vif };
     let row = ShownRow { view, flow, router };
-    let from = view.topology().lan_name_or_empty(from);
-    let onto = view.topology().lan_name_or_empty(onto);
-    let router = view.topology().router_name_or_empty(router);
+    let topology = view.topology();
+    let from = topology.lan_name_or_empty(from);
+    let onto = topology.lan_name_or_empty(onto);
+    let router = topology.router_name_or_empty(router);
     writeln!(
         text,
         "  {from} to {onto} by {router} from {incoming} to {device}: {row}"

@@ -237,9 +237,9 @@ find_more q pair (p ∷ ps) =
     (cond a (Some (tt {0})) (fin.find key_cmp q (as_keys ps)))) [
       | true ↦ elim (eq_by_cmp key_cmp q pair) as
           (λ b. Some (tt {0}) ≡ cond b (Some (tt {0})) (Some (tt {0}))) [
-        | true ↦ refl
-        | false ↦ refl
-      ]
+            | true ↦ refl
+            | false ↦ refl
+          ]
       | false ↦ refl
     ]
 

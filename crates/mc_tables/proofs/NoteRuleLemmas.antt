@@ -1,6 +1,6 @@
 -- What the notes of a cache keep while its rows come.
 use Rattle.std.proofs.Common.{◌≡◌, ℕ, Bool, true, false, cond, eqb, List, Option, Some, None, Result, Ok}
-use Rattle.std.proofs.Common.{Err, refl, sym, ap, subst, ◌∙◌}
+use Rattle.std.proofs.Common.{Err, refl, sym, subst}
 use Rattle.std.specs.Prelude.{◌&&◌, IfSome, is_some, not}
 use Rattle.std.specs.FinMap as map
 use Rattle.std.specs.Option.{option_map}

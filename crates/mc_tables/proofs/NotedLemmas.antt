@@ -2,10 +2,10 @@
 use Rattle.std.proofs.Common.{◌≡◌, ℕ, ◌+◌, ◌≤◌, Bool, true, false, cond, eqb, List, [], ◌∷◌, ◌++◌}
 use Rattle.std.proofs.Common.{length, take}
 use Rattle.std.proofs.Common.{drop, Option, Some, None, Result, Ok, Err, refl, sym, ap, subst, ◌∙◌, inl, inr}
-use Rattle.std.specs.Prelude.{◌&&◌, not, nat_lt, filter, is_some, map as map_list, codes}
+use Rattle.std.specs.Prelude.{◌&&◌, ◌||◌, not, nat_lt, filter, is_some, map as map_list, codes}
 use Rattle.std.specs.FinMap as map
 use Rattle.std.specs.FinSet as set
-use Rattle.std.specs.List.{filter_map, cons_option}
+use Rattle.std.specs.List.{filter_map, cons_option, list_any}
 use Rattle.std.specs.Ordering.{eq_by_cmp}
 use Rattle.std.proofs.lemmas.Bool.{cases_Bool, le-ltb}
 use Rattle.std.proofs.lemmas.List.{append-nil, length_push, map-append}
@@ -21,11 +21,12 @@ use Rattle.mc_tables.specs.Steps.{at_line, demand}
 use Rattle.mc_tables.specs.TableLines.{header_in, rows_after}
 use Rattle.mc_tables.specs.LinesSoFar.{LinesSoFar, WithoutLineFeed, header_line, lines_to_come, no_lines}
 use Rattle.mc_tables.specs.LinesSoFar.{ReadsInSteps}
-use Rattle.mc_tables.specs.CacheTable.{CacheText, EntryText, RowText, key_cmp, key_of, table_of}
+use Rattle.mc_tables.specs.CacheTable.{CacheText, EntryText, RowText, key_cmp, key_of, same_key}
+use Rattle.mc_tables.specs.CacheTable.{table_of}
 use Rattle.mc_tables.specs.CacheNumbers.{KeptText}
 use Rattle.mc_tables.specs.CacheReading.{cache_rows_in, entry_repeats, row_at, row_in_line, row_in_words}
 use Rattle.mc_tables.specs.CacheSteps.{row_with_room}
-use Rattle.mc_tables.specs.ListedRows.{is_in, is_listed, kept_rows, listed_set}
+use Rattle.mc_tables.specs.ListedRows.{is_in, is_listed, kept_rows, listed_in, listed_set}
 use Rattle.mc_tables.specs.OtherRows.{OtherRow, without_repeat}
 use Rattle.mc_tables.specs.RowsSoFar.{ListedSoFar, RowsSoFar, cache_after, first_fault, line_added}
 use Rattle.mc_tables.specs.RowsSoFar.{listed_added, one_added, row_step, rows_end, table_from}
@@ -36,11 +37,12 @@ use Rattle.mc_tables.specs.NotesSoFar.{first_added, no_notes, notes_from, put_pa
 use Rattle.mc_tables.specs.NotesSoFar.{row_noted, told}
 use Rattle.mc_tables.specs.NotesSoFar.{unresolved_noted, with_entry}
 use Rattle.mc_tables.specs.NotedReading.{NotedSoFar, no_noted_cache, no_noted_rows, noted_after}
-use Rattle.mc_tables.specs.NotedReading.{noted_from, noted_if, noted_in, noted_step}
+use Rattle.mc_tables.specs.NotedReading.{noted_from, noted_if, noted_in, noted_step, table_alone}
 use Rattle.mc_text.proofs.StepLemmas.{bind_ok, ok_is}
 use Rattle.mc_tables.proofs.StepLemmas.{at_line_ok, demand_then}
 use Rattle.mc_tables.proofs.CacheLemmas.{key_total}
 use Rattle.mc_tables.proofs.CacheMapLemmas.{key_antisymmetric}
+use Rattle.mc_tables.proofs.KeptRowLemmas.{differ}
 use Rattle.mc_tables.proofs.ListedLemmas.{in_listed}
 use Rattle.mc_tables.proofs.LowestLemmas.{lowest_more, nothing_lowest}
 use Rattle.mc_tables.proofs.NumberLemmas.{no_some}
@@ -486,3 +488,102 @@ noted_whole order listed text within =
           ap (λ n. Ok (record { table = table_of (kept_rows (Some listed) rows); notes = n }))
           (told_is listed rows (notes_from order (no_notes listed) left) tells)
     ] refl
+
+-- ---- what they tell
+
+-- the table is that without notes
+pub same_table : (order : Order) (listed : List (ℕ × ℕ)) (text : List ℕ)
+    → listed_in order (Some listed) text
+    ≡ table_alone (noted_in order listed text)
+same_table order listed text =
+    elim (cache_rows_in order text) as (λ r.
+    (r >>= λ rows. Ok (table_of (kept_rows (Some listed) rows)))
+    ≡ table_alone (r >>= λ rows. Ok (record {
+      table = table_of (kept_rows (Some listed) rows);
+      notes = notes_of listed rows;
+    }))) [
+      | Err fault ↦ refl
+      | Ok rows ↦ refl
+    ]
+
+-- no test and another are none
+and_false : (b : Bool) → (b && false) ≡ false
+and_false true = refl
+and_false false = refl
+
+-- a key that is another one fails one of two tests
+both_differ : (listed : List (ℕ × ℕ)) (key k : ℕ × ℕ) (b : Bool) → is_listed (Some listed) k ≡ false
+    → (is_listed (Some listed) key && b) ≡ (is_listed (Some listed) key && (same_key key k || b))
+both_differ listed key k b other =
+    elim (cases_Bool (same_key key k)) [
+      | inl same ↦
+          let none : is_listed (Some listed) key ≡ false =
+          ap (is_listed (Some listed)) (same_is key k same) ∙ other in
+          rw none refl
+      | inr differs ↦ ap (λ c. is_listed (Some listed) key && (c || b)) (sym differs)
+    ]
+
+-- a key that is this one passes it
+both_same : (listed : List (ℕ × ℕ)) (key k : ℕ × ℕ) (b : Bool) → is_listed (Some listed) k ≡ true
+    → (same_key key k || (is_listed (Some listed) key && b))
+    ≡ (is_listed (Some listed) key && (same_key key k || b))
+both_same listed key k b is =
+    elim (cases_Bool (same_key key k)) [
+      | inl same ↦
+          let own : is_listed (Some listed) key ≡ true =
+          ap (is_listed (Some listed)) (same_is key k same) ∙ is in
+          rw (same, own) refl
+      | inr differs ↦ rw differs refl
+    ]
+
+-- a key is among the listed ones of some where it is listed and among them
+any_listed : (listed keys : List (ℕ × ℕ)) (key : ℕ × ℕ)
+    → list_any (same_key key) (IsIn listed keys)
+    ≡ (is_listed (Some listed) key && list_any (same_key key) keys)
+any_listed listed [] key = sym (and_false (is_listed (Some listed) key))
+any_listed listed (k ∷ keys) key =
+    let rest = list_any (same_key key) keys in
+    elim (cases_Bool (is_listed (Some listed) k)) [
+      | inl is ↦
+          ap (λ b. list_any (same_key key) (cond b (k ∷ IsIn listed keys) (IsIn listed keys))) is
+          ∙ ap (λ b. same_key key k || b) (any_listed listed keys key)
+          ∙ both_same listed key k rest is
+      | inr other ↦
+          ap (λ b. list_any (same_key key) (cond b (k ∷ IsIn listed keys) (IsIn listed keys))) other
+          ∙ any_listed listed keys key
+          ∙ both_differ listed key k rest other
+    ]
+
+pub tells_of_unresolved : (listed : List (ℕ × ℕ)) (rows : List RowText) (key : ℕ × ℕ)
+    → set.contains (notes_of listed rows).unresolved key
+    ≡ (is_listed (Some listed) key && list_any (same_key key) (filter_map unresolved_key rows))
+tells_of_unresolved listed rows key =
+    set.contains-from_list key_total (IsIn listed (filter_map unresolved_key rows)) key
+    ∙ any_listed listed (filter_map unresolved_key rows) key
+
+-- a key that is listed is found among the listed ones as among all
+found_listed : (listed : List (ℕ × ℕ)) (es : List ((ℕ × ℕ) × EntryText)) (key : ℕ × ℕ)
+    → is_listed (Some listed) key ≡ true
+    → map.find key_cmp key (EntriesIn listed es) ≡ map.find key_cmp key es
+found_listed listed [] key is = refl
+found_listed listed (e ∷ es) key is =
+    let rest = EntriesIn listed es in
+    elim (cases_Bool (is_listed (Some listed) e.0)) [
+      | inl passes ↦
+          ap (λ b. map.find key_cmp key (cond b (e ∷ rest) rest)) passes
+          ∙ ap (cond (same_key key e.0) (Some e.1)) (found_listed listed es key is)
+      | inr other ↦
+          let differs = differ (Some listed) key e.0 true is other in
+          ap (λ b. map.find key_cmp key (cond b (e ∷ rest) rest)) other
+          ∙ found_listed listed es key is
+          ∙ ap (λ b. cond b (Some e.1) (map.find key_cmp key es)) (sym differs)
+    ]
+
+pub tells_of_every_source : (listed : List (ℕ × ℕ)) (rows : List RowText) (group : ℕ)
+    → is_listed (Some (keys_for_every_source listed)) (0, group) ≡ true
+    → map.get (notes_of listed rows).for_every_source (0, group)
+    ≡ map.find key_cmp (0, group) (filter_map every_source_entry rows)
+tells_of_every_source listed rows group is =
+    let es = filter_map every_source_entry rows in
+    map.get-from_entries key_total (EntriesIn (keys_for_every_source listed) es) (0, group)
+    ∙ found_listed (keys_for_every_source listed) es (0, group) is

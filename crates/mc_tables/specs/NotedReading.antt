@@ -1,5 +1,5 @@
 -- A cache that is read with notes of its rows: its table and the notes, or the first fault.
-use Rattle.std.specs.Prelude.{ℕ, List, Option, Some, None, Result, Ok, codes}
+use Rattle.std.specs.Prelude.{ℕ, List, Option, Some, None, Result, Ok, Err, codes}
 use Rattle.mc_text.specs.declared.text.addr.Order.{Order}
 use Rattle.mc_text.specs.Lines.{LineText}
 use Rattle.mc_text.specs.Steps.{◌>>=◌}
@@ -7,7 +7,7 @@ use Rattle.mc_tables.specs.declared.fault.TableFault.{TableFault}
 use Rattle.mc_tables.specs.declared.noted_cache.NotedCache.{NotedCache}
 use Rattle.mc_tables.specs.Steps.{unless_fault}
 use Rattle.mc_tables.specs.LinesSoFar.{LinesSoFar, no_lines, read_after}
-use Rattle.mc_tables.specs.CacheTable.{table_of}
+use Rattle.mc_tables.specs.CacheTable.{CacheText, table_of}
 use Rattle.mc_tables.specs.CacheReading.{cache_rows_in}
 use Rattle.mc_tables.specs.ListedRows.{kept_rows, listed_set}
 use Rattle.mc_tables.specs.RowsSoFar.{ListedSoFar, no_rows, row_step, table_from}
@@ -21,6 +21,11 @@ abbrev pub noted_in : Order → List (ℕ × ℕ) → List ℕ → Result NotedC
 noted_in order listed text =
     cache_rows_in order text >>= λ rows.
     Ok (record { table = table_of (kept_rows (Some listed) rows); notes = notes_of listed rows })
+
+-- the table without the notes, or the fault
+abbrev pub table_alone : Result NotedCache TableFault → Result CacheText TableFault
+table_alone (Ok cache) = Ok cache.table
+table_alone (Err fault) = Err fault
 
 -- ---- line by line
 

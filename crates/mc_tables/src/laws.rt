@@ -1,16 +1,23 @@
 //! What follows from the definitions alone, for whoever builds on them.
 
-ghost use Rattle.std.specs.Prelude.{◌≡◌, ◌≢◌, ◌≤◌, ◌↔◌, ℕ, List, IsSome, IfSome, Ok, Err};
+ghost use Rattle.std.specs.Prelude.{◌≡◌, ◌≢◌, ◌≤◌, ◌↔◌, ◌&&◌, ℕ, List, IsSome, IfSome, Ok, Err, Some};
+ghost use Rattle.std.specs.Prelude.{true};
+ghost use Rattle.std.specs.List.{filter_map, list_any};
+ghost use Rattle.std.specs.FinSet as set;
 ghost use Rattle.std.specs.Ordering.{nat_cmp};
-ghost use Rattle.std.specs.FinMap.{FinMap, get};
+ghost use Rattle.std.specs.FinMap.{FinMap, find, get};
 ghost use Rattle.mc_text.specs.declared.text.addr.Order.{Order};
 ghost use Rattle.mc_tables.specs.declared.fault.TableFault.{TableFault};
 ghost use Rattle.mc_tables.specs.VifTable.{VifText, no_device, StandsForVifs};
 ghost use Rattle.mc_tables.specs.VifLookups.{HasDevice, IsVifTable};
-ghost use Rattle.mc_tables.specs.CacheTable.{CacheText, IsEntry, IsCache, StandsForCache};
+ghost use Rattle.mc_tables.specs.CacheTable.{CacheText, IsEntry, IsCache, RowText, StandsForCache};
+ghost use Rattle.mc_tables.specs.CacheTable.{key_cmp, same_key};
 ghost use Rattle.mc_tables.specs.VifReading.{vifs_in};
 ghost use Rattle.mc_tables.specs.CacheReading.{cache_in};
-ghost use Rattle.mc_tables.specs.ListedRows.{Listed, listed_in, IsListedPart};
+ghost use Rattle.mc_tables.specs.ListedRows.{Listed, is_listed, listed_in, IsListedPart};
+ghost use Rattle.mc_tables.specs.Notes.{every_source_entry, keys_for_every_source, notes_of};
+ghost use Rattle.mc_tables.specs.Notes.{unresolved_key};
+ghost use Rattle.mc_tables.specs.NotedReading.{noted_in, table_alone};
 
 /// A text is read as a table exactly where it stands for it.
 pub fn tables_are_read_as_they_stand()
@@ -64,4 +71,24 @@ pub fn listed_rows_are_part_of_the_whole()
         × (cache_in order text ≡ Ok whole) × IsListedPart listed part whole }
     ensures fault { (order : Order) (listed : Listed) (text : List ℕ) (fault : TableFault) →
         (listed_in order listed text ≡ Err fault) ↔ (cache_in order text ≡ Err fault) }
+{}
+
+/// A cache that is read with notes has the table that it has without, and its faults are the same.
+pub fn notes_change_no_table()
+    ensures { (order : Order) (listed : List (ℕ × ℕ)) (text : List ℕ) →
+        listed_in order (Some listed) text
+        ≡ table_alone (noted_in order listed text) }
+{}
+
+/// What the notes of some rows tell of a source and a group: whether they are listed and of an
+/// unresolved row; and of a group that is a listed one, or 0.0.0.0, the first of the rows for every
+/// source that has it.
+pub fn notes_tell_of_rows()
+    ensures unresolved { (listed : List (ℕ × ℕ)) (rows : List RowText) (key : ℕ × ℕ) →
+        set.contains (notes_of listed rows).unresolved key
+        ≡ (is_listed (Some listed) key && list_any (same_key key) (filter_map unresolved_key rows)) }
+    ensures every_source { (listed : List (ℕ × ℕ)) (rows : List RowText) (group : ℕ) →
+        is_listed (Some (keys_for_every_source listed)) (0, group) ≡ true →
+        get (notes_of listed rows).for_every_source (0, group)
+        ≡ find key_cmp (0, group) (filter_map every_source_entry rows) }
 {}

@@ -1,0 +1,169 @@
+"""Folders of small domains, made at random: most of a domain's rows make a tree, and then some of it is turned."""
+import json
+import os
+import random
+import struct
+
+DEVICES = ["eth0", "eth1", "br-lan.7", "vlan\\\\3", "wg-é", "eth5", "eth6", "eth7"]
+THRESHOLDS = [1, 1, 1, 1, 1, 2, 3, 4, 64, 254]
+TTLS = [1, 2, 3, 3, 4, 64, 255]
+GROUPS = ["239.1.2.3", "239.1.2.4", "232.0.0.9"]
+SOURCES = ["10.0.0.5", "10.0.1.7"]
+VIF_HEADER = "Interface      BytesIn  PktsIn  BytesOut PktsOut Flags Local    Remote\n"
+CACHE_HEADER = "Group    Origin   Iif     Pkts    Bytes    Wrong Oifs\n"
+
+
+def number_of(address):
+    return struct.unpack(">I", bytes(map(int, address.split("."))))[0]
+
+
+def report_of(records):
+    """A report of these records, of type, group and sources, in hexadecimal."""
+    body = b"".join(struct.pack(">BBHI", kind, 0, len(sources), number_of(group))
+                    + b"".join(struct.pack(">I", number_of(source)) for source in sources)
+                    for kind, group, sources in records)
+    message = b"\x22\0\0\0\0\0" + struct.pack(">H", len(records)) + body
+    total = sum(struct.unpack(f">{len(message) // 2}H", message))
+    while total >> 16:
+        total = (total & 0xFFFF) + (total >> 16)
+    return (message[:2] + struct.pack(">H", 0xFFFF - total) + message[4:]).hex()
+
+
+class Made:
+    """A domain that is made."""
+
+    def __init__(self, seed):
+        self.pick = random.Random(seed)
+        pick = self.pick
+        self.lans = [f"l{number}" for number in range(pick.randint(2, 6))]
+        self.routers = [f"r{number}" for number in range(1, pick.randint(1, 5) + 1)]
+        self.orders = {router: pick.choice(["little", "little", "big"]) for router in self.routers}
+        self.interfaces = {router: self.interfaces_of() for router in self.routers}
+        self.sources = {source: pick.choice(self.lans) for source in SOURCES[:pick.randint(1, 2)]}
+        pairs = [(source, group) for source in self.sources for group in GROUPS]
+        self.flows = [(source, group, pick.choice(TTLS)) for source, group in pick.sample(pairs, pick.randint(1, 2))]
+        self.vifs = {router: self.vifs_of(router) for router in self.routers}
+        self.rows = {router: [] for router in self.routers}
+        for source, group, _ in self.flows:
+            self.add_tree(source, group)
+        for _ in range(pick.choice([0, 0, 1, 1, 2, 3])):
+            self.turn_something()
+        for router in self.routers:
+            pick.shuffle(self.rows[router])
+
+    def interfaces_of(self):
+        lans = self.pick.choices(self.lans, k=self.pick.randint(1, 4))
+        return dict(zip(self.pick.sample(DEVICES, len(lans)), lans))
+
+    def vifs_of(self, router):
+        """A router's vifs by number: device and flags."""
+        numbers = self.pick.sample(range(32), len(self.interfaces[router]) + 1)
+        vifs = {number: [device, 0] for number, device in zip(numbers, self.interfaces[router])}
+        if self.pick.random() < 0.2:
+            vifs[numbers[-1]] = self.pick.choice([["pimreg", 4], ["tun0", 1], ["none", 0], ["eth9", 0]])
+        return vifs
+
+    def add_tree(self, source, group):
+        """Rows by which the source's packets go from LAN to LAN, as far as they come."""
+        reached = [self.sources[source]]
+        waiting = self.pick.sample(self.routers, len(self.routers))
+        for lan in reached:
+            for router in list(waiting):
+                entry = [number for number, (device, _) in self.vifs[router].items()
+                         if self.interfaces[router].get(device) == lan]
+                if entry and self.pick.random() < 0.9:
+                    waiting.remove(router)
+                    self.rows[router].append([group, source, str(entry[0]), self.outgoing(router, reached)])
+
+    def outgoing(self, router, reached):
+        pairs = {}
+        for number, (device, _) in self.vifs[router].items():
+            lan = self.interfaces[router].get(device)
+            if lan is not None and lan not in reached and self.pick.random() < 0.9:
+                pairs[number] = self.pick.choice(THRESHOLDS)
+                reached.append(lan)
+        return pairs
+
+    def turn_something(self):
+        pick, router = self.pick, self.pick.choice(self.routers)
+        source, group, _ = pick.choice(self.flows)
+        vifs = list(self.vifs[router]) + [pick.randrange(32)]
+        rows = [row for row in self.rows[router] if row[2] != "-1" and row[1] != "0.0.0.0"]
+        change = pick.randrange(9)
+        if change == 0 and rows:
+            pick.choice(rows)[3][pick.choice(vifs)] = pick.choice(THRESHOLDS)
+        elif change == 1 and rows:
+            pick.choice(rows)[2] = str(pick.choice(vifs))
+        elif change == 2 and rows:
+            self.rows[router].remove(pick.choice(rows))
+        elif change == 3:
+            self.rows[router].append([pick.choice([group, "0.0.0.0"]), "0.0.0.0", str(pick.choice(vifs)), {vifs[0]: 1}])
+        elif change == 4:
+            self.rows[router].append([group, source, "-1", {}])
+        elif change == 5:
+            self.vifs[router][pick.choice(list(self.vifs[router]))][1] = pick.choice([1, 4, 8])
+        elif change == 6:
+            del self.vifs[router][pick.choice(list(self.vifs[router]))]
+            if not self.vifs[router]:
+                self.vifs[router][0] = ["eth9", 0]
+        elif change == 7 and rows:
+            row = pick.choice(rows)
+            row[3] = {number: pick.choice(THRESHOLDS) for number in row[3]}
+        else:
+            self.add_unlisted(vifs)
+
+    def add_unlisted(self, vifs):
+        for _ in range(self.pick.choice([1, 2, 30])):
+            source = f"10.9.{self.pick.randrange(4)}.{self.pick.randint(1, 9)}"
+            group = f"{self.pick.choice([239, 239, 3])}.7.7.{self.pick.randint(1, 3)}"
+            router = self.pick.choice(self.routers)
+            if not any(row[:2] == [group, source] for row in self.rows[router]):
+                self.rows[router].append([group, source, str(self.pick.choice(vifs)), {}])
+
+    # ---- the files
+
+    def address_word(self, router, address):
+        data = struct.pack(">I", number_of(address))
+        return (data if self.orders[router] == "big" else data[::-1]).hex().upper()
+
+    def cache_of(self, router):
+        text = CACHE_HEADER
+        for group, source, incoming, pairs in self.rows[router]:
+            outgoing = "".join(f" {number:2}:{threshold:<3}" for number, threshold in sorted(pairs.items()))
+            text += (f"{self.address_word(router, group)} {self.address_word(router, source)} {incoming:<3}"
+                     f" {7:8} {700:8} {0:8}{outgoing}\n")
+        return text
+
+    def vif_text_of(self, router):
+        return VIF_HEADER + "".join(
+            f"{number:2} {device.replace(chr(92) * 2, chr(92)):<10} {1:8} {1:7}  {1:8} {1:7} {flags:05X} 00000000 00000000\n"
+            for number, (device, flags) in self.vifs[router].items())
+
+    def reports_of(self):
+        records = [(self.pick.choice([1, 2, 2]), group, self.pick.sample(SOURCES, self.pick.randint(0, 2)))
+                   for group in GROUPS if self.pick.random() < 0.5]
+        return report_of(records) + "\n" if records else ""
+
+    def topology_text(self):
+        lines = ["version = 1", f"lans = {json.dumps(self.lans)}"]
+        for router in self.routers:
+            lines += ["[[router]]", f'name = "{router}"', f'order = "{self.orders[router]}"']
+        for router in self.routers:
+            for device, lan in self.interfaces[router].items():
+                lines += ["[[interface]]", f'router = "{router}"', f'device = "{device}"', f'lan = "{lan}"']
+        for source, lan in self.sources.items():
+            lines += ["[[source]]", f'address = "{source}"', f'lan = "{lan}"']
+        for source, group, ttl in self.flows:
+            lines += ["[[flow]]", f'source = "{source}"', f'group = "{group}"', f"ttl = {ttl}"]
+        return "\n".join(lines) + "\n"
+
+    def write(self, folder):
+        texts = {"topology": self.topology_text()}
+        for router in self.routers:
+            texts[f"vif-{router}"] = self.vif_text_of(router)
+            texts[f"cache-{router}"] = self.cache_of(router)
+        for lan in self.lans:
+            texts[f"igmp-{lan}"] = self.reports_of()
+        for name, text in texts.items():
+            with open(os.path.join(folder, name), "w", encoding="utf-8") as file:
+                file.write(text)

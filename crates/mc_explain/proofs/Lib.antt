@@ -1,3 +1,11 @@
 pub mod DeviceLemmas
 pub mod LanStartLemmas
 pub mod ToldLemmas
+pub mod BackLemmas
+pub mod NeedLemmas
+pub mod FoundLemmas
+pub mod EndsLemmas
+pub mod StrayLemmas
+pub mod LineLemmas
+pub mod OutLemmas
+pub mod OneLemmas

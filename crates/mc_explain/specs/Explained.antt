@@ -9,7 +9,6 @@ use Rattle.mc_theory.specs.Findings.Finding.{Clean, Duplicate, Loop, Stray, Miss
 use Rattle.mc_theory.specs.Ways.{Hop, CameBy, CameFrom, IsSpare, IsStopped, need}
 use Rattle.mc_forward.specs.Domains.{DomainValue, net_of}
 use Rattle.mc_replay.specs.FindingValues.{finding_value}
-use Rattle.mc_replay.specs.declared.travel.Ended.{Ended}
 use Rattle.mc_maker.specs.declared.flown.Flown.{Flown}
 use Rattle.mc_maker.specs.declared.flown.Flown.TheVariants.{Certified, AtGreatest, AtLeast}
 use Rattle.mc_explain.specs.declared.told.Told.{Told}
@@ -87,14 +86,11 @@ ExplainsFinding n f (Loop lan) told = ExplainsLoop n f lan told
 ExplainsFinding n f (Stray router vif) told = told ≡ stray_told (n.row router) router vif
 ExplainsFinding n f (Missed lan) told = told ≡ []
 
--- the same, where a packet with TTL 255 flew as `greatest`, and met nothing
+-- the same, where a packet with TTL 255 flew as `greatest`, and met nothing: then no other one of
+-- the flow meets anything but that LANs are missed
 abbrev pub ExplainsAtLeast : Net → (greatest least : Flight) → Finding → List Told → Type 0
 ExplainsAtLeast n greatest least (Missed lan) told = ExplainsLeastTtl n greatest lan told
-ExplainsAtLeast n greatest least Clean told = told ≡ []
-ExplainsAtLeast n greatest least (Duplicate lan) told = ExplainsDuplicate n least lan told
-ExplainsAtLeast n greatest least (Loop lan) told = ExplainsLoop n least lan told
-ExplainsAtLeast n greatest least (Stray router vif) told =
-    told ≡ stray_told (n.row router) router vif
+ExplainsAtLeast n greatest least finding told = ExplainsFinding n least finding told
 
 -- what is told of a flow that was examined; nothing of one that is right
 abbrev pub IsExplained : DomainValue → (flow : ℕ) → Flown → List Told → Type 0

@@ -2,3 +2,12 @@ pub mod Explained
 pub mod ExplanationText
 pub mod LanStart
 pub mod WantedText
+pub mod LastFlights
+pub mod ToldFacts
+pub use Rattle.mc_theory.specs.Nets
+pub use Rattle.mc_theory.specs.Flights
+pub use Rattle.mc_theory.specs.Findings
+pub use Rattle.mc_theory.specs.Ways
+pub use Rattle.mc_forward.specs.Domains
+pub use Rattle.mc_replay.specs.FindingValues
+pub use Rattle.mc_maker.specs.Flown

@@ -1,14 +1,26 @@
 //! What is told of a flow that isn't right: who sent what, and what may be taken out, as lines that
-//! follow from the tables.
+//! follow from the tables. And how those lines are written.
 #![tactic(auto)]
 
 mod device_text;
+mod explained;
+mod firsts;
+mod hop;
 mod lan_start;
+mod laws;
 mod row_text;
 mod told;
 mod told_text;
 mod wanted_text;
+mod way;
 
+pub use explained::explain;
+pub use laws::{
+    a_circle_that_is_told_is_closed, a_sender_that_is_told_has_such_a_row,
+    a_stop_that_is_told_stops_the_packet, a_vif_that_is_told_unplaced_leads_out,
+    at_the_flows_ttl_a_lan_is_missed, the_ttl_that_is_told_is_the_least,
+    what_is_told_is_determined, what_is_told_to_be_taken_out_can_be_spared,
+};
 pub use told::Told;
 pub use told_text::push_told;
 pub use wanted_text::{push_also_missed, push_wanted};

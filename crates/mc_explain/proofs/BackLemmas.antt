@@ -1,0 +1,135 @@
+-- The walk back, hop by hop.
+use Rattle.std.proofs.Common.{◌≡◌, ℕ, zero, suc, ◌+◌, ◌<◌, ◌≤◌, Bool, true, false, cond, ◌==◌, List}
+use Rattle.std.proofs.Common.{[], ◌∷◌, ◌++◌, length, drop, Option, Some, None, refl, ap, sym, ◌∙◌}
+use Rattle.std.proofs.Common.{append_assoc, append-nil}
+use Rattle.std.specs.Prelude.{option_and_then}
+use Rattle.std.proofs.lemmas.List.{drop_all}
+use Rattle.mc_theory.specs.Nets.{Net, Interface}
+use Rattle.mc_theory.specs.Flights.{Copy}
+use Rattle.mc_theory.specs.Findings.{sender_on}
+use Rattle.mc_theory.specs.Ways.{Hop}
+use Rattle.mc_theory.specs.Hops.{hop_sent, hop_and, hops_back, hops_until}
+use Rattle.mc_forward.specs.PerLan.{IsFirstBy, held}
+use Rattle.mc_forward.proofs.FirstLemmas.{first-copy}
+use Rattle.mc_replay.proofs.WalkLemmas.{one-fewer, sender-first}
+
+-- who sent the first copy that is held
+sender-held : (firsts : List (Option Copy)) (cs : List Copy) (l : ℕ) (next : Option Interface) →
+    IsFirstBy (λ (c : Copy). c.lan) firsts cs →
+    next ≡ option_and_then (λ (c : Copy). c.sender) (held firsts l) → next ≡ sender_on cs l
+sender-held firsts cs l next are e = e ∙
+    (ap (option_and_then (λ (c : Copy). c.sender)) (are l ∙ first-copy cs l) ∙ sender-first cs l)
+
+-- one hop more, pushed onto those so far
+pushed : (hops : List Hop) (h : Hop) (rest : List Hop) →
+    (hops ++ h ∷ []) ++ rest ≡ hops ++ h ∷ rest
+pushed hops h rest = append_assoc hops (h ∷ []) rest
+
+-- ---- to the source's LAN
+
+back-more : (n : Net) (cs : List Copy) (k onto : ℕ) (x : Option Interface) (h : Hop) →
+    hop_sent n x onto ≡ Some h →
+    hops_back n cs (suc k) onto x ≡ h ∷ hops_back n cs k h.from (sender_on cs h.from)
+back-more n cs k onto x h e = ap (hop_and (λ h. hops_back n cs k h.from (sender_on cs h.from))) e
+
+back-over : (n : Net) (cs : List Copy) (k onto : ℕ) (x : Option Interface) →
+    hop_sent n x onto ≡ None → hops_back n cs k onto x ≡ []
+back-over n cs zero onto x e = refl
+back-over n cs (suc k) onto x e = ap (hop_and (λ h. hops_back n cs k h.from (sender_on cs h.from)))
+    e
+
+pub back-turn : (n : Net) (firsts : List (Option Copy)) (cs : List Copy) (i onto : ℕ)
+    (x next : Option Interface) (c : Copy) (h : Hop) (hops now all : List Hop) →
+    IsFirstBy (λ (c : Copy). c.lan) firsts cs → i < length cs → hop_sent n x onto ≡ Some h →
+    now ≡ hops ++ h ∷ [] →
+    next ≡ option_and_then (λ (c : Copy). c.sender) (held firsts h.from) →
+    hops ++ hops_back n cs (length (drop i cs)) onto x ≡ all →
+    now ++ hops_back n cs (length (drop (i + 1) cs)) h.from next ≡ all
+back-turn n firsts cs i onto x next c h hops now all are lt e push sender so_far =
+    let k = length (drop (i + 1) cs) in
+    let rest = hops_back n cs k h.from (sender_on cs h.from) in
+    let step : hops_back n cs (length (drop i cs)) onto x ≡ h ∷ rest =
+    ap (λ m. hops_back n cs m onto x) (one-fewer cs i c lt) ∙ back-more n cs k onto x h e in
+    ap (λ (y : Option Interface). now ++ hops_back n cs k h.from y)
+    (sender-held firsts cs h.from next are sender) ∙
+    (ap (λ (hs : List Hop). hs ++ rest) push ∙
+    (pushed hops h rest ∙ (ap (λ (hs : List Hop). hops ++ hs) (sym step) ∙ so_far)))
+
+-- at a copy that no hop sent
+pub back-source : (n : Net) (cs : List Copy) (k onto : ℕ) (x : Option Interface)
+    (hops all : List Hop) → hop_sent n x onto ≡ None → hops ++ hops_back n cs k onto x ≡ all →
+    hops ≡ all
+back-source n cs k onto x hops all e so_far = sym (append-nil hops) ∙
+    (ap (λ (hs : List Hop). hops ++ hs) (sym (back-over n cs k onto x e)) ∙ so_far)
+
+-- after as many hops as there are copies
+pub back-all : (n : Net) (cs : List Copy) (i onto : ℕ) (x : Option Interface)
+    (hops all : List Hop) → length cs ≤ i →
+    hops ++ hops_back n cs (length (drop i cs)) onto x ≡ all → hops ≡ all
+back-all n cs i onto x hops all le so_far = sym (append-nil hops) ∙
+    (ap (λ (ds : List Copy). hops ++ hops_back n cs (length ds) onto x) (sym (drop_all i cs le)) ∙
+    so_far)
+
+-- ---- to LAN l
+
+until-more : (n : Net) (cs : List Copy) (l k onto : ℕ) (x : Option Interface) (h : Hop)
+    (test : Bool) → hop_sent n x onto ≡ Some h → (h.from == l) ≡ test →
+    hops_until n cs l (suc k) onto x
+    ≡ h ∷ cond test [] (hops_until n cs l k h.from (sender_on cs h.from))
+until-more n cs l k onto x h test e q =
+    ap (hop_and (λ h. cond (h.from == l) [] (hops_until n cs l k h.from (sender_on cs h.from)))) e ∙
+    ap (λ (b : Bool). h ∷ cond b [] (hops_until n cs l k h.from (sender_on cs h.from))) q
+
+until-over : (n : Net) (cs : List Copy) (l k onto : ℕ) (x : Option Interface) →
+    hop_sent n x onto ≡ None → hops_until n cs l k onto x ≡ []
+until-over n cs l zero onto x e = refl
+until-over n cs l (suc k) onto x e =
+    ap (hop_and (λ h. cond (h.from == l) [] (hops_until n cs l k h.from (sender_on cs h.from)))) e
+
+until-step : (n : Net) (cs : List Copy) (l i onto : ℕ) (x : Option Interface) (c : Copy) (h : Hop)
+    (hops now all : List Hop) (test : Bool) → i < length cs → hop_sent n x onto ≡ Some h →
+    (h.from == l) ≡ test → now ≡ hops ++ h ∷ [] →
+    hops ++ hops_until n cs l (length (drop i cs)) onto x ≡ all →
+    now ++ cond test []
+    (hops_until n cs l (length (drop (i + 1) cs)) h.from (sender_on cs h.from)) ≡ all
+until-step n cs l i onto x c h hops now all test lt e q push so_far =
+    let k = length (drop (i + 1) cs) in
+    let rest = cond test [] (hops_until n cs l k h.from (sender_on cs h.from)) in
+    let step : hops_until n cs l (length (drop i cs)) onto x ≡ h ∷ rest =
+    ap (λ m. hops_until n cs l m onto x) (one-fewer cs i c lt) ∙
+    until-more n cs l k onto x h test e q in
+    ap (λ (hs : List Hop). hs ++ rest) push ∙
+    (pushed hops h rest ∙ (ap (λ (hs : List Hop). hops ++ hs) (sym step) ∙ so_far))
+
+pub until-turn : (n : Net) (firsts : List (Option Copy)) (cs : List Copy) (l i onto : ℕ)
+    (x next : Option Interface) (c : Copy) (h : Hop) (hops now all : List Hop) →
+    IsFirstBy (λ (c : Copy). c.lan) firsts cs → i < length cs → hop_sent n x onto ≡ Some h →
+    (h.from == l) ≡ false → now ≡ hops ++ h ∷ [] →
+    next ≡ option_and_then (λ (c : Copy). c.sender) (held firsts h.from) →
+    hops ++ hops_until n cs l (length (drop i cs)) onto x ≡ all →
+    now ++ hops_until n cs l (length (drop (i + 1) cs)) h.from next ≡ all
+until-turn n firsts cs l i onto x next c h hops now all are lt e q push sender so_far =
+    ap (λ (y : Option Interface). now ++ hops_until n cs l (length (drop (i + 1) cs)) h.from y)
+    (sender-held firsts cs h.from next are sender) ∙
+    until-step n cs l i onto x c h hops now all false lt e q push so_far
+
+-- the hop takes from it
+pub until-there : (n : Net) (cs : List Copy) (l i onto : ℕ) (x : Option Interface) (c : Copy)
+    (h : Hop) (hops now all : List Hop) → i < length cs → hop_sent n x onto ≡ Some h →
+    (h.from == l) ≡ true → now ≡ hops ++ h ∷ [] →
+    hops ++ hops_until n cs l (length (drop i cs)) onto x ≡ all → now ≡ all
+until-there n cs l i onto x c h hops now all lt e q push so_far = sym (append-nil now) ∙
+    until-step n cs l i onto x c h hops now all true lt e q push so_far
+
+pub until-source : (n : Net) (cs : List Copy) (l k onto : ℕ) (x : Option Interface)
+    (hops all : List Hop) → hop_sent n x onto ≡ None →
+    hops ++ hops_until n cs l k onto x ≡ all → hops ≡ all
+until-source n cs l k onto x hops all e so_far = sym (append-nil hops) ∙
+    (ap (λ (hs : List Hop). hops ++ hs) (sym (until-over n cs l k onto x e)) ∙ so_far)
+
+pub until-all : (n : Net) (cs : List Copy) (l i onto : ℕ) (x : Option Interface)
+    (hops all : List Hop) → length cs ≤ i →
+    hops ++ hops_until n cs l (length (drop i cs)) onto x ≡ all → hops ≡ all
+until-all n cs l i onto x hops all le so_far = sym (append-nil hops) ∙
+    (ap (λ (ds : List Copy). hops ++ hops_until n cs l (length ds) onto x)
+    (sym (drop_all i cs le)) ∙ so_far)

@@ -1,0 +1,23 @@
+-- By the travel's last flight.
+use Rattle.std.proofs.Common.{ap, subst}
+use Rattle.mc_theory.specs.Findings.{Finding}
+use Rattle.mc_replay.specs.FindingValues.{finding_value}
+use Rattle.mc_explain.specs.LastFlights.{EndsTravel}
+use Rattle.mc_explain.proofs.EndsLemmas.{second-duplicate, second-loop}
+use Rattle.mc_explain.proofs.explained.finding.Goals as goal
+
+pub duplicate-requires-clause-second : goal.duplicate-requires-clause-second
+duplicate-requires-clause-second c =
+    let f = c.args.view.now in
+    let j = c.args.ended.now.flight in
+    let ends = subst (λ (x : Finding). EndsTravel f c.requires.0 x j)
+    (ap finding_value c.in-Duplicate.is) c.requires.1 in
+    second-duplicate f c.requires.0 c.in-Duplicate.lan j c.topology-rules.ensures.rules ends
+
+pub around-requires-clause-second : goal.around-requires-clause-second
+around-requires-clause-second c =
+    let f = c.args.view.now in
+    let j = c.args.ended.now.flight in
+    let ends = subst (λ (x : Finding). EndsTravel f c.requires.0 x j)
+    (ap finding_value c.in-Loop.is) c.requires.1 in
+    second-loop f c.requires.0 c.in-Loop.lan j c.topology-rules.ensures.rules ends

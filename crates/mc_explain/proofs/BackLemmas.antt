@@ -32,12 +32,6 @@ back-more : (n : Net) (cs : List Copy) (k onto : ℕ) (x : Option Interface) (h 
     hops_back n cs (suc k) onto x ≡ h ∷ hops_back n cs k h.from (sender_on cs h.from)
 back-more n cs k onto x h e = ap (hop_and (λ h. hops_back n cs k h.from (sender_on cs h.from))) e
 
-back-over : (n : Net) (cs : List Copy) (k onto : ℕ) (x : Option Interface) →
-    hop_sent n x onto ≡ None → hops_back n cs k onto x ≡ []
-back-over n cs zero onto x e = refl
-back-over n cs (suc k) onto x e = ap (hop_and (λ h. hops_back n cs k h.from (sender_on cs h.from)))
-    e
-
 pub back-turn : (n : Net) (firsts : List (Option Copy)) (cs : List Copy) (i onto : ℕ)
     (x next : Option Interface) (c : Copy) (h : Hop) (hops now all : List Hop) →
     IsFirstBy (λ (c : Copy). c.lan) firsts cs → i < length cs → hop_sent n x onto ≡ Some h →
@@ -55,21 +49,6 @@ back-turn n firsts cs i onto x next c h hops now all are lt e push sender so_far
     (ap (λ (hs : List Hop). hs ++ rest) push ∙
     (pushed hops h rest ∙ (ap (λ (hs : List Hop). hops ++ hs) (sym step) ∙ so_far)))
 
--- at a copy that no hop sent
-pub back-source : (n : Net) (cs : List Copy) (k onto : ℕ) (x : Option Interface)
-    (hops all : List Hop) → hop_sent n x onto ≡ None → hops ++ hops_back n cs k onto x ≡ all →
-    hops ≡ all
-back-source n cs k onto x hops all e so_far = sym (append-nil hops) ∙
-    (ap (λ (hs : List Hop). hops ++ hs) (sym (back-over n cs k onto x e)) ∙ so_far)
-
--- after as many hops as there are copies
-pub back-all : (n : Net) (cs : List Copy) (i onto : ℕ) (x : Option Interface)
-    (hops all : List Hop) → length cs ≤ i →
-    hops ++ hops_back n cs (length (drop i cs)) onto x ≡ all → hops ≡ all
-back-all n cs i onto x hops all le so_far = sym (append-nil hops) ∙
-    (ap (λ (ds : List Copy). hops ++ hops_back n cs (length ds) onto x) (sym (drop_all i cs le)) ∙
-    so_far)
-
 -- ---- to LAN l
 
 until-more : (n : Net) (cs : List Copy) (l k onto : ℕ) (x : Option Interface) (h : Hop)
@@ -79,12 +58,6 @@ until-more : (n : Net) (cs : List Copy) (l k onto : ℕ) (x : Option Interface) 
 until-more n cs l k onto x h test e q =
     ap (hop_and (λ h. cond (h.from == l) [] (hops_until n cs l k h.from (sender_on cs h.from)))) e ∙
     ap (λ (b : Bool). h ∷ cond b [] (hops_until n cs l k h.from (sender_on cs h.from))) q
-
-until-over : (n : Net) (cs : List Copy) (l k onto : ℕ) (x : Option Interface) →
-    hop_sent n x onto ≡ None → hops_until n cs l k onto x ≡ []
-until-over n cs l zero onto x e = refl
-until-over n cs l (suc k) onto x e =
-    ap (hop_and (λ h. cond (h.from == l) [] (hops_until n cs l k h.from (sender_on cs h.from)))) e
 
 until-step : (n : Net) (cs : List Copy) (l i onto : ℕ) (x : Option Interface) (c : Copy) (h : Hop)
     (hops now all : List Hop) (test : Bool) → i < length cs → hop_sent n x onto ≡ Some h →
@@ -113,23 +86,3 @@ until-turn n firsts cs l i onto x next c h hops now all are lt e q push sender s
     (sender-held firsts cs h.from next are sender) ∙
     until-step n cs l i onto x c h hops now all false lt e q push so_far
 
--- the hop takes from it
-pub until-there : (n : Net) (cs : List Copy) (l i onto : ℕ) (x : Option Interface) (c : Copy)
-    (h : Hop) (hops now all : List Hop) → i < length cs → hop_sent n x onto ≡ Some h →
-    (h.from == l) ≡ true → now ≡ hops ++ h ∷ [] →
-    hops ++ hops_until n cs l (length (drop i cs)) onto x ≡ all → now ≡ all
-until-there n cs l i onto x c h hops now all lt e q push so_far = sym (append-nil now) ∙
-    until-step n cs l i onto x c h hops now all true lt e q push so_far
-
-pub until-source : (n : Net) (cs : List Copy) (l k onto : ℕ) (x : Option Interface)
-    (hops all : List Hop) → hop_sent n x onto ≡ None →
-    hops ++ hops_until n cs l k onto x ≡ all → hops ≡ all
-until-source n cs l k onto x hops all e so_far = sym (append-nil hops) ∙
-    (ap (λ (hs : List Hop). hops ++ hs) (sym (until-over n cs l k onto x e)) ∙ so_far)
-
-pub until-all : (n : Net) (cs : List Copy) (l i onto : ℕ) (x : Option Interface)
-    (hops all : List Hop) → length cs ≤ i →
-    hops ++ hops_until n cs l (length (drop i cs)) onto x ≡ all → hops ≡ all
-until-all n cs l i onto x hops all le so_far = sym (append-nil hops) ∙
-    (ap (λ (ds : List Copy). hops ++ hops_until n cs l (length ds) onto x)
-    (sym (drop_all i cs le)) ∙ so_far)

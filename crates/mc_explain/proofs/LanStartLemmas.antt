@@ -83,11 +83,6 @@ start-text : (t : TopologyValue) (s : LanStart) (lans : List ℕ) → IsStartOf 
 start-text t s lans is =
     ap₂ (λ ls n. flat_map (behind_space t) ls ++ more_text (n - 8)) is.first is.count
 
--- of no LAN
-pub wanted-none : (t : TopologyValue) (s : LanStart) (lans : List ℕ) → IsStartOf s lans
-    → s.count ≡ 0 → lans ≡ []
-wanted-none t s lans is none = nil_from_length lans (let n = is.count in omega (arith, n, none))
-
 -- of some that want the flow
 pub wanted-some : (t : TopologyValue) (s : LanStart) (n : ℕ) (lans : List ℕ) → IsStartOf s lans
     → n ≡ s.count → 0 < n
@@ -97,14 +92,6 @@ wanted-some t s n [] is told some = absurd (let none = is.count in omega (arith,
 wanted-some t s n (lan ∷ lans) is told some =
     ap₂ (λ m text. codes "  wanted " ++ (decimal m ++ (codes ":" ++ (text ++ codes "\n"))))
     (told ∙ is.count) (start-text t s (lan ∷ lans) is)
-
--- of some that were missed too
-pub missed-some : (t : TopologyValue) (s : LanStart) (lans : List ℕ) → IsStartOf s lans
-    → 0 < s.count
-    → codes "  also missed:" ++ (start_text t s ++ codes "\n") ≡ missed_too_text t lans
-missed-some t s [] is some = absurd (let n = is.count in omega (arith, n, some))
-missed-some t s (lan ∷ lans) is some =
-    ap (λ text. codes "  also missed:" ++ (text ++ codes "\n")) (start-text t s (lan ∷ lans) is)
 
 -- ---- marks
 

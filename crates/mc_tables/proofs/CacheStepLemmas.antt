@@ -1,6 +1,6 @@
 -- A table that grows by a row at a time is the table of all the rows.
-use Rattle.std.proofs.Common.{◌≡◌, ℕ, true, false, List, [], ◌∷◌, ◌++◌, Option}
-use Rattle.std.proofs.Common.{Some, None, Ok, Err, refl, sym, ap, ◌∙◌, inl, inr}
+use Rattle.std.proofs.Common.{◌≡◌, ℕ, false, List, [], ◌∷◌, ◌++◌, Option}
+use Rattle.std.proofs.Common.{Some, None, Ok, refl, sym, ap, ◌∙◌, inl, inr}
 use Rattle.std.specs.Prelude.{not, is_some, map as map_list}
 use Rattle.std.specs.Option.{option_map}
 use Rattle.std.specs.List.{filter_map, cons_option}
@@ -17,32 +17,15 @@ use Rattle.mc_tables.specs.declared.fault.TableFaultKind.TheVariants.{RepeatedEn
 use Rattle.mc_text.specs.Steps.{◌>>=◌}
 use Rattle.mc_tables.specs.Steps.{demand}
 use Rattle.mc_tables.specs.TableLines.{is_among}
-use Rattle.mc_tables.specs.CacheTable.{RowText, CacheText, key_cmp, same_key, exact_entry, key_of}
+use Rattle.mc_tables.specs.CacheTable.{RowText, key_cmp, same_key, exact_entry, key_of}
 use Rattle.mc_tables.specs.CacheTable.{wildcard_of, table_of}
 use Rattle.mc_tables.specs.CacheReading.{entry_repeats}
 use Rattle.mc_tables.specs.CacheSteps.{has_key, with_exact, with_number, with_wildcard, row_added}
-use Rattle.mc_tables.specs.CacheSteps.{entry_added}
 use Rattle.mc_tables.proofs.CacheLemmas.{key_total}
 use Rattle.mc_tables.proofs.CacheLookupLemmas.{key_among}
 use Rattle.mc_tables.proofs.CacheMapLemmas.{key_antisymmetric}
 
 -- ---- one row
-
--- an entry whose key is there is refused
-pub entry_repeated : (table : CacheText) (key : ℕ × ℕ) (entry : EntryText)
-    → is_some (map.get table.entries key) ≡ true → entry_added table key entry ≡ Err RepeatedEntry
-entry_repeated table key entry repeats = rw repeats refl
-
--- an entry whose key is new is added
-pub entry_entered : (table : CacheText) (key : ℕ × ℕ) (entry : EntryText)
-    (more : map.FinMap key_cmp EntryText) → is_some (map.get table.entries key) ≡ false →
-    more ≡ map.insert table.entries key entry →
-    entry_added table key entry ≡ Ok (record {
-      entries = more;
-      numbered = table.numbered ++ entry ∷ [];
-      wildcards = table.wildcards;
-    })
-entry_entered table key entry more new grown = rw (new, grown) refl
 
 -- the map has a row's key where an earlier row has it
 key_repeats : (exact : Option ((ℕ × ℕ) × EntryText)) (rows : List RowText) →

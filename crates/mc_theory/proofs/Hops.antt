@@ -1,6 +1,6 @@
 -- The hops by which copies came, one after the other: how they are found, and that they are the
 -- only ones.
-use Rattle.std.proofs.Common.{◌≡◌, ◌≢◌, ℕ, ◌+◌, ◌<◌, ◌≤◌, inl, inr, Bool, List, [], ◌∷◌, ◌++◌, map}
+use Rattle.std.proofs.Common.{◌≡◌, ℕ, ◌+◌, ◌<◌, ◌≤◌, inl, inr, Bool, List, [], ◌∷◌, ◌++◌, map}
 use Rattle.std.proofs.Common.{length, Option, Some, None, refl, ap, sym, ◌∙◌, ap₂, subst, arith}
 use Rattle.std.proofs.Common.{zero, suc, true, false, cond, ◌==◌, eq-eqb}
 use Rattle.std.proofs.lemmas.Bool.{cases_eq, ne_eqb}
@@ -241,37 +241,6 @@ sent-found : (n : Net) (c : Copy) (h : Hop) → IsNet n → SentBy n c h →
 sent-found n c h net sent = ap (λ (x : Option Interface). hop_sent n x c.lan) sent.0 ∙
     sent-known n c h (h.router, h.vif) net sent sent.0
 
--- one step of it: none from the source's copy, and else the sender's hop, and what is found on from it
-pub back-none : (n : Net) (cs : List Copy) (k onto : ℕ) → hops_back n cs k onto None ≡ []
-back-none n cs zero onto = refl
-back-none n cs (suc k) onto = refl
-
-pub back-step : (n : Net) (cs : List Copy) (k onto : ℕ) (i : Interface) (h : Hop) →
-    hop_by n i onto ≡ Some h →
-    hops_back n cs (suc k) onto (Some i) ≡ h ∷ hops_back n cs k h.from (sender_on cs h.from)
-back-step n cs k onto i h e = ap (hop_and (λ h. hops_back n cs k h.from (sender_on cs h.from))) e
-
-pub until-none : (n : Net) (cs : List Copy) (l k onto : ℕ) → hops_until n cs l k onto None ≡ []
-until-none n cs l zero onto = refl
-until-none n cs l (suc k) onto = refl
-
--- the sender's hop alone, where it takes from the LAN
-until-step : (n : Net) (cs : List Copy) (l k onto : ℕ) (i : Interface) (h : Hop) (test : Bool) →
-    hop_by n i onto ≡ Some h → (h.from == l) ≡ test → hops_until n cs l (suc k) onto (Some i) ≡
-    h ∷ cond test [] (hops_until n cs l k h.from (sender_on cs h.from))
-until-step n cs l k onto i h test e q =
-    ap (hop_and (λ h. cond (h.from == l) [] (hops_until n cs l k h.from (sender_on cs h.from)))) e ∙
-    ap (λ (b : Bool). h ∷ cond b [] (hops_until n cs l k h.from (sender_on cs h.from))) q
-
-pub until-last : (n : Net) (cs : List Copy) (l k onto : ℕ) (i : Interface) (h : Hop) →
-    hop_by n i onto ≡ Some h → h.from ≡ l → hops_until n cs l (suc k) onto (Some i) ≡ h ∷ []
-until-last n cs l k onto i h e q = until-step n cs l k onto i h true e (eq-eqb h.from l q)
-
-pub until-more : (n : Net) (cs : List Copy) (l k onto : ℕ) (i : Interface) (h : Hop) →
-    hop_by n i onto ≡ Some h → h.from ≢ l → hops_until n cs l (suc k) onto (Some i) ≡
-    h ∷ hops_until n cs l k h.from (sender_on cs h.from)
-until-more n cs l k onto i h e z = until-step n cs l k onto i h false e (ne_eqb h.from l z)
-
 -- where as many are looked for, or more
 pub back-found : (n : Net) (cs : List Copy) (k : ℕ) (c : Copy) (hs : List Hop) → IsNet n →
     CameBy n cs c hs → length hs ≤ k → hops_back n cs k c.lan c.sender ≡ hs
@@ -386,14 +355,6 @@ pub part-from : (n : Net) (cs : List Copy) (l : ℕ) (c : Copy) (hs : List Hop) 
     h.from ≡ l → CameFrom n cs l c (hs ++ h ∷ [])
 part-from n cs l c hs b h part apart sent e = part-from_left n cs l c hs b h [] part apart (sent, e)
 
--- or it doesn't, and none has so far
-pub part-apart : (l : ℕ) (hs : List Hop) (h : Hop) → (In l (map (λ (h : Hop). h.from) hs) → ⊥) →
-    h.from ≢ l → In l (map (λ (h : Hop). h.from) (hs ++ h ∷ [])) → ⊥
-part-apart l [] h apart z (inl e) = z e
-part-apart l [] h apart z (inr k) = k
-part-apart l (g ∷ hs) h apart z (inl e) = apart (inl e)
-part-apart l (g ∷ hs) h apart z (inr k) = part-apart l hs h (λ j. apart (inr j)) z k
-
 -- it has come to a carried copy
 pub part-in : (n : Net) (cs : List Copy) (c : Copy) (hs : List Hop) (b : Copy) → In c cs →
     IsWayPart n cs c hs b → In b cs
@@ -420,21 +381,6 @@ travel-sent n count t numbers last is x c i net travel c_in q =
     let h = hop_of b.0 c i b.2.threshold in
     let sent : SentBy n c h = (q, refl, is-hop n b.0 c i b.2) in
     (h, b.0, sent-known n c h i net sent q, sent, b.1)
-
--- so the walk back goes on, one hop further
-pub part-next : (n : Net) (count t : ℕ) (numbers : List ℕ) (last : Bool) (is : List ℕ) (x : Finding)
-    (c : Copy) (hs : List Hop) (b : Copy) (i : Interface) → IsNet n →
-    IsTravel n count numbers last is (start n t) x →
-    In c (run n (handles is) (start n t)).carried →
-    IsWayPart n (run n (handles is) (start n t)).carried c hs b → b.sender ≡ Some i
-    → (h : Hop) × (first : Copy) × (hop_by n i b.lan ≡ Some h) × SentBy n b h ×
-    (copy_on (run n (handles is) (start n t)).carried h.from ≡ Some first) ×
-    IsWayPart n (run n (handles is) (start n t)).carried c (hs ++ h ∷ []) first
-part-next n count t numbers last is x c hs b i net travel c_in part q =
-    let cs = (run n (handles is) (start n t)).carried in
-    let b_in = part-in n cs c hs b c_in part in
-    let s = travel-sent n count t numbers last is x b i net travel b_in q in
-    (s.0, s.1, s.2, s.3, s.4, part-step n cs c hs b s.0 s.1 part s.3 s.4)
 
 length-append : (hs ks : List Hop) → length (hs ++ ks) ≡ length hs + length ks
 length-append [] ks = omega arith

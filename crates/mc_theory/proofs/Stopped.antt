@@ -2,7 +2,7 @@
 use Rattle.std.proofs.Common.{◌≡◌, ℕ, ◌+◌, ◌-◌, ◌<◌, ◌≤◌, inl, inr, List, [], ◌∷◌, ◌++◌, length}
 use Rattle.std.proofs.Common.{refl, ap, sym, ◌∙◌, ap₂, subst, arith, ◌↔◌, Bool, true, false, cond}
 use Rattle.std.proofs.Common.{nat_lt, ltb-true, ltb-false, Option, Some, None}
-use Rattle.std.proofs.lemmas.Bool.{cases_lt, lt-ltb, le-ltb}
+use Rattle.std.proofs.lemmas.Bool.{cases_lt, le-ltb}
 use Rattle.mc_theory.specs.Ways.{Hop, Passes, need, IsStopped}
 use Rattle.mc_theory.specs.Hops.{stop_by, stop_of}
 use Rattle.mc_theory.proofs.Splits.{splits}
@@ -166,12 +166,6 @@ pub stop-stays : (t : ℕ) (after hs : List Hop) (stop : Hop × ℕ) → stop_of
 stop-stays t [] hs stop e = e
 stop-stays t (h ∷ after) hs stop e =
     ap (stop_by h (t - length (after ++ hs))) (stop-stays t after hs stop e)
-
--- where none has stopped it so far, the next hop lets it through, or stops it
-pub stop-next : (t : ℕ) (hs : List Hop) (h : Hop) → stop_of t hs ≡ None →
-    h.threshold < t - length hs → stop_of t (h ∷ hs) ≡ None
-stop-next t hs h e lt = ap (stop_by h (t - length hs)) e ∙
-    ap (λ (b : Bool). cond b None (Some (h, t - length hs))) (lt-ltb h.threshold (t - length hs) lt)
 
 pub stop-here : (t : ℕ) (hs : List Hop) (h : Hop) → stop_of t hs ≡ None →
     t - length hs ≤ h.threshold → stop_of t (h ∷ hs) ≡ Some (h, t - length hs)

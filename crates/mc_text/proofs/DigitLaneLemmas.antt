@@ -177,8 +177,8 @@ bytes_are v values long digits is =
 
 -- ---- the bytes of pairs
 
--- digits decode to the bytes of their pairs
-pub pairs_decoded : (i n : ℕ) (s : List ℕ) → length s ≡ 2 * n → list_all is_hex_digit s ≡ true
+-- digits decode to the bytes of their pairs, from any place on
+pairs_decoded : (i n : ℕ) (s : List ℕ) → length s ≡ 2 * n → list_all is_hex_digit s ≡ true
     → decode_pairs i s ≡ Ok (pairs_of s)
 unfolding decode_pairs
 pairs_decoded i n [] even digits = refl
@@ -190,6 +190,11 @@ pairs_decoded i (suc n) (a ∷ b ∷ s) even digits =
     let pair = pair_read a b i (byte_of_pair a b) (digit_below a p.0) (digit_below b q.0) refl in
     decode_pairs-ok_pair i a b (byte_of_pair a b) s pair
     ∙ ap (cons_byte (byte_of_pair a b)) (pairs_decoded (i + 2) n s (omega arith) q.1)
+
+-- and from the first on
+pub digits_decoded : (n : ℕ) (s : List ℕ) → length s ≡ 2 * n → list_all is_hex_digit s ≡ true
+    → decode_of s ≡ Ok (pairs_of s)
+digits_decoded n s even digits = decode_of-even s (omega arith) ∙ pairs_decoded 0 n s even digits
 
 two_more : (n : ℕ) → suc (suc (2 * n)) ≡ 2 * suc n
 two_more n = omega arith
@@ -237,8 +242,3 @@ pub all_back : (passes : ℕ → Bool) (n : ℕ) (s : List ℕ) → list_all pas
 all_back passes zero s all = all
 all_back passes (suc n) [] all = refl
 all_back passes (suc n) (b ∷ s) all = all_back passes n s (and_parts (passes b) _ all).1
-
--- so they are what digits decode to
-pub digits_decoded : (n : ℕ) (s : List ℕ) → length s ≡ 2 * n → list_all is_hex_digit s ≡ true
-    → decode_of s ≡ Ok (pairs_of s)
-digits_decoded n s even digits = decode_of-even s (omega arith) ∙ pairs_decoded 0 n s even digits

@@ -13,10 +13,9 @@ use Rattle.std.proofs.lemmas.Simd.{length-chunk, take_more_put_chunk}
 use Rattle.std.proofs.lemmas.Simd.{length-put_chunk, pick_l-range_with_len}
 use Rattle.hex.specs.Hex.{is_hex_digit, decode_of}
 use Rattle.hex.proofs.HexLemmas.{decode_of-ok}
-use Rattle.mc_text.specs.DigitPairs.{pairs_of}
+use Rattle.mc_text.specs.DigitPairs.{pairs_of, AreWritten}
 use Rattle.mc_text.proofs.DigitLaneLemmas.{digits_decoded, pairs_front, pairs_both, pairs_length}
 use Rattle.mc_text.proofs.DigitLaneLemmas.{all_front, all_both, all_back}
-use Rattle.mc_igmp.specs.WrittenBytes.{AreWritten}
 
 -- fewer bytes are written where more are
 pub written_less : (digits bytes : List ℕ) (m k : ℕ) → m ≤ k → AreWritten digits bytes k

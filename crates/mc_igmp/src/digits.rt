@@ -5,7 +5,7 @@ ghost use Rattle.std.specs.Prelude.{map, take, true, false, Ok};
 ghost use Rattle.std.specs.List.{list_all};
 ghost use Rattle.hex.specs.Hex.{decode_of, is_hex_digit};
 ghost use Rattle.mc_text.specs.AddressWord.{value_or_16};
-ghost use Rattle.mc_igmp.specs.WrittenBytes.{AreWritten};
+ghost use Rattle.mc_text.specs.DigitPairs.{AreWritten};
 
 use mc_text::{are_hex_digits, bytes_of_hex_digits, hex_digit};
 use std::simd::prelude::*;

@@ -12,7 +12,7 @@ use Rattle.mc_text.specs.AddressReading.{octets_in_order}
 use Rattle.mc_text.specs.DigitPairs.{pairs_of}
 use Rattle.mc_text.proofs.DigitLaneLemmas.{digits_decoded, all_front, all_back}
 use Rattle.mc_tables.specs.TableWords.{address_in}
-use Rattle.mc_tables.specs.AddressWords.{HasAddresses}
+use Rattle.mc_tables.specs.RowWords.{HasAddresses}
 use Rattle.mc_tables.proofs.PlainLemmas.{address_first}
 
 -- a word that decodes to four bytes shows the address of them

@@ -7,7 +7,6 @@ pub mod VifTable
 pub mod VifReading
 pub mod RowWords
 pub mod Counters
-pub mod AddressWords
 pub mod VifLookups
 pub mod VifsSoFar
 pub mod CacheTable

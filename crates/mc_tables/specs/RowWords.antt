@@ -1,5 +1,8 @@
 -- The words of a line of a table, in their order.
-use Rattle.std.specs.Prelude.{ℕ, List, [], ◌∷◌}
+use Rattle.std.specs.Prelude.{◌≡◌, ℕ, ◌≤◌, List, [], ◌∷◌, length, take, drop, Some}
+use Rattle.mc_text.specs.Lines.{words_of}
+use Rattle.mc_text.specs.declared.text.addr.Order.{Order}
+use Rattle.mc_tables.specs.TableWords.{address_in}
 use Rattle.mc_tables.specs.declared.vif_line.CounterWords.{CounterWords}
 use Rattle.mc_tables.specs.declared.vif_line.VifWords.{VifWords}
 use Rattle.mc_tables.specs.declared.cache_line.CacheWords.{CacheWords}
@@ -19,3 +22,11 @@ word_list w =
 abbrev pub words_before : CacheWords → List (List ℕ) → List (List ℕ)
 words_before w outgoing =
     w.group.now ∷ w.origin.now ∷ w.iif.now ∷ w.packets.now ∷ w.bytes.now ∷ w.wrong.now ∷ outgoing
+
+-- a row's first two words are eight digits each, with a space behind each (`%08X %08X ` of
+-- ipmr_mfc_seq_show in net/ipv4/ipmr.c), and show these addresses
+pub record HasAddresses (order : Order) (line : List ℕ) (group origin : ℕ) : Type 0 where
+  pub long : 18 ≤ length line
+  pub words : words_of line ≡ take 8 line ∷ take 8 (drop 9 line) ∷ words_of (drop 18 line)
+  pub group_read : address_in order (take 8 line) ≡ Some group
+  pub origin_read : address_in order (take 8 (drop 9 line)) ≡ Some origin

@@ -3,7 +3,7 @@
 ghost use Rattle.std.specs.Prelude.{◌≡◌, ◌++◌, ◌+◌, ◌≤◌, ◌∷◌, IfSome, Some, length, take, drop};
 ghost use Rattle.mc_text.specs.Lines.{words_of};
 ghost use Rattle.mc_tables.specs.TableWords.{address_in};
-ghost use Rattle.mc_tables.specs.AddressWords.{HasAddresses};
+ghost use Rattle.mc_tables.specs.RowWords.{HasAddresses};
 
 use mc_text::{Addr, Order, are_hex_digits, bytes_of_hex_digits};
 use std::simd::prelude::*;

@@ -1,5 +1,5 @@
 use Rattle.std.proofs.Common.{◌≡◌, ◌-◌, ◌*◌, length}
-use Rattle.mc_igmp.specs.WrittenBytes.{AreWritten}
+use Rattle.mc_text.specs.DigitPairs.{AreWritten}
 use Rattle.mc_igmp.proofs.digits.write_bytes.Given as goal
 
 -- The bytes so far are those of the digits so far.

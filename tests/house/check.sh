@@ -25,11 +25,11 @@ lines() {
 	grep -rhE -- "$pattern" "$@" 2>/dev/null | wc -l
 }
 
-# small MOST PATH..: how many files below the paths have at most MOST lines
+# small MOST PATH..: how many files of definitions below the paths, but for a crate's list of them, have at most MOST lines
 small() {
 	most=$1
 	shift
-	find "$@" -name '*.antt' -exec wc -l {} \; | awk -v most="$most" '$1 <= most { count++ } END { print count + 0 }'
+	find "$@" -name '*.antt' ! -name Lib.antt -exec wc -l {} \; | awk -v most="$most" '$1 <= most { count++ } END { print count + 0 }'
 }
 
 specs=$(echo crates/*/specs) proofs=$(echo crates/*/proofs)
@@ -46,8 +46,9 @@ rule 'the octets of a number in an order' 1 "$(lines "${head}octets_in_order :" 
 rule 'a count of failures by its own cases' 2 "$(lines "${head}failed_[a-z_]* :" $specs)"
 
 # --- the parts of a domain ---
-rule 'the kind of a part in code ("vif")' 1 "$(lines '"vif[/"-]' $(echo $sources | tr " " "\n" | grep -v mc_cert))"
-rule 'the kind of a part in definitions (codes "vif")' 1 "$(lines 'codes "vif[/"-]' $(ls -d crates/*/specs | grep -v mc_cert))"
+# (one more is how a vif is told that has no device)
+rule 'the kind of a part in code ("vif")' 2 "$(lines '"vif[/"-]' $(echo $sources | tr " " "\n" | grep -v mc_cert))"
+rule 'the kind of a part in definitions (codes "vif")' 2 "$(lines 'codes "vif[/"-]' $(ls -d crates/*/specs | grep -v mc_cert))"
 rule 'the most bytes of a part (MAX_PART)' 1 "$(lines 'const MAX_PART:' $sources)"
 rule 'a file taken as a part (FilePart)' 1 "$(lines 'struct FilePart' $sources)"
 
@@ -61,7 +62,7 @@ rule 'lines that prove what the runs answer' 180 "$(cat crates/*/proofs/*/run_*/
 rule "a LAN's name by its number, and a router's" 2 "$(lines "${head}(lan_name|router_name) :" $specs)"
 rule "a word with a LAN's name, and with a router and its vif" 2 "$(lines 'struct At(Lan|Vif)' $sources)"
 rule 'facts by the name IsKept' 0 "$(lines "${head}(record )?IsKept" $specs)"
-rule 'files of definitions of at most 15 lines' 12 "$(small 15 $specs)"
+rule 'files of definitions of at most 15 lines' 5 "$(small 15 $specs)"
 rule 'lemmas and definitions that nothing leads to' 0 "$(python3 tests/house/uncited.py | wc -l)"
 
 printf '%s passed, %s failed\n' "$passed" "$failed"

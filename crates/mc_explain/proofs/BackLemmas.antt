@@ -85,4 +85,3 @@ until-turn n firsts cs l i onto x next c h hops now all are lt e q push sender s
     ap (λ (y : Option Interface). now ++ hops_until n cs l (length (drop (i + 1) cs)) h.from y)
     (sender-held firsts cs h.from next are sender) ∙
     until-step n cs l i onto x c h hops now all false lt e q push so_far
-

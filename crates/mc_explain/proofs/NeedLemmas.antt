@@ -62,4 +62,3 @@ stop-there t hops before left h so_far lt at stops =
     ap (λ (m : ℕ). Some (h, m)) same) in
     sym (sym (ap (stop_of t) (take-append-drop k hops)) ∙
     stop-stays t (take k hops) (drop k hops) (h, left) here)
-

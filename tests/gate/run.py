@@ -6,14 +6,14 @@
 It works on a copy of the repository, in steps:
 
   packages  tests/packages.sh installs what of the file `packages` is missing; what can't be had ends the gate by name
-  house     tests/house looks whether each thing stands once, and whether something leads to each lemma; tests/docs
-            whether what the documents name is there
+  house     tests/house looks whether each thing stands once, and whether something leads to each lemma
   proofs    `rt ci` proves each crate and its tests from nothing, runs the tests, and builds and runs the program
   edits     tests/edits/try.py tries the wrong bodies of crates/*/must-fail, many in one check: the prover must
             refuse each. (The copy that `rt ci` sees has none of them: it would try each in a check of its own.)
-  cases     tests/cli on the program that was built, tests/docs, which runs what README shows, tests/audited, which works
-            out anew what it says of random domains, tests/refusals, which refuses it each request for memory, each read and each write in turn, and the tests about
-            memory each growth, and tests/tools on the shell tools
+  cases     tests/docs looks whether what the documents name is there, and runs what README shows; tests/cli has cases of
+            the program that was built; tests/audited works out anew what it says of random domains; tests/refusals
+            refuses it each request for memory, each read and each write in turn, and the tests about memory each growth;
+            tests/tools tries the shell tools
 
 Where a package is missing or the proofs fail, it ends there. At the end stands what each step and each crate took in
 processor time; with REPORT, a path, the same as a page in Markdown. The last line counts everything, `N passed, M
@@ -174,6 +174,7 @@ def try_program(gate):
     program = "crates/mcaudit/out/mcaudit"
     gate.step("the script for the edits", sys.executable, "tests/edits/try.py", "--selftest")
     gate.step("edits", sys.executable, "tests/edits/try.py")
+    gate.step("what documents name", sys.executable, "tests/docs/check.py")
     gate.step("cases of the program", "sh", "tests/cli/run.sh", program)
     gate.step("tables of the program", sys.executable, "tests/cli/tables.py", program)
     gate.step("what README shows", sys.executable, "tests/docs/run_blocks.py", program)
@@ -192,7 +193,6 @@ def main():
         gate = Gate(room)
         gate.step("packages", "sh", "tests/packages.sh", "gate")
         gate.step("each thing once", "sh", "tests/house/check.sh")
-        gate.step("what documents name", sys.executable, "tests/docs/check.py")
         if not gate.failed:
             gate.step("proofs, tests and programs", "rt", "ci")
         if not gate.failed:

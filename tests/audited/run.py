@@ -1,12 +1,14 @@
 #!/usr/bin/env python3
-"""Runs the built program's `audit` on domains made at random, and compares what it says with answers.py.
+"""Runs the built program's `audit` on many domains, and compares what it says with answers.py.
 
   python3 tests/audited/run.py PROGRAM [COUNT [FIRST]]
 
-The domains are those of random_domains.py with the numbers from FIRST (0) on, COUNT (400) of them. answers.py works the
-answers out from their definitions. Of its lines those are compared that the program writes: of flows, findings, events
-and the verdict. Each kind of finding has to come, or the domains would show too little. The last line counts the
-domains: `N passed, M failed`. The status is 0 if none failed and one was run.
+The domains are those of examples/faults, and those of random_domains.py with the numbers from FIRST (0) on, COUNT (400)
+of them. answers.py works the answers out from their definitions. Of its lines those are compared that the program
+writes: of flows, findings, events and the verdict. For the examples, whose whole answers stand beside their folders and
+were read line by line against the tables, it has to give these, as text and as JSON. Each kind of finding has to come,
+or the domains would show too little. The last line counts the domains: `N passed, M failed`. The status is 0 if none
+failed and one was run.
 """
 import os
 import subprocess
@@ -18,6 +20,7 @@ sys.dont_write_bytecode = True
 import answers
 import random_domains
 
+FAULTS = os.path.join(os.path.dirname(os.path.abspath(__file__)), "..", "..", "examples", "faults")
 SECONDS = 60
 COUNT = 400
 WRITTEN = ("flow ", "found ", "event ", "verdict ")
@@ -28,36 +31,55 @@ def written_of(text):
     return "".join(line for line in text.splitlines(keepends=True) if line.startswith(WRITTEN))
 
 
-def try_domain(program, number):
-    """Returns what is wrong with the program's answer, or nothing, and what was found in the domain."""
-    with tempfile.TemporaryDirectory(prefix="mcaudit-audited-") as folder:
-        random_domains.Made(number).write(folder)
-        wanted = answers.audit([folder, "--travel"])
-        run = subprocess.run([program, "audit", folder, "--travel"], capture_output=True, timeout=SECONDS, check=False)
-        said = run.stdout.decode("latin-1")
+def try_folder(program, name, folder):
+    """Returns what is wrong with the program's answer of a folder, or nothing, and what is found in its domain."""
+    wanted = answers.audit([folder, "--travel"])
+    run = subprocess.run([program, "audit", folder, "--travel"], capture_output=True, timeout=SECONDS, check=False)
+    said = run.stdout.decode("latin-1")
     kinds = {answer.travel.finding[0] for answer in wanted.answers}
     expected = written_of(wanted.text())
     if said == expected and run.returncode == wanted.status and not run.stderr:
         return None, kinds
-    return f"domain {number}: wanted status {wanted.status}\n{expected}said status {run.returncode}\n{said}{run.stderr.decode('latin-1')}", kinds
+    return (f"{name}: wanted status {wanted.status}\n{expected}said status {run.returncode}\n{said}"
+            + run.stderr.decode("latin-1"), kinds)
+
+
+def try_random(program, number):
+    with tempfile.TemporaryDirectory(prefix="mcaudit-audited-") as folder:
+        random_domains.Made(number).write(folder)
+        return try_folder(program, f"domain {number}", folder)
+
+
+def try_example(program, name):
+    folder = os.path.join(FAULTS, name)
+    for ending, words in (("txt", []), ("json", ["--json"])):
+        with open(f"{folder}.{ending}", encoding="latin-1") as file:
+            stands = file.read()
+        worked_out = answers.audit([folder, *words]).output()
+        if worked_out != stands:
+            return f"{name}.{ending}: stands\n{stands}answers.py\n{worked_out}", set()
+    return try_folder(program, name, folder)
 
 
 def main():
     program = os.path.abspath(sys.argv[1])
     count = int(sys.argv[2]) if len(sys.argv) > 2 else COUNT
     first = int(sys.argv[3]) if len(sys.argv) > 3 else 0
+    examples = sorted(name for name in os.listdir(FAULTS) if os.path.isdir(os.path.join(FAULTS, name)))
     failed, kinds = 0, set()
     with ThreadPoolExecutor(os.cpu_count()) as pool:
-        for wrong, found in pool.map(lambda number: try_domain(program, number), range(first, first + count)):
+        tried = [pool.submit(try_example, program, name) for name in examples]
+        tried += [pool.submit(try_random, program, number) for number in range(first, first + count)]
+        for wrong, found in (it.result() for it in tried):
             kinds |= found
             if wrong:
                 failed += 1
                 print(wrong)
-    if count >= COUNT and not KINDS <= kinds:
+    if not KINDS <= kinds:
         failed += 1
         print(f"no domain shows {', '.join(sorted(KINDS - kinds))}")
-    print(f"{count - failed} passed, {failed} failed")
-    return 1 if failed or not count else 0
+    print(f"{len(tried) - failed} passed, {failed} failed")
+    return 1 if failed or not examples else 0
 
 
 if __name__ == "__main__":

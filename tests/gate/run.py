@@ -179,6 +179,7 @@ def try_program(gate):
     gate.step("tables of the program", sys.executable, "tests/cli/tables.py", program)
     gate.step("what README shows", sys.executable, "tests/docs/run_blocks.py", program)
     gate.step("audits worked out anew", sys.executable, "tests/audited/run.py", program)
+    gate.step("the schema of audits", "/usr/bin/python3", "tests/audited/schema.py")
     gate.step("refusals of memory, reads and writes", sys.executable, "tests/refusals/run.py", program, *TESTS)
     gate.step("cases of the tools", "sh", "tests/tools/run.sh")
 

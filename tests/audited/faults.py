@@ -148,10 +148,8 @@ def devices_of(domain, router):
 
 
 def lans_of(domain):
-    lans = []
-    for router in domain["routers"]:
-        lans += [lan for _, lan in devices_of(domain, router) if lan and lan not in lans]
-    return lans + [lan for lan in domain.get("wants", "hall").split() if lan not in lans]
+    lans = [lan for router in domain["routers"] for _, lan in devices_of(domain, router) if lan]
+    return list(dict.fromkeys(lans + domain.get("wants", "hall").split()))
 
 
 def rows_of(domain, router):

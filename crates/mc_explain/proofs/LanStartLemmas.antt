@@ -4,13 +4,13 @@ use Rattle.std.proofs.Common.{List, [], ◌∷◌, ◌++◌, length, take, filte
 use Rattle.std.proofs.Common.{◌-◌, codes, decimal, flat_map, refl, ap, ap₂, sym, ◌∙◌, subst, arith}
 use Rattle.std.proofs.Common.{length-append, append-nil}
 use Rattle.std.specs.Prelude.{slice_set, slice_index_or}
-use Rattle.std.proofs.lemmas.List.{take_more_set, take-append-le, length-take, take_all, nil_from_length}
+use Rattle.std.proofs.lemmas.List.{take_more_set, take-append-le, length-take, take_all}
 use Rattle.std.proofs.lemmas.List.Elements.{filter-append}
 use Rattle.mc_theory.specs.Lists.{below}
 use Rattle.mc_forward.proofs.BelowLemmas.{below-more}
 use Rattle.mc_topology.specs.Topology.{TopologyValue}
 use Rattle.mc_explain.specs.LanStart.{LanStart, IsStartOf, start_text}
-use Rattle.mc_explain.specs.WantedText.{behind_space, lans_text, missed_too_text, more_text}
+use Rattle.mc_explain.specs.WantedText.{behind_space, lans_text, more_text}
 use Rattle.mc_explain.specs.WantedText.{wanted_text}
 
 -- ---- the array of the first 8

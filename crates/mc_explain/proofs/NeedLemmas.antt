@@ -1,11 +1,11 @@
 -- The need of a way, and where a packet stops, hop by hop.
 use Rattle.std.proofs.Common.{◌≡◌, ℕ, ◌+◌, ◌-◌, ◌<◌, ◌≤◌, max, List, ◌∷◌, length, drop}
 use Rattle.std.proofs.Common.{take, get_or, Some, None, ap, sym, ◌∙◌, arith}
-use Rattle.std.proofs.lemmas.List.{drop_more, drop_all, length-drop, take-append-drop}
+use Rattle.std.proofs.lemmas.List.{drop_more, length-drop, take-append-drop}
 use Rattle.mc_theory.specs.Ways.{Hop, need}
 use Rattle.mc_theory.specs.Hops.{stop_of}
 use Rattle.mc_theory.proofs.Ways.{need-low}
-use Rattle.mc_theory.proofs.Stopped.{stop-next, stop-here, stop-stays}
+use Rattle.mc_theory.proofs.Stopped.{stop-here, stop-stays}
 
 -- ---- the need
 

@@ -9,3 +9,8 @@ pub mod StrayLemmas
 pub mod LineLemmas
 pub mod OutLemmas
 pub mod OneLemmas
+pub mod LookingLemmas
+pub mod RunLemmas
+pub mod BucketLemmas
+pub mod SearchLemmas
+pub mod LeadLemmas

@@ -4,6 +4,12 @@ pub mod LanStart
 pub mod WantedText
 pub mod LastFlights
 pub mod ToldFacts
+pub mod TopologyLans
+pub mod Buckets
+pub mod Searched
+pub mod Runs
+pub mod Looking
+pub mod Met
 pub use Rattle.mc_theory.specs.Nets
 pub use Rattle.mc_theory.specs.Flights
 pub use Rattle.mc_theory.specs.Findings

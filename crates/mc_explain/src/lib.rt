@@ -6,21 +6,31 @@ mod device_text;
 mod explained;
 mod firsts;
 mod hop;
+mod interfaces_of_lans;
 mod lan_start;
 mod laws;
+mod listed_interface;
+mod looking;
+mod met;
+mod routers_on_lan;
 mod row_text;
+mod searched;
+mod searching;
 mod told;
 mod told_text;
 mod wanted_text;
 mod way;
 
 pub use explained::explain;
+pub use interfaces_of_lans::InterfacesOfLans;
 pub use laws::{
     a_circle_that_is_told_is_closed, a_sender_that_is_told_has_such_a_row,
     a_stop_that_is_told_stops_the_packet, a_vif_that_is_told_unplaced_leads_out,
     at_the_flows_ttl_a_lan_is_missed, the_ttl_that_is_told_is_the_least,
     what_is_told_is_determined, what_is_told_to_be_taken_out_can_be_spared,
 };
+pub use searched::Searched;
+pub use searching::search;
 pub use told::Told;
 pub use told_text::push_told;
 pub use wanted_text::{push_also_missed, push_wanted};

@@ -1,0 +1,14 @@
+use Rattle.std.proofs.Common.{◌≡◌, ℕ, List, ◌++◌, length, take}
+use Rattle.mc_explain.specs.Buckets.{Holds}
+use Rattle.mc_explain.specs.TopologyLans.{interface_at, listed_at}
+use Rattle.mc_explain.proofs.interfaces_of_lans.add_interfaces.Given as goal
+
+abbrev pub invariant-loop-number : goal.invariant-loop-number
+invariant-loop-number l = record {
+  count : length l.lists.items ≡ length l.fn.domain.topology.lans;
+  holds : (earlier : List ℕ) →
+      Holds (listed_at l.fn.domain) (λ (k : ℕ). (interface_at l.fn.domain.topology k).lan)
+      l.fn.lists.items earlier →
+      Holds (listed_at l.fn.domain) (λ (k : ℕ). (interface_at l.fn.domain.topology k).lan)
+      l.lists.items (earlier ++ take l.number-index l.fn.numbers);
+}

@@ -1,0 +1,9 @@
+use Rattle.mc_forward.proofs.PlaceLemmas.{number-none, number-more}
+use Rattle.mc_explain.proofs.interfaces_of_lans.empty_lists.Goals as goal
+
+pub loop-init : goal.loop-init
+loop-init g c = number-none _ _ c.new-lists.ensures.items
+
+pub loop-preserved : goal.loop-preserved
+loop-preserved g c = number-more _ c.loop.lists.items c.push.new.self.items c.loop.counter _
+    c.loop.invariant c.in_ok-push.ensures.items c.new.ensures.items

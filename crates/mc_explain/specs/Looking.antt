@@ -1,0 +1,18 @@
+-- What the search is done with, and what that stands for.
+use Rattle.std.specs.Prelude.{◌≡◌, Some, slice_get}
+use Rattle.mc_forward.specs.PerLan.{held}
+use Rattle.mc_explain.specs.declared.looking.Looking.{Looking}
+use Rattle.mc_explain.specs.TopologyLans.{on_lans}
+use Rattle.mc_explain.specs.Searched.{Search}
+
+abbrev pub search_in : Looking → Search
+search_in l = record {
+  domain = l.view.now.domain;
+  flow = l.view.now.flow;
+  notes = l.notes.now;
+  copy_on = held l.firsts.now.by_lan;
+}
+
+pub record IsLooking (l : Looking) : Type 0 where
+  pub flow : slice_get l.view.now.domain.topology.flows l.view.now.flow ≡ Some l.flow.now
+  pub interfaces : l.interfaces.now ≡ on_lans l.view.now.domain

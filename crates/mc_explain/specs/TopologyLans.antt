@@ -1,0 +1,58 @@
+-- The interfaces that a topology has on each LAN, whatever the routers' vifs are.
+use Rattle.std.specs.Prelude.{◌==◌, ℕ, Bool, false, List, [], length, map, filter, flat_map, find}
+use Rattle.std.specs.Prelude.{Option, Some, None, slice_get, unwrap_or}
+use Rattle.std.specs.Str.{bytes_eq}
+use Rattle.mc_tables.specs.VifTable.{VifText}
+use Rattle.mc_topology.specs.Rows.{InterfaceRow}
+use Rattle.mc_topology.specs.Topology.{TopologyValue}
+use Rattle.mc_theory.specs.Lists.{below}
+use Rattle.mc_forward.specs.Domains.{DomainValue, TablesValue, vif_of}
+use Rattle.mc_explain.specs.declared.listed_interface.ListedInterface.{ListedInterface}
+
+-- the interface with this number, in the topology's order from 0
+abbrev pub interface_at : TopologyValue → ℕ → InterfaceRow
+interface_at t k =
+    unwrap_or (slice_get t.interfaces k) (record { router = 0; device = []; lan = 0 })
+
+-- those of a router among some interfaces
+abbrev pub of_router : TopologyValue → List ℕ → (router : ℕ) → List ℕ
+of_router t ks router = filter (λ k. (interface_at t k).router == router) ks
+
+-- all interfaces, by router and then in the topology's order
+abbrev pub by_router : TopologyValue → List ℕ
+by_router t =
+    flat_map (of_router t (below (length t.interfaces))) (below (length t.routers))
+
+-- ---- vifs
+
+-- whether the vif is of the device
+abbrev pub is_of : List ℕ → Option VifText → Bool
+is_of device None = false
+is_of device (Some vif) = bytes_eq vif.device device
+
+-- a router's vif of a device
+abbrev pub vif_with : List TablesValue → (router : ℕ) → List ℕ → Option ℕ
+vif_with tables router device =
+    find (λ vif. is_of device (vif_of tables router vif)) (below 32)
+
+-- an interface's number, its router, and the router's vif of its device
+abbrev pub listed_of : DomainValue → ℕ → InterfaceRow → ListedInterface
+listed_of d k i = record {
+  router = i.router;
+  interface = k;
+  vif = vif_with d.tables i.router i.device;
+}
+
+abbrev pub listed_at : DomainValue → ℕ → ListedInterface
+listed_at d k = listed_of d k (interface_at d.topology k)
+
+-- ---- LANs
+
+-- the interfaces on a LAN, by router and then in the topology's order
+abbrev pub on_lan : DomainValue → (lan : ℕ) → List ListedInterface
+on_lan d lan =
+    map (listed_at d) (filter (λ k. (interface_at d.topology k).lan == lan) (by_router d.topology))
+
+-- those of each LAN
+abbrev pub on_lans : DomainValue → List (List ListedInterface)
+on_lans d = map (on_lan d) (below (length d.topology.lans))

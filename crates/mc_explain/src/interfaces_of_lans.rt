@@ -1,0 +1,171 @@
+//! The interfaces that the topology has on each LAN.
+
+ghost use Rattle.std.specs.Prelude.{◌≡◌, ◌<◌, ◌++◌, ◌∷◌, ℕ, [], All, IfOk, List, OnOk, length, map};
+ghost use Rattle.mc_theory.specs.Lists.{below};
+ghost use Rattle.mc_forward.specs.Domains.{DomainValue, vif_of};
+ghost use Rattle.mc_explain.specs.TopologyLans.{listed_at, listed_of, of_router, on_lan, on_lans};
+ghost use Rattle.mc_explain.specs.TopologyLans.{interface_at, is_of, vif_with};
+ghost use Rattle.mc_explain.specs.Buckets.{Holds};
+
+use crate::listed_interface::ListedInterface;
+use mc_forward::Domain;
+use mc_text::Memory;
+use mc_topology::{Interface, LanNo, RouterNo, Topology};
+use std::alloc::Global;
+use std::marker::Model;
+
+/// A list that others stand beside.
+#[derive(Debug, Drop)]
+struct Listed<T> {
+    items: Vec<T>,
+}
+
+impl<T> Model for Listed<T> {
+    ghost use Rattle.std.specs.Prelude.{List};
+
+    ghost Value = { List T };
+
+    ghost view = { λ s. s.items.items };
+}
+
+/// The interfaces that the topology has on each LAN, by router and then in the topology's order. All
+/// searches in a domain share them.
+#[derive(Debug, Drop)]
+pub struct InterfacesOfLans {
+    lans: Vec<Listed<ListedInterface>>,
+}
+
+impl Model for InterfacesOfLans {
+    ghost use Rattle.std.specs.Prelude.{List};
+    ghost use Rattle.mc_explain.specs.declared.listed_interface.ListedInterface.{ListedInterface};
+
+    ghost Value = { List (List ListedInterface) };
+
+    ghost view = { λ i. i.lans.items };
+}
+
+/// So many empty lists.
+fn empty_lists<T: Drop>(alloc: Global, count: u32) -> Result<Vec<Listed<T>>, Memory>
+    ensures { IfOk result (λ lists. lists.items ≡ map (λ _. []) (below count)) }
+{
+    let mut lists = Vec::new(alloc);
+    for _ in 0..count {
+        lists.push(Listed {
+            items: Vec::new(alloc),
+        })?;
+    }
+    Ok(lists)
+}
+
+/// The numbers of the interfaces of each router, in the topology's order.
+fn numbers_of_routers(alloc: Global, topology: &Topology) -> Result<Vec<Listed<u32>>, Memory>
+    ensures { IfOk result (λ lists. lists.items ≡
+        map (of_router topology.now (below (length topology.now.interfaces)))
+        (below (length topology.now.routers))) }
+{
+    let mut lists = empty_lists(alloc, topology.routers())?;
+    for number in 0..topology.interfaces() {
+        let router = topology.interface(number).router;
+        let list = &mut lists[router.0 as usize];
+        list.items.push(number)?;
+    }
+    Ok(lists)
+}
+
+/// Whether a router's vif has this device.
+fn is_of(domain: &Domain, router: RouterNo, vif: u8, device: &[u8]) -> bool
+    ensures { result ≡ is_of device.now (vif_of domain.now.tables router vif) }
+{
+    match domain.vif(router, vif) {
+        Some(found) => found.device() == device,
+        None => false,
+    }
+}
+
+/// The vif of a router that has this device.
+fn vif_with(domain: &Domain, router: RouterNo, device: &[u8]) -> Option<u8>
+    ensures { result ≡ vif_with domain.now.tables router device.now }
+{
+    for vif in 0..32u8 {
+        if is_of(domain, router, vif, device) {
+            return Some(vif);
+        }
+    }
+    None
+}
+
+/// An interface with its number, and its router's vif.
+fn listed_of(domain: &Domain, number: u32, interface: &Interface<'_>) -> ListedInterface
+    ensures { result ≡ listed_of domain.now number interface.now }
+{
+    ListedInterface {
+        router: interface.router,
+        interface: number,
+        vif: vif_with(domain, interface.router, interface.device),
+    }
+}
+
+/// Adds some interfaces to the lists of their LANs.
+fn add_interfaces(
+    lists: &mut Vec<Listed<ListedInterface>>,
+    domain: &Domain,
+    numbers: &[u32],
+) -> Result<(), Memory>
+    requires numbers { All (λ k. k < length domain.now.topology.interfaces) numbers.now }
+    requires lans { length lists.old.items ≡ length domain.now.topology.lans }
+    ensures count { length lists.new.items ≡ length domain.now.topology.lans }
+    ensures each { OnOk result ((earlier : List ℕ) →
+        Holds (listed_at domain.now) (λ k. (interface_at domain.now.topology k).lan)
+        lists.old.items earlier →
+        Holds (listed_at domain.now) (λ k. (interface_at domain.now.topology k).lan)
+        lists.new.items (earlier ++ numbers.now)) }
+{
+    for number in numbers {
+        let interface = domain.topology().interface(*number);
+        let listed = listed_of(domain, *number, &interface);
+        let lan = interface.lan;
+        let list = &mut lists[lan.0 as usize];
+        list.items.push(listed)?;
+    }
+    Ok(())
+}
+
+/// The interfaces of each LAN.
+fn interfaces_of_lans(
+    alloc: Global,
+    domain: &Domain,
+) -> Result<Vec<Listed<ListedInterface>>, Memory>
+    ensures { IfOk result (λ lists. lists.items ≡ on_lans domain.now) }
+{
+    let topology = domain.topology();
+    let routers = numbers_of_routers(alloc, topology)?;
+    let mut lists = empty_lists(alloc, topology.lans())?;
+    for router in &routers {
+        add_interfaces(&mut lists, domain, &router.items)?;
+    }
+    Ok(lists)
+}
+
+impl InterfacesOfLans {
+    /// Those of a domain's topology. It takes time in proportion to the interfaces, the routers and
+    /// the LANs.
+    ///
+    /// # Errors
+    ///
+    /// `Memory` where a growth was refused.
+    pub fn new(alloc: Global, domain: &Domain) -> Result<InterfacesOfLans, Memory>
+        ensures { IfOk result (λ interfaces. interfaces ≡ on_lans domain.now) }
+    {
+        let lans = interfaces_of_lans(alloc, domain)?;
+        Ok(InterfacesOfLans { lans })
+    }
+
+    /// Those on a LAN.
+    pub(crate) fn on(&self, lan: LanNo) -> &[ListedInterface]
+        requires { lan < length self.now }
+        ensures { (d : DomainValue) → self.now ≡ on_lans d → lan < length d.topology.lans →
+            result.now ≡ on_lan d lan }
+    {
+        &self.lans[lan.0 as usize].items
+    }
+}

@@ -1,0 +1,118 @@
+//! The search for a LAN that carried no copy of a packet: the LAN and those from which the routers on
+//! it would take one, one after the other.
+
+ghost use Rattle.std.specs.Prelude.{◌≡◌, ◌<◌, ◌++◌, All, IfOk, IfSome, OnOk, length};
+ghost use Rattle.std.specs.List.{filter_map};
+ghost use Rattle.mc_theory.specs.Findings.{copy_on};
+ghost use Rattle.mc_explain.specs.Looking.{IsLooking, search_in};
+ghost use Rattle.mc_explain.specs.Met.{IsMet};
+ghost use Rattle.mc_explain.specs.Searched.{add_met, lead, leads_to, lines_of_lan, search_lines};
+ghost use Rattle.mc_explain.specs.TopologyLans.{on_lans};
+
+use crate::firsts::Firsts;
+use crate::interfaces_of_lans::InterfacesOfLans;
+use crate::looking::Looking;
+use crate::met::Met;
+use crate::searched::Searched;
+use mc_forward::{Domain, Flight, FlowView};
+use mc_tables::CacheNotes;
+use mc_text::Memory;
+use mc_topology::LanNo;
+use std::alloc::Global;
+
+/// The LANs that lines lead to are met.
+fn follow(looking: &Looking<'_>, met: &mut Met, lines: &[Searched]) -> Result<(), Memory>
+    requires looking { IsLooking looking.now }
+    requires met { IsMet (length looking.now.view.now.domain.topology.lans) met.old }
+    requires lines { All (λ line. IfSome (lead (search_in looking.now) line)
+        (λ lan. lan < length looking.now.view.now.domain.topology.lans)) lines.now }
+    ensures lans { OnOk result (met.new.lans.items ≡
+        add_met met.old.lans.items (filter_map (lead (search_in looking.now)) lines.now)) }
+    ensures met { OnOk result (IsMet (length looking.now.view.now.domain.topology.lans) met.new) }
+{
+    for line in lines {
+        if let Some(lan) = looking.lead(line) {
+            met.add(lan)?;
+        }
+    }
+    Ok(())
+}
+
+/// Looks at a LAN that was met.
+fn look_at(
+    looking: &Looking<'_>,
+    told: &mut Vec<Searched>,
+    met: &mut Met,
+    lan: LanNo,
+) -> Result<(), Memory>
+    requires looking { IsLooking looking.now }
+    requires met { IsMet (length looking.now.view.now.domain.topology.lans) met.old }
+    requires lan { lan < length looking.now.view.now.domain.topology.lans }
+    ensures told { OnOk result (told.new.items ≡
+        told.old.items ++ lines_of_lan (search_in looking.now) lan) }
+    ensures lans { OnOk result (met.new.lans.items ≡
+        add_met met.old.lans.items (leads_to (search_in looking.now) lan)) }
+    ensures met { OnOk result (IsMet (length looking.now.view.now.domain.topology.lans) met.new) }
+{
+    let _rules = looking.view.topology();
+    let before = told.len();
+    looking.tell_lan(told, lan)?;
+    follow(looking, met, &told[before..])
+}
+
+/// All that is told of a LAN and of those that it leads to.
+fn search_from(alloc: Global, looking: &Looking<'_>, missed: LanNo) -> Result<Vec<Searched>, Memory>
+    requires looking { IsLooking looking.now }
+    requires missed { missed < length looking.now.view.now.domain.topology.lans }
+    ensures { IfOk result (λ told. told.items ≡ search_lines (search_in looking.now) missed) }
+{
+    let lans = looking.view.lans();
+    let mut met = Met::new(alloc, lans, missed)?;
+    let mut told = Vec::new(alloc);
+    for turn in 0..lans {
+        if let Some(lan) = met.at(turn) {
+            look_at(looking, &mut told, &mut met, lan)?;
+        }
+    }
+    Ok(told)
+}
+
+/// Searches why a LAN carried no copy in a flight of a flow's packet, by what is noted of each
+/// router's cache, the first router's first, and by the interfaces of the domain's LANs. It takes time
+/// in proportion to the LANs, the copies, the interfaces of the LANs that are looked at, and for each of
+/// those its row.
+///
+/// # Errors
+///
+/// `Memory` where a growth was refused.
+pub fn search(
+    alloc: Global,
+    domain: &Domain,
+    notes: &[CacheNotes],
+    interfaces: &InterfacesOfLans,
+    flight: &Flight<'_>,
+    flow: u32,
+    missed: LanNo,
+) -> Result<Vec<Searched>, Memory>
+    requires flow { flow < length domain.now.topology.flows }
+    requires interfaces { interfaces.now ≡ on_lans domain.now }
+    requires flight { flight.now.domain ≡ domain.now }
+    requires missed { missed < length domain.now.topology.lans }
+    ensures lines { IfOk result (λ told. told.items ≡ search_lines (record {
+      domain = domain.now;
+      flow = flow;
+      notes = notes.now;
+      copy_on = copy_on flight.now.flight.carried;
+    }) missed) }
+{
+    let view = FlowView::new(domain, flow);
+    let firsts = Firsts::new(alloc, &view, flight.copies())?;
+    let looking = Looking {
+        view: &view,
+        flow: domain.topology().flow(flow),
+        notes,
+        interfaces,
+        firsts: &firsts,
+    };
+    search_from(alloc, &looking, missed)
+}

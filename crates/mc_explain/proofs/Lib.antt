@@ -14,3 +14,5 @@ pub mod RunLemmas
 pub mod BucketLemmas
 pub mod SearchLemmas
 pub mod LeadLemmas
+pub mod MetLemmas
+pub mod ReachLemmas

@@ -10,6 +10,8 @@ pub mod Searched
 pub mod Runs
 pub mod Looking
 pub mod Met
+pub mod Marks
+pub mod SearchReach
 pub use Rattle.mc_theory.specs.Nets
 pub use Rattle.mc_theory.specs.Flights
 pub use Rattle.mc_theory.specs.Findings

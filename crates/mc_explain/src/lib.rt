@@ -12,9 +12,11 @@ mod laws;
 mod listed_interface;
 mod looking;
 mod met;
+mod reach;
 mod routers_on_lan;
 mod row_text;
 mod searched;
+mod search_laws;
 mod searching;
 mod told;
 mod told_text;
@@ -29,6 +31,7 @@ pub use laws::{
     at_the_flows_ttl_a_lan_is_missed, the_ttl_that_is_told_is_the_least,
     what_is_told_is_determined, what_is_told_to_be_taken_out_can_be_spared,
 };
+pub use search_laws::a_search_ends;
 pub use searched::Searched;
 pub use searching::search;
 pub use told::Told;

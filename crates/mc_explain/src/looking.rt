@@ -213,7 +213,7 @@ impl<'s> Looking<'s> {
     }
 
     /// The routers that have an interface on the LAN by the topology.
-    fn routers_on(&self, lan: LanNo) -> RoutersOnLan<'s>
+    pub(crate) fn routers_on(&self, lan: LanNo) -> RoutersOnLan<'s>
         requires looking { IsLooking self.now }
         requires lan { lan < length self.now.view.now.domain.topology.lans }
         ensures { result ≡ routers_on (search_in self.now) lan }

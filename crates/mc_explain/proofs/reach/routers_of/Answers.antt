@@ -1,0 +1,33 @@
+-- LAN by LAN.
+use Rattle.std.proofs.Common.{◌≡◌, ◌==◌, ℕ, ◌++◌, List, [], length, map, flat_map, take, refl, sym, ap, ◌∙◌}
+use Rattle.std.specs.List.{list_any}
+use Rattle.mc_explain.specs.declared.listed_interface.ListedInterface.{ListedInterface}
+use Rattle.mc_explain.specs.Looking.{search_in}
+use Rattle.mc_explain.specs.Searched.{add_met, routers_on}
+use Rattle.mc_explain.proofs.LanStartLemmas.{unmarked}
+use Rattle.mc_explain.proofs.ReachLemmas.{routers-few, routers-more}
+use Rattle.mc_explain.proofs.reach.routers_of.Goals as goal
+
+pub loop-lan-init : goal.loop-lan-init
+loop-lan-init c = record {
+  count = refl;
+  routers = c.new-routers.ensures.items;
+  listed = λ n lt. unmarked 256 n
+      ∙ sym (ap (λ (rs : List ℕ). list_any (λ m. m == n) rs) c.new-routers.ensures.items);
+}
+
+pub loop-lan-preserved : goal.loop-lan-preserved
+loop-lan-preserved c = record {
+  count = c.in_ok-add_routers.ensures.count ∙ c.loop-lan.invariant.count;
+  routers = routers-more (search_in c.args.looking.now) c.args.lans.now c.loop-lan.lan-index
+      c.lan-item.result c.loop-lan.routers.items c.add_routers.new.routers.items
+      c.loop-lan-test.true c.lan-item.is c.loop-lan.invariant.routers
+      c.in_ok-add_routers.ensures.routers;
+  listed = c.in_ok-add_routers.ensures.listed;
+}
+
+pub returns-clause-few : goal.returns-clause-few
+returns-clause-few c =
+    routers-few (search_in c.args.looking.now) (take c.loop-lan.lan-index c.args.lans.now)
+    c.loop-lan.routers.items 256 c.loop-lan.invariant.routers
+    c.topology-rules.ensures.rules.domain.topology.few_routers

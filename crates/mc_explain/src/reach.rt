@@ -1,0 +1,193 @@
+//! What a search comes to: which of its routers sent copies on, and which took none.
+
+ghost use Rattle.std.specs.Prelude.{◌≡◌, ◌<◌, ◌≤◌, ◌||◌, ◌∷◌, ℕ, [], All, IfOk, OnOk, false, filter, length, map};
+ghost use Rattle.std.specs.Prelude.{◌&&◌, Bool, not, slice_index_or, true};
+ghost use Rattle.mc_forward.specs.Outcomes.{outcome_seen};
+ghost use Rattle.mc_explain.specs.Looking.{IsLooking, search_in};
+ghost use Rattle.mc_explain.specs.Marks.{AreListed, AreMarksOf};
+ghost use Rattle.mc_explain.specs.Searched.{add_met, routers_on};
+ghost use Rattle.mc_explain.specs.SearchReach.{has, is_kind, routers_of, sent_on};
+ghost use Rattle.mc_explain.specs.SearchReach.{took_none};
+
+use crate::looking::Looking;
+use mc_forward::{Event, Outcome};
+use mc_text::Memory;
+use mc_topology::{LanNo, RouterNo};
+use std::alloc::Global;
+
+/// How far a packet came among the routers of a search, in the search's order, each router once.
+#[derive(Debug, Drop)]
+pub struct Reach {
+    /// Those that sent copies on.
+    pub sent_on: Vec<RouterNo>,
+    /// The others that a copy came to and that took none: they have no row, or one that takes from
+    /// another vif.
+    pub took_none: Vec<RouterNo>,
+}
+
+/// The greatest number of routers of a topology.
+const MAX_ROUTERS: usize = 256;
+
+/// Whether a handling sent the copy on, or else took none.
+fn is_kind(outcome: Outcome, sent: bool) -> bool
+    ensures { result ≡ is_kind sent (outcome_seen outcome) }
+{
+    match outcome {
+        Outcome::Sent { .. } => sent,
+        Outcome::NoRow | Outcome::OtherVif => !sent,
+        Outcome::Open => false,
+    }
+}
+
+/// Marks the routers of such events.
+fn mark(marks: &mut [bool], events: &[Event], sent: bool)
+    ensures count { length marks.new ≡ length marks.old }
+    ensures marks { (router : ℕ) → router < length marks.old →
+        slice_index_or marks.new router false
+        ≡ (slice_index_or marks.old router false || has sent events.now router) }
+{
+    for event in events {
+        let router = event.router.0 as usize;
+        if router < marks.len() && is_kind(event.outcome, sent) {
+            marks[router] = true;
+        }
+    }
+}
+
+/// Takes the marks away of the routers that sent a copy on.
+fn unmark(marks: &mut [bool], events: &[Event])
+    ensures count { length marks.new ≡ length marks.old }
+    ensures marks { (router : ℕ) → router < length marks.old →
+        slice_index_or marks.new router false
+        ≡ (slice_index_or marks.old router false && not (has true events.now router)) }
+{
+    for event in events {
+        let router = event.router.0 as usize;
+        if router < marks.len() && is_kind(event.outcome, true) {
+            marks[router] = false;
+        }
+    }
+}
+
+/// Adds a router that isn't listed yet.
+fn add_router(
+    routers: &mut Vec<RouterNo>,
+    listed: &mut [bool],
+    router: RouterNo,
+) -> Result<(), Memory>
+    requires router { router < length listed.old }
+    requires listed { AreListed routers.old.items listed.old }
+    ensures count { length listed.new ≡ length listed.old }
+    ensures routers { OnOk result (routers.new.items ≡ add_met routers.old.items (router ∷ [])) }
+    ensures listed { OnOk result (AreListed routers.new.items listed.new) }
+{
+    let number = router.0 as usize;
+    if !listed[number] {
+        routers.push(router)?;
+        listed[number] = true;
+    }
+    Ok(())
+}
+
+/// The routers of a LAN are added.
+fn add_routers(
+    looking: &Looking<'_>,
+    routers: &mut Vec<RouterNo>,
+    listed: &mut [bool],
+    lan: LanNo,
+) -> Result<(), Memory>
+    requires looking { IsLooking looking.now }
+    requires lan { lan < length looking.now.view.now.domain.topology.lans }
+    requires listed { AreListed routers.old.items listed.old }
+    requires room { length looking.now.view.now.domain.topology.routers ≤ length listed.old }
+    ensures count { length listed.new ≡ length listed.old }
+    ensures routers { OnOk result (routers.new.items ≡ add_met routers.old.items
+        (map (λ g. g.0) (routers_on (search_in looking.now) lan))) }
+    ensures listed { OnOk result (AreListed routers.new.items listed.new) }
+{
+    for own in looking.routers_on(lan) {
+        add_router(routers, listed, own.router)?;
+    }
+    Ok(())
+}
+
+/// The routers of LANs, each once.
+fn routers_of(
+    alloc: Global,
+    looking: &Looking<'_>,
+    lans: &[LanNo],
+) -> Result<Vec<RouterNo>, Memory>
+    requires looking { IsLooking looking.now }
+    requires lans { All (λ lan. lan < length looking.now.view.now.domain.topology.lans) lans.now }
+    ensures routers { IfOk result (λ routers.
+        routers.items ≡ routers_of (search_in looking.now) lans.now) }
+    ensures few { IfOk result (λ routers. All (λ router. router < 256) routers.items) }
+{
+    let _rules = looking.view.topology();
+    let mut listed = [false; MAX_ROUTERS];
+    let mut routers = Vec::new(alloc);
+    for lan in lans {
+        add_routers(looking, &mut routers, &mut listed, *lan)?;
+    }
+    Ok(routers)
+}
+
+/// The routers that are marked.
+fn marked(
+    alloc: Global,
+    routers: &[RouterNo],
+    marks: &[bool],
+) -> Result<Vec<RouterNo>, Memory>
+    requires { All (λ router. router < length marks.now) routers.now }
+    ensures { (p : ℕ → Bool) → AreMarksOf p marks.now →
+        IfOk result (λ found. found.items ≡ filter p routers.now) }
+{
+    let mut found = Vec::new(alloc);
+    for router in routers {
+        if marks[router.0 as usize] {
+            found.push(*router)?;
+        }
+    }
+    Ok(found)
+}
+
+/// Which of these routers sent copies on, and which others took none.
+fn reach_among(
+    alloc: Global,
+    routers: &[RouterNo],
+    events: &[Event],
+) -> Result<Reach, Memory>
+    requires { All (λ router. router < 256) routers.now }
+    ensures sent_on { IfOk result (λ reach.
+        reach.sent_on.items ≡ sent_on events.now routers.now) }
+    ensures took_none { IfOk result (λ reach.
+        reach.took_none.items ≡ took_none events.now routers.now) }
+{
+    let mut sent = [false; MAX_ROUTERS];
+    mark(&mut sent, events, true);
+    let mut refused = [false; MAX_ROUTERS];
+    mark(&mut refused, events, false);
+    unmark(&mut refused, events);
+    Ok(Reach {
+        sent_on: marked(alloc, routers, &sent)?,
+        took_none: marked(alloc, routers, &refused)?,
+    })
+}
+
+/// Which routers of these LANs sent copies on, and which others took none.
+pub(crate) fn reach_of(
+    alloc: Global,
+    looking: &Looking<'_>,
+    lans: &[LanNo],
+    events: &[Event],
+) -> Result<Reach, Memory>
+    requires looking { IsLooking looking.now }
+    requires lans { All (λ lan. lan < length looking.now.view.now.domain.topology.lans) lans.now }
+    ensures sent_on { IfOk result (λ reach. reach.sent_on.items ≡
+        sent_on events.now (routers_of (search_in looking.now) lans.now)) }
+    ensures took_none { IfOk result (λ reach. reach.took_none.items ≡
+        took_none events.now (routers_of (search_in looking.now) lans.now)) }
+{
+    let routers = routers_of(alloc, looking, lans)?;
+    reach_among(alloc, &routers, events)
+}

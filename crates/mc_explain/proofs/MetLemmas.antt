@@ -1,17 +1,17 @@
 -- The LANs that a search meets: LANs of the domain, and no more once all could have been looked at.
 use Rattle.std.proofs.Common.{◌≡◌, ℕ, zero, suc, ◌+◌, ◌-◌, ◌<◌, ◌≤◌, ◌==◌, inl, inr, Bool, true, false, cond}
-use Rattle.std.proofs.Common.{List, [], ◌∷◌, ◌++◌, length, Option, Some, None, refl, ap, sym, subst, ◌∙◌, arith}
+use Rattle.std.proofs.Common.{List, [], ◌∷◌, ◌++◌, length, Option, Some, None, refl, ap, subst, ◌∙◌, arith}
 use Rattle.std.specs.Prelude.{slice_get, IfSome}
 use Rattle.std.specs.List.{cons_option, filter_map, list_any}
 use Rattle.std.proofs.lemmas.Option.{slice_get_past}
-use Rattle.mc_theory.specs.Lists.{In, Distinct}
+use Rattle.mc_theory.specs.Lists.{In}
 use Rattle.mc_theory.proofs.InLists.{in-append_left, in-push_cases}
 use Rattle.mc_forward.specs.Domains.{IsDomain}
 use Rattle.mc_forward.proofs.BelowLemmas.{few-different}
 use Rattle.mc_explain.specs.declared.searched.Searched.{Searched}
 use Rattle.mc_explain.specs.Searched.{Search, add_met, lans_of_search, lead, leads_to, lines_of_lan}
 use Rattle.mc_explain.specs.Searched.{met, met_after}
-use Rattle.mc_explain.proofs.LeadLemmas.{AllInside, LeadsInside, lines-inside}
+use Rattle.mc_explain.proofs.LeadLemmas.{AllInside, lines-inside}
 use Rattle.mc_explain.proofs.SearchLemmas.{distinct-met, met-more}
 
 abbrev pub AllBelow : ℕ → List ℕ → Type 0

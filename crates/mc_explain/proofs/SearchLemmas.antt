@@ -1,6 +1,6 @@
 -- The LANs that a search meets, turn by turn.
 use Rattle.std.proofs.Common.{◌≡◌, ℕ, zero, suc, ◌+◌, ◌-◌, ◌<◌, ◌≤◌, ◌==◌, ◌||◌, inl, inr, Bool, true, false, cond}
-use Rattle.std.proofs.Common.{List, [], ◌∷◌, ◌++◌, length, take, drop, flat_map, Option, Some, None, is_some}
+use Rattle.std.proofs.Common.{All, get_or, List, [], ◌∷◌, ◌++◌, length, take, drop, flat_map, Option, Some, None, is_some}
 use Rattle.std.proofs.Common.{refl, ap, sym, subst, ◌∙◌, arith, add-one, append_assoc, append-nil, length-append}
 use Rattle.std.specs.Prelude.{slice_get, IsSome}
 use Rattle.std.specs.List.{list_any}
@@ -21,7 +21,7 @@ use Rattle.mc_forward.proofs.BelowLemmas.{few-different}
 use Rattle.mc_forward.proofs.EachLemmas.{take-found}
 use Rattle.mc_forward.proofs.FirstLemmas.{first-copy}
 use Rattle.mc_explain.specs.declared.searched.Searched.{Searched}
-use Rattle.mc_explain.specs.Searched.{Search, add_met, leads_to, lines_of_lan, met, met_after, search_lines}
+use Rattle.mc_explain.specs.Searched.{Search, add_met, leads_to, lines_of_lan, met, met_after}
 
 -- ---- what was met
 
@@ -194,26 +194,39 @@ held-first places copies cs first same =
     λ i lan. each lan i
 
 pub same-search : (view : FlowIn) (d : DomainValue) (flow : ℕ) (notes : List NotesText)
-    (places : List (Option Copy)) (copies cs : List Copy) (missed : ℕ)
+    (places : List (Option Copy)) (copies cs : List Copy)
     → view ≡ record { domain = d; flow = flow } → IsFirstBy (λ (c : Copy). c.lan) places copies
     → copies ≡ cs
-    → search_lines (record {
+    → ◌≡◌ {A = Search} (record {
       domain = view.domain;
       flow = view.flow;
       notes = notes;
       copy_on = held places;
-    }) missed
-    ≡ search_lines (record { domain = d; flow = flow; notes = notes; copy_on = copy_on cs }) missed
-same-search view d flow notes places copies cs missed e first same =
-    ap (λ (v : FlowIn). search_lines (record {
+    })
+    (record { domain = d; flow = flow; notes = notes; copy_on = copy_on cs })
+same-search view d flow notes places copies cs e first same =
+    ap {B = Search} (λ (v : FlowIn). record {
       domain = v.domain;
       flow = v.flow;
       notes = notes;
       copy_on = held places;
-    }) missed) e
-    ∙ ap (λ (f : ℕ → Option Copy). search_lines (record {
+    }) e
+    ∙ ap {B = Search} (λ (f : ℕ → Option Copy). record {
       domain = d;
       flow = flow;
       notes = notes;
       copy_on = f;
-    }) missed) (held-first places copies cs first same)
+    }) (held-first places copies cs first same)
+
+read-some : (xs : List ℕ) (k d : ℕ) → k < length xs → slice_get xs k ≡ Some (get_or xs k d)
+read-some [] k d lt = absurd (omega (arith, lt))
+read-some (x ∷ xs) zero d lt = refl
+read-some (x ∷ xs) (suc k) d lt = read-some xs k d (omega (arith, lt))
+
+-- each LAN that was met is one of those that have a mark
+pub all-within : (marks : List (Option ℕ)) (lans found : List ℕ) (n : ℕ) → found ≡ lans
+    → length marks ≡ n → IsFirstBy (λ (l : ℕ). l) marks lans → All (λ lan. lan < n) found
+all-within marks lans found n same count marked k d lt =
+    subst (λ (m : ℕ). get_or found k d < m) count
+    (met-within marks found k (get_or found k d)
+    (subst (IsFirstBy (λ (l : ℕ). l) marks) (sym same) marked) (read-some found k d lt))

@@ -12,6 +12,7 @@ pub mod Looking
 pub mod Met
 pub mod Marks
 pub mod SearchReach
+pub mod FullSearch
 pub use Rattle.mc_theory.specs.Nets
 pub use Rattle.mc_theory.specs.Flights
 pub use Rattle.mc_theory.specs.Findings

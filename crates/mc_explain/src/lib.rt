@@ -15,8 +15,8 @@ mod met;
 mod reach;
 mod routers_on_lan;
 mod row_text;
-mod searched;
 mod search_laws;
+mod searched;
 mod searching;
 mod told;
 mod told_text;
@@ -31,9 +31,10 @@ pub use laws::{
     at_the_flows_ttl_a_lan_is_missed, the_ttl_that_is_told_is_the_least,
     what_is_told_is_determined, what_is_told_to_be_taken_out_can_be_spared,
 };
+pub use reach::Reach;
 pub use search_laws::a_search_ends;
 pub use searched::Searched;
-pub use searching::search;
+pub use searching::{LanSearch, search};
 pub use told::Told;
 pub use told_text::push_told;
 pub use wanted_text::{push_also_missed, push_wanted};

@@ -1,6 +1,6 @@
 //! The LANs that a search met.
 
-ghost use Rattle.std.specs.Prelude.{◌≡◌, ◌<◌, ◌∷◌, [], IfOk, IfSome, OnOk, length, slice_get};
+ghost use Rattle.std.specs.Prelude.{◌≡◌, ◌<◌, ◌∷◌, [], All, IfOk, IfSome, OnOk, length, slice_get};
 ghost use Rattle.mc_explain.specs.Met.{IsMet};
 ghost use Rattle.mc_explain.specs.Searched.{add_met};
 
@@ -45,6 +45,14 @@ impl Met {
         } else {
             None
         }
+    }
+
+    /// The LANs that were met.
+    pub(crate) fn lans(&self) -> &[LanNo]
+        ensures lans { result.now ≡ self.now.lans.items }
+        ensures listed { (lans : ℕ) → IsMet lans self.now → All (λ lan. lan < lans) result.now }
+    {
+        &self.lans
     }
 
     /// Another LAN is met, if it wasn't yet.

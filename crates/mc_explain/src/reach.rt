@@ -112,11 +112,7 @@ fn add_routers(
 }
 
 /// The routers of LANs, each once.
-fn routers_of(
-    alloc: Global,
-    looking: &Looking<'_>,
-    lans: &[LanNo],
-) -> Result<Vec<RouterNo>, Memory>
+fn routers_of(alloc: Global, looking: &Looking<'_>, lans: &[LanNo]) -> Result<Vec<RouterNo>, Memory>
     requires looking { IsLooking looking.now }
     requires lans { All (λ lan. lan < length looking.now.view.now.domain.topology.lans) lans.now }
     ensures routers { IfOk result (λ routers.
@@ -133,11 +129,7 @@ fn routers_of(
 }
 
 /// The routers that are marked.
-fn marked(
-    alloc: Global,
-    routers: &[RouterNo],
-    marks: &[bool],
-) -> Result<Vec<RouterNo>, Memory>
+fn marked(alloc: Global, routers: &[RouterNo], marks: &[bool]) -> Result<Vec<RouterNo>, Memory>
     requires { All (λ router. router < length marks.now) routers.now }
     ensures { (p : ℕ → Bool) → AreMarksOf p marks.now →
         IfOk result (λ found. found.items ≡ filter p routers.now) }
@@ -152,11 +144,7 @@ fn marked(
 }
 
 /// Which of these routers sent copies on, and which others took none.
-fn reach_among(
-    alloc: Global,
-    routers: &[RouterNo],
-    events: &[Event],
-) -> Result<Reach, Memory>
+fn reach_among(alloc: Global, routers: &[RouterNo], events: &[Event]) -> Result<Reach, Memory>
     requires { All (λ router. router < 256) routers.now }
     ensures sent_on { IfOk result (λ reach.
         reach.sent_on.items ≡ sent_on events.now routers.now) }

@@ -7,18 +7,30 @@ ghost use Rattle.mc_theory.specs.Findings.{copy_on};
 ghost use Rattle.mc_explain.specs.Looking.{IsLooking, search_in};
 ghost use Rattle.mc_explain.specs.Met.{IsMet};
 ghost use Rattle.mc_explain.specs.Searched.{add_met, lead, leads_to, lines_of_lan, search_lines};
+ghost use Rattle.mc_explain.specs.Searched.{lans_of_search};
 ghost use Rattle.mc_explain.specs.TopologyLans.{on_lans};
+ghost use Rattle.mc_explain.specs.FullSearch.{IsSearched};
 
 use crate::firsts::Firsts;
 use crate::interfaces_of_lans::InterfacesOfLans;
 use crate::looking::Looking;
 use crate::met::Met;
+use crate::reach::{Reach, reach_of};
 use crate::searched::Searched;
-use mc_forward::{Domain, Flight, FlowView};
+use mc_forward::{Domain, Event, Flight, FlowView};
 use mc_tables::CacheNotes;
 use mc_text::Memory;
 use mc_topology::LanNo;
 use std::alloc::Global;
+
+/// A search for a missed LAN.
+#[derive(Debug, Drop)]
+pub struct LanSearch {
+    /// Its lines.
+    pub lines: Vec<Searched>,
+    /// How far the packet came among its routers.
+    pub reach: Reach,
+}
 
 /// The LANs that lines lead to are met.
 fn follow(looking: &Looking<'_>, met: &mut Met, lines: &[Searched]) -> Result<(), Memory>
@@ -60,11 +72,20 @@ fn look_at(
     follow(looking, met, &told[before..])
 }
 
-/// All that is told of a LAN and of those that it leads to.
-fn search_from(alloc: Global, looking: &Looking<'_>, missed: LanNo) -> Result<Vec<Searched>, Memory>
+/// All that is told of a LAN and of those that it leads to, and which these are.
+fn search_from(
+    alloc: Global,
+    looking: &Looking<'_>,
+    missed: LanNo,
+) -> Result<(Vec<Searched>, Met), Memory>
     requires looking { IsLooking looking.now }
     requires missed { missed < length looking.now.view.now.domain.topology.lans }
-    ensures { IfOk result (λ told. told.items ≡ search_lines (search_in looking.now) missed) }
+    ensures lines { IfOk result (λ found.
+        found.0.items ≡ search_lines (search_in looking.now) missed) }
+    ensures lans { IfOk result (λ found.
+        found.1.lans.items ≡ lans_of_search (search_in looking.now) missed) }
+    ensures met { IfOk result (λ found.
+        IsMet (length looking.now.view.now.domain.topology.lans) found.1) }
 {
     let lans = looking.view.lans();
     let mut met = Met::new(alloc, lans, missed)?;
@@ -74,10 +95,26 @@ fn search_from(alloc: Global, looking: &Looking<'_>, missed: LanNo) -> Result<Ve
             look_at(looking, &mut told, &mut met, lan)?;
         }
     }
-    Ok(told)
+    Ok((told, met))
 }
 
-/// Searches why a LAN carried no copy in a flight of a flow's packet, by what is noted of each
+/// The same, and what it comes to.
+fn search_all(
+    alloc: Global,
+    looking: &Looking<'_>,
+    events: &[Event],
+    missed: LanNo,
+) -> Result<LanSearch, Memory>
+    requires looking { IsLooking looking.now }
+    requires missed { missed < length looking.now.view.now.domain.topology.lans }
+    ensures { IfOk result (IsSearched (search_in looking.now) events.now missed) }
+{
+    let (lines, met) = search_from(alloc, looking, missed)?;
+    let reach = reach_of(alloc, looking, met.lans(), events)?;
+    Ok(LanSearch { lines, reach })
+}
+
+/// Searches why a LAN carried no copy in a flight of a flow's packet with these events, by what is noted of each
 /// router's cache, the first router's first, and by the interfaces of the domain's LANs. It takes time
 /// in proportion to the LANs, the copies, the interfaces of the LANs that are looked at, and for each of
 /// those its row.
@@ -91,19 +128,20 @@ pub fn search(
     notes: &[CacheNotes],
     interfaces: &InterfacesOfLans,
     flight: &Flight<'_>,
+    events: &[Event],
     flow: u32,
     missed: LanNo,
-) -> Result<Vec<Searched>, Memory>
+) -> Result<LanSearch, Memory>
     requires flow { flow < length domain.now.topology.flows }
     requires interfaces { interfaces.now ≡ on_lans domain.now }
     requires flight { flight.now.domain ≡ domain.now }
     requires missed { missed < length domain.now.topology.lans }
-    ensures lines { IfOk result (λ told. told.items ≡ search_lines (record {
+    ensures { IfOk result (IsSearched (record {
       domain = domain.now;
       flow = flow;
       notes = notes.now;
       copy_on = copy_on flight.now.flight.carried;
-    }) missed) }
+    }) events.now missed) }
 {
     let view = FlowView::new(domain, flow);
     let firsts = Firsts::new(alloc, &view, flight.copies())?;
@@ -114,5 +152,5 @@ pub fn search(
         interfaces,
         firsts: &firsts,
     };
-    search_from(alloc, &looking, missed)
+    search_all(alloc, &looking, events, missed)
 }

@@ -1,9 +1,8 @@
 -- Router by router.
-use Rattle.std.proofs.Common.{◌≡◌, ℕ, ◌<◌, List, ◌∷◌, inl, inr, length, map, refl, sym, ap, subst, ◌∙◌, arith}
+use Rattle.std.proofs.Common.{◌≡◌, ℕ, List, ◌∷◌, inl, inr, map, refl, sym, ap, subst, ◌∙◌, arith}
 use Rattle.mc_theory.specs.Lists.{In}
 use Rattle.mc_explain.specs.declared.listed_interface.ListedInterface.{ListedInterface}
-use Rattle.mc_explain.specs.Looking.{search_in}
-use Rattle.mc_explain.specs.Searched.{add_met, routers_on}
+use Rattle.mc_explain.specs.Searched.{add_met}
 use Rattle.mc_explain.proofs.ReachLemmas.{group-router}
 use Rattle.mc_explain.proofs.reach.add_routers.Goals as goal
 

@@ -1,9 +1,7 @@
 -- LAN by LAN.
-use Rattle.std.proofs.Common.{◌≡◌, ◌==◌, ℕ, ◌++◌, List, [], length, map, flat_map, take, refl, sym, ap, ◌∙◌}
+use Rattle.std.proofs.Common.{◌==◌, ℕ, List, take, refl, sym, ap, ◌∙◌}
 use Rattle.std.specs.List.{list_any}
-use Rattle.mc_explain.specs.declared.listed_interface.ListedInterface.{ListedInterface}
 use Rattle.mc_explain.specs.Looking.{search_in}
-use Rattle.mc_explain.specs.Searched.{add_met, routers_on}
 use Rattle.mc_explain.proofs.LanStartLemmas.{unmarked}
 use Rattle.mc_explain.proofs.ReachLemmas.{routers-few, routers-more}
 use Rattle.mc_explain.proofs.reach.routers_of.Goals as goal

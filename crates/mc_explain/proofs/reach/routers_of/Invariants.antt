@@ -1,4 +1,4 @@
-use Rattle.std.proofs.Common.{◌≡◌, ℕ, length, take}
+use Rattle.std.proofs.Common.{◌≡◌, length, take}
 use Rattle.mc_explain.specs.Looking.{search_in}
 use Rattle.mc_explain.specs.Marks.{AreListed}
 use Rattle.mc_explain.specs.SearchReach.{routers_of}

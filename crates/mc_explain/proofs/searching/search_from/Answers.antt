@@ -46,8 +46,8 @@ loop-turn-preserved c =
           })
     ]
 
-pub returns : goal.returns
-returns c =
+pub returns-clause-lines : goal.returns-clause-lines
+returns-clause-lines c =
     let s = search_in c.args.looking.now in
     let missed = c.args.missed in
     let k = c.loop-turn.turn in
@@ -61,3 +61,10 @@ returns c =
     c.loop-turn.invariant.told
     ∙ ap (flat_map (lines_of_lan s)) (take_all k (met s missed k) few)
     ∙ ap (λ (n : ℕ). flat_map (lines_of_lan s) (met s missed n)) end
+
+pub returns-clause-lans : goal.returns-clause-lans
+returns-clause-lans c =
+    let count = length c.args.looking.now.view.now.domain.topology.lans in
+    let end : c.loop-turn.turn ≡ count =
+    omega (arith, c.loop-turn-test.false, c.loop-turn.auto.turn-end, c.lans-lans.ensures.count) in
+    c.loop-turn.invariant.lans ∙ ap (met (search_in c.args.looking.now) c.args.missed) end

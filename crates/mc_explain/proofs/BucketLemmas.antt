@@ -14,7 +14,7 @@ use Rattle.std.proofs.lemmas.Grind.{flat_map-append}
 use Rattle.mc_theory.specs.Lists.{In, below}
 use Rattle.mc_theory.proofs.InLists.{in-below_cases, in-filter_cases}
 use Rattle.mc_forward.proofs.BelowLemmas.{below-more, length-below, slice_get-by_number}
-use Rattle.mc_explain.specs.Buckets.{Holds}
+use Rattle.mc_explain.specs.Numbered.{Holds}
 
 -- nothing stands in empty lists
 pub holds-none : {A : Type 0} (f : ℕ → A) (number : ℕ → ℕ) (lists : List (List A)) (n : ℕ)

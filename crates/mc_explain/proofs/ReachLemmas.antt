@@ -14,7 +14,7 @@ use Rattle.mc_explain.specs.declared.listed_interface.ListedInterface.{ListedInt
 use Rattle.mc_explain.specs.TopologyLans.{interface_at, listed_at, of_router, on_lan}
 use Rattle.mc_explain.specs.Searched.{Search, add_met, groups, join, routers_on}
 use Rattle.mc_explain.specs.SearchReach.{has, routers_of}
-use Rattle.mc_explain.specs.Marks.{AreMarksOf}
+use Rattle.mc_explain.specs.Numbered.{AreMarksOf}
 
 -- one router more, which passes the test or doesn't
 pub filtered-more : (p : ℕ → Bool) (rs : List ℕ) (i r : ℕ) (found now : List ℕ) (b : Bool)

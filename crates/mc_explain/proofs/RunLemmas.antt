@@ -4,7 +4,7 @@ use Rattle.std.proofs.Common.{List, [], ◌∷◌, length, take, drop, get_or, r
 use Rattle.std.proofs.lemmas.Bool.{eq-eqb, eqb-true}
 use Rattle.mc_explain.specs.declared.listed_interface.ListedInterface.{ListedInterface}
 use Rattle.mc_explain.specs.Searched.{groups, join}
-use Rattle.mc_explain.specs.Runs.{run}
+use Rattle.mc_explain.specs.Numbered.{run}
 
 -- no more of them stand at the front than there are
 pub run-short : (router : ℕ) (is : List ListedInterface) → run router is ≤ length is

@@ -5,14 +5,10 @@ pub mod WantedText
 pub mod LastFlights
 pub mod ToldFacts
 pub mod TopologyLans
-pub mod Buckets
+pub mod Numbered
 pub mod Searched
-pub mod Runs
 pub mod Looking
-pub mod Met
-pub mod Marks
 pub mod SearchReach
-pub mod FullSearch
 pub use Rattle.mc_theory.specs.Nets
 pub use Rattle.mc_theory.specs.Flights
 pub use Rattle.mc_theory.specs.Findings

@@ -5,7 +5,7 @@ ghost use Rattle.mc_theory.specs.Lists.{below};
 ghost use Rattle.mc_forward.specs.Domains.{DomainValue, vif_of};
 ghost use Rattle.mc_explain.specs.TopologyLans.{listed_at, listed_of, of_router, on_lan, on_lans};
 ghost use Rattle.mc_explain.specs.TopologyLans.{interface_at, is_of, vif_with};
-ghost use Rattle.mc_explain.specs.Buckets.{Holds};
+ghost use Rattle.mc_explain.specs.Numbered.{Holds};
 
 use crate::listed_interface::ListedInterface;
 use mc_forward::Domain;

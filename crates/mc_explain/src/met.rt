@@ -1,7 +1,7 @@
 //! The LANs that a search met.
 
 ghost use Rattle.std.specs.Prelude.{◌≡◌, ◌<◌, ◌∷◌, [], All, IfOk, IfSome, OnOk, length, slice_get};
-ghost use Rattle.mc_explain.specs.Met.{IsMet};
+ghost use Rattle.mc_explain.specs.Looking.{IsMet};
 ghost use Rattle.mc_explain.specs.Searched.{add_met};
 
 use mc_forward::PerLan;

@@ -4,7 +4,7 @@ ghost use Rattle.std.specs.Prelude.{◌≡◌, ◌<◌, ◌≤◌, ◌||◌, ◌
 ghost use Rattle.std.specs.Prelude.{◌&&◌, Bool, not, slice_index_or, true};
 ghost use Rattle.mc_forward.specs.Outcomes.{outcome_seen};
 ghost use Rattle.mc_explain.specs.Looking.{IsLooking, search_in};
-ghost use Rattle.mc_explain.specs.Marks.{AreListed, AreMarksOf};
+ghost use Rattle.mc_explain.specs.Numbered.{AreListed, AreMarksOf};
 ghost use Rattle.mc_explain.specs.Searched.{add_met, routers_on};
 ghost use Rattle.mc_explain.specs.SearchReach.{has, is_kind, routers_of, sent_on};
 ghost use Rattle.mc_explain.specs.SearchReach.{took_none};

@@ -1,7 +1,7 @@
 //! The routers that have an interface on a LAN.
 
 ghost use Rattle.std.specs.Prelude.{◌≡◌, ◌≤◌, length};
-ghost use Rattle.mc_explain.specs.Runs.{run};
+ghost use Rattle.mc_explain.specs.Numbered.{run};
 
 use crate::listed_interface::ListedInterface;
 use mc_topology::RouterNo;

@@ -5,11 +5,11 @@ ghost use Rattle.std.specs.Prelude.{◌≡◌, ◌<◌, ◌++◌, All, IfOk, IfS
 ghost use Rattle.std.specs.List.{filter_map};
 ghost use Rattle.mc_theory.specs.Findings.{copy_on};
 ghost use Rattle.mc_explain.specs.Looking.{IsLooking, search_in};
-ghost use Rattle.mc_explain.specs.Met.{IsMet};
+ghost use Rattle.mc_explain.specs.Looking.{IsMet};
 ghost use Rattle.mc_explain.specs.Searched.{add_met, lead, leads_to, lines_of_lan, search_lines};
 ghost use Rattle.mc_explain.specs.Searched.{lans_of_search};
 ghost use Rattle.mc_explain.specs.TopologyLans.{on_lans};
-ghost use Rattle.mc_explain.specs.FullSearch.{IsSearched};
+ghost use Rattle.mc_explain.specs.SearchReach.{IsSearched};
 
 use crate::firsts::Firsts;
 use crate::interfaces_of_lans::InterfacesOfLans;

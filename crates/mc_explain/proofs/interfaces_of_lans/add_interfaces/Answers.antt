@@ -6,7 +6,7 @@ use Rattle.std.proofs.lemmas.List.{length-set, take_more, take_all}
 use Rattle.mc_topology.specs.Rows.{InterfaceRow}
 use Rattle.mc_topology.specs.Topology.{TopologyValue}
 use Rattle.mc_explain.specs.declared.listed_interface.ListedInterface.{ListedInterface}
-use Rattle.mc_explain.specs.Buckets.{Holds}
+use Rattle.mc_explain.specs.Numbered.{Holds}
 use Rattle.mc_explain.specs.TopologyLans.{interface_at, listed_at, listed_of}
 use Rattle.mc_explain.proofs.BucketLemmas.{holds-more}
 use Rattle.mc_explain.proofs.interfaces_of_lans.add_interfaces.Goals as goal

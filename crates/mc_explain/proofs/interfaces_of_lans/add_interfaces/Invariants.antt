@@ -1,5 +1,5 @@
 use Rattle.std.proofs.Common.{◌≡◌, ℕ, List, ◌++◌, length, take}
-use Rattle.mc_explain.specs.Buckets.{Holds}
+use Rattle.mc_explain.specs.Numbered.{Holds}
 use Rattle.mc_explain.specs.TopologyLans.{interface_at, listed_at}
 use Rattle.mc_explain.proofs.interfaces_of_lans.add_interfaces.Given as goal
 

@@ -7,7 +7,7 @@ use Rattle.mc_theory.specs.Lists.{below}
 use Rattle.mc_forward.proofs.BelowLemmas.{length-below}
 use Rattle.mc_forward.proofs.EachLemmas.{by_number}
 use Rattle.mc_explain.specs.declared.listed_interface.ListedInterface.{ListedInterface}
-use Rattle.mc_explain.specs.Buckets.{Holds}
+use Rattle.mc_explain.specs.Numbered.{Holds}
 use Rattle.mc_explain.specs.TopologyLans.{interface_at, listed_at, of_router, on_lan}
 use Rattle.mc_explain.proofs.BucketLemmas.{holds-none, flat_map-below, item-at, tested-below}
 use Rattle.mc_explain.proofs.interfaces_of_lans.interfaces_of_lans.Goals as goal

@@ -1,6 +1,6 @@
 use Rattle.std.proofs.Common.{◌≡◌, ℕ, length, flat_map}
 use Rattle.mc_theory.specs.Lists.{below}
-use Rattle.mc_explain.specs.Buckets.{Holds}
+use Rattle.mc_explain.specs.Numbered.{Holds}
 use Rattle.mc_explain.specs.TopologyLans.{interface_at, listed_at, of_router}
 use Rattle.mc_explain.proofs.interfaces_of_lans.interfaces_of_lans.Given as goal
 

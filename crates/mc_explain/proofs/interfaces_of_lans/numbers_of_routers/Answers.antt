@@ -7,7 +7,7 @@ use Rattle.mc_topology.specs.Rows.{InterfaceRow}
 use Rattle.mc_theory.specs.Lists.{below}
 use Rattle.mc_forward.proofs.BelowLemmas.{below-more, length-below}
 use Rattle.mc_forward.proofs.EachLemmas.{by_number}
-use Rattle.mc_explain.specs.Buckets.{Holds}
+use Rattle.mc_explain.specs.Numbered.{Holds}
 use Rattle.mc_explain.specs.TopologyLans.{interface_at, of_router}
 use Rattle.mc_explain.proofs.BucketLemmas.{holds-none, holds-more, map-same}
 use Rattle.mc_explain.proofs.interfaces_of_lans.numbers_of_routers.Goals as goal

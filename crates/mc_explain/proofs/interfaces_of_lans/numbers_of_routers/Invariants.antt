@@ -1,6 +1,6 @@
 use Rattle.std.proofs.Common.{◌≡◌, ℕ, length}
 use Rattle.mc_theory.specs.Lists.{below}
-use Rattle.mc_explain.specs.Buckets.{Holds}
+use Rattle.mc_explain.specs.Numbered.{Holds}
 use Rattle.mc_explain.specs.TopologyLans.{interface_at}
 use Rattle.mc_explain.proofs.interfaces_of_lans.numbers_of_routers.Given as goal
 

@@ -2,7 +2,7 @@ use Rattle.std.proofs.Common.{◌≡◌, ℕ, ◌<◌, List, length, map}
 use Rattle.mc_theory.specs.Lists.{In}
 use Rattle.mc_explain.specs.declared.listed_interface.ListedInterface.{ListedInterface}
 use Rattle.mc_explain.specs.Looking.{search_in}
-use Rattle.mc_explain.specs.Marks.{AreListed}
+use Rattle.mc_explain.specs.Numbered.{AreListed}
 use Rattle.mc_explain.specs.Searched.{add_met, routers_on}
 use Rattle.mc_explain.proofs.reach.add_routers.Given as goal
 

@@ -1,5 +1,5 @@
 use Rattle.std.proofs.Common.{◌≡◌, ℕ, Bool, take, filter}
-use Rattle.mc_explain.specs.Marks.{AreMarksOf}
+use Rattle.mc_explain.specs.Numbered.{AreMarksOf}
 use Rattle.mc_explain.proofs.reach.marked.Given as goal
 
 abbrev pub invariant-loop-router : goal.invariant-loop-router

@@ -1,6 +1,6 @@
 use Rattle.std.proofs.Common.{◌≡◌, length, take}
 use Rattle.mc_explain.specs.Looking.{search_in}
-use Rattle.mc_explain.specs.Marks.{AreListed}
+use Rattle.mc_explain.specs.Numbered.{AreListed}
 use Rattle.mc_explain.specs.SearchReach.{routers_of}
 use Rattle.mc_explain.proofs.reach.routers_of.Given as goal
 

@@ -1,5 +1,5 @@
 use Rattle.std.proofs.Common.{◌≡◌, ◌+◌, drop}
-use Rattle.mc_explain.specs.Runs.{run}
+use Rattle.mc_explain.specs.Numbered.{run}
 use Rattle.mc_explain.proofs.routers_on_lan.run.Given as goal
 
 abbrev pub invariant-loop-index : goal.invariant-loop-index

@@ -1,7 +1,7 @@
 use Rattle.std.proofs.Common.{◌≡◌, length, drop}
 use Rattle.std.specs.List.{filter_map}
 use Rattle.mc_explain.specs.Looking.{search_in}
-use Rattle.mc_explain.specs.Met.{IsMet}
+use Rattle.mc_explain.specs.Looking.{IsMet}
 use Rattle.mc_explain.specs.Searched.{add_met, lead}
 use Rattle.mc_explain.proofs.searching.follow.Given as goal
 

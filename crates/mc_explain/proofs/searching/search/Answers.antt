@@ -1,7 +1,7 @@
 -- By the first copies.
 use Rattle.std.proofs.Common.{subst}
 use Rattle.std.specs.Prelude.{IfOk}
-use Rattle.mc_explain.specs.FullSearch.{IsSearched}
+use Rattle.mc_explain.specs.SearchReach.{IsSearched}
 use Rattle.mc_explain.specs.Searched.{Search}
 use Rattle.mc_explain.proofs.SearchLemmas.{same-search}
 use Rattle.mc_explain.proofs.searching.search.Goals as goal

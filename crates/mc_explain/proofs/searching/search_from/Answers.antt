@@ -6,7 +6,7 @@ use Rattle.std.proofs.lemmas.List.{take_all}
 use Rattle.mc_explain.specs.declared.met.Met.{Met}
 use Rattle.mc_explain.specs.declared.searched.Searched.{Searched}
 use Rattle.mc_explain.specs.Looking.{search_in}
-use Rattle.mc_explain.specs.Met.{IsMet}
+use Rattle.mc_explain.specs.Looking.{IsMet}
 use Rattle.mc_explain.specs.Searched.{add_met, leads_to, lines_of_lan, met, met_after}
 use Rattle.mc_explain.proofs.SearchLemmas.{few-met, met-more, past-none, told-more, told-same}
 use Rattle.mc_explain.proofs.searching.search_from.Goals as goal

@@ -1,6 +1,6 @@
 use Rattle.std.proofs.Common.{◌≡◌, length, take, flat_map}
 use Rattle.mc_explain.specs.Looking.{search_in}
-use Rattle.mc_explain.specs.Met.{IsMet}
+use Rattle.mc_explain.specs.Looking.{IsMet}
 use Rattle.mc_explain.specs.Searched.{lines_of_lan, met}
 use Rattle.mc_explain.proofs.searching.search_from.Given as goal
 

@@ -8,12 +8,12 @@ use Rattle.std.proofs.lemmas.Bool.{eq-eqb}
 use Rattle.mc_tables.specs.ListedRows.{is_listed}
 use Rattle.mc_topology.specs.declared.flow.Flow.{Flow}
 use Rattle.mc_topology.specs.Topology.{TopologyValue}
-use Rattle.mc_forward.specs.Domains.{TablesValue, vif_of, row_at, lan_of_vif, wants_of, source_of}
-use Rattle.mc_forward.specs.Domains.{ttl_of}
+use Rattle.mc_forward.specs.Domains.{DomainValue, TablesValue, vif_of, row_at, lan_of_vif, wants_of}
+use Rattle.mc_forward.specs.Domains.{source_of, ttl_of}
 use Rattle.mc_forward.specs.Assembling.{EachAt}
 use Rattle.mc_forward.specs.DomainParts.{domain_with}
 use Rattle.mc_forward.specs.ListedTables.{AreListed, AreListedTables, Pairwise, SaysTheSame}
-use Rattle.mc_forward.specs.ListedTables.{flow_pairs}
+use Rattle.mc_forward.specs.ListedTables.{facts, flow_pairs}
 
 or-true : (b : Bool) → (b || true) ≡ true
 or-true b = grind arith
@@ -76,7 +76,16 @@ listed-same t parts wholes wants are =
         source = source_of whole flow;
         ttl = ttl_of whole flow;
       };
+      vifs = λ router vif. sym (vifs-same t.flows parts wholes are router vif);
     }
+
+-- so all is the same that a domain says
+pub same_facts : {d e : DomainValue} → SaysTheSame d e → facts d ≡ facts e
+same_facts same = λ i. record {
+  topology = same.topology i;
+  nets = λ flow. same.nets flow i;
+  vifs = λ router vif. same.vifs router vif i;
+}
 
 -- ---- item by item
 

@@ -1,9 +1,12 @@
 -- The tables of a router of which the rows of the listed flows were kept, and domains that say the
 -- same of each flow.
-use Rattle.std.specs.Prelude.{◌≡◌, ℕ, List, [], ◌∷◌, map, Some}
+use Rattle.std.specs.Prelude.{◌≡◌, ℕ, List, [], ◌∷◌, map, Option, Some}
 use Rattle.mc_tables.specs.ListedRows.{IsListedPart}
+use Rattle.mc_tables.specs.VifTable.{VifText}
+use Rattle.mc_topology.specs.Topology.{TopologyValue}
 use Rattle.mc_topology.specs.declared.flow.Flow.{Flow}
-use Rattle.mc_forward.specs.Domains.{TablesValue, DomainValue, net_of}
+use Rattle.mc_theory.specs.Nets.{Net}
+use Rattle.mc_forward.specs.Domains.{TablesValue, DomainValue, net_of, vif_of}
 
 -- the source and the group of each flow
 abbrev pub flow_pairs : List Flow → List (ℕ × ℕ)
@@ -24,7 +27,17 @@ Pairwise R _ _ = ⊥
 abbrev pub AreListed : List Flow → List TablesValue → List TablesValue → Type 0
 AreListed flows parts wholes = Pairwise (AreListedTables flows) parts wholes
 
--- Two domains have one topology, and the packets of each of its flows meet the same.
+-- What a domain says: its topology, what the packets of each flow meet, and each router's vifs.
+pub record DomainFacts : Type 0 where
+  pub topology : TopologyValue
+  pub nets : (flow : ℕ) → Net
+  pub vifs : (router vif : ℕ) → Option VifText
+
+abbrev pub facts : DomainValue → DomainFacts
+facts d = record { topology = d.topology; nets = net_of d; vifs = vif_of d.tables }
+
+-- Two domains have one topology and the same vifs, and the packets of each flow meet the same.
 pub record SaysTheSame (d e : DomainValue) : Type 0 where
   pub topology : d.topology ≡ e.topology
   pub nets : (flow : ℕ) → net_of d flow ≡ net_of e flow
+  pub vifs : (router vif : ℕ) → vif_of d.tables router vif ≡ vif_of e.tables router vif

@@ -21,6 +21,7 @@ pub mod CacheLookupLemmas
 pub mod CacheMapLemmas
 pub mod CacheStepLemmas
 pub mod ApartLemmas
+pub mod LesserHalfLemmas
 pub mod OtherRowLemmas
 pub mod SortedRowLemmas
 pub mod ListedLemmas

@@ -15,6 +15,7 @@ ghost use Rattle.mc_tables.specs.ListedRows.{is_in, is_kept_by};
 ghost use Rattle.mc_tables.specs.NotesSoFar.{IsEntered, first_added};
 
 use crate::cache_row::CacheRow;
+use crate::digit_sort::sort_by_digits;
 use crate::entry::{Entry, Oif};
 use crate::fault::TableFaultKind;
 use crate::flat_oifs::FlatOifs;
@@ -204,7 +205,8 @@ impl CacheRows {
         ensures table { result.table ≡ self.table }
         ensures order { IsSorted nat_cmp result.groups }
     {
-        self.groups.sort_unstable();
+        let alloc = *self.groups.allocator();
+        sort_by_digits(alloc, &mut self.groups);
         self
     }
 

@@ -10,6 +10,7 @@ mod cache_reader;
 mod cache_row;
 mod cache_rows;
 mod cache_table;
+mod digit_sort;
 mod entry;
 mod fault;
 mod flat_oifs;

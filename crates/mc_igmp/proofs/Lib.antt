@@ -6,3 +6,4 @@ pub mod WrittenLemmas
 pub mod MessageLemmas
 pub mod ListLemmas
 pub mod PieceLemmas
+pub mod AheadLemmas

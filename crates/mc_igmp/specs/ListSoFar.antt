@@ -1,7 +1,8 @@
 -- A report list whose text comes in pieces: how far reading has come.
-use Rattle.std.specs.Prelude.{ℕ, ◌+◌, ◌≤◌, ◌==◌, nat_lt, true, false, ◌≡◌, List, [], ◌++◌, length, Option}
-use Rattle.std.specs.Prelude.{Some, None, Result, Ok, Err, if◌then◌else◌}
+use Rattle.std.specs.Prelude.{ℕ, ◌+◌, ◌*◌, ◌≤◌, ◌==◌, nat_lt, true, false, ◌≡◌, List, [], ◌++◌}
+use Rattle.std.specs.Prelude.{length, Option, Some, None, Result, Ok, Err, if◌then◌else◌}
 use Rattle.std.specs.List.{AllByRecursion}
+use Rattle.mc_text.specs.DigitPairs.{AreWritten}
 use Rattle.mc_text.specs.Lines.{LineText, lines_from}
 use Rattle.mc_text.specs.Steps.{◌>>=◌}
 use Rattle.mc_igmp.specs.declared.record.Record.{Record}
@@ -12,6 +13,12 @@ use Rattle.mc_igmp.specs.ReadingList.{fault_at, read_lines}
 -- no line feed stands there
 abbrev pub WithoutLineFeed : List ℕ → Type 0
 WithoutLineFeed bytes = AllByRecursion (λ b. (b == 10) ≡ false) bytes
+
+-- so many bytes of a line's message are written
+pub record AreAhead (line message : List ℕ) (written : ℕ) : Type 0 where
+  pub ahead : AreWritten line message written
+  pub within : 2 * written ≤ length line
+  pub fits : written ≤ length message
 
 -- these records, and those of the lines of these bytes, which come after so many lines
 abbrev pub read_on : List Record → ℕ → List ℕ → Result (List Record) ListFault

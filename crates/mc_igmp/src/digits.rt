@@ -62,6 +62,7 @@ fn write_piece(digits: &[u8], bytes: &mut [u8], at: usize) -> bool
     ensures found { result ≡ true → AreWritten digits.now bytes.old at
         → AreWritten digits.now bytes.new (at + LANES) }
     ensures only { result ≡ false → (out : List ℕ) → decode_of digits.now ≢ Ok out }
+    ensures kept { result ≡ false → bytes.new ≡ bytes.old }
 {
     let text = u8x32::from_slice(&digits[2 * at..]);
     if !are_hex_digits(text) {
@@ -94,10 +95,29 @@ fn write_short(digits: &[u8], bytes: &mut [u8]) -> bool
     true
 }
 
-/// Writes all bytes, those that the digits stand for, two digits a byte, and tells whether all are
-/// digits. If not, what is written says nothing.
-fn write_bytes(digits: &[u8], bytes: &mut [u8]) -> bool
-    requires { length digits.now ≡ 2 * length bytes.old }
+/// Writes the bytes of the digits that a text begins with, sixteen together, as far as there is room,
+/// and answers how many are written.
+pub(crate) fn write_ahead(text: &[u8], room: &mut [u8]) -> usize
+    ensures written { AreWritten text.now room.new result }
+    ensures text { 2 * result ≤ length text.now }
+    ensures room { result ≤ length room.old }
+{
+    let most = room.len().min(text.len() / 2);
+    let mut at = 0;
+    'pieces: while LANES <= most - at {
+        if !write_piece(text, room, at) {
+            return at;
+        }
+        at += LANES;
+    }
+    at
+}
+
+/// Writes all bytes, those that the digits stand for, two digits a byte, of which so many are
+/// written, and tells whether all are digits. If not, what is written says nothing.
+fn write_bytes(digits: &[u8], bytes: &mut [u8], written: usize) -> bool
+    requires size { length digits.now ≡ 2 * length bytes.old }
+    requires written { AreWritten digits.now bytes.old written }
     ensures found { result ≡ true → decode_of digits.now ≡ Ok bytes.new }
     ensures only { result ≡ false → (out : List ℕ) → decode_of digits.now ≢ Ok out }
 {
@@ -108,7 +128,7 @@ fn write_bytes(digits: &[u8], bytes: &mut [u8]) -> bool
         return write_short(digits, bytes);
     }
     let last = bytes.len() - LANES;
-    let mut at = 0;
+    let mut at = written;
     'pieces: while at < last {
         if !write_piece(digits, bytes, at) {
             return false;
@@ -119,13 +139,15 @@ fn write_bytes(digits: &[u8], bytes: &mut [u8]) -> bool
     write_piece(digits, bytes, last)
 }
 
-/// Writes the bytes that the digits stand for to the front of the room, and tells whether all are
-/// digits.
-pub(crate) fn write_to_front(digits: &[u8], room: &mut [u8]) -> bool
+/// Writes the bytes that the digits stand for to the front of the room, where so many are written,
+/// and tells whether all are digits.
+pub(crate) fn write_to_front(digits: &[u8], room: &mut [u8], written: usize) -> bool
     requires even { length digits.now % 2 ≡ 0 }
     requires fits { length digits.now ≤ 2 * length room.old }
+    requires written { AreWritten digits.now room.old written }
+    requires within { 2 * written ≤ length digits.now }
     ensures found { result ≡ true → decode_of digits.now ≡ Ok (take (length digits.now / 2) room.new) }
     ensures only { result ≡ false → (out : List ℕ) → decode_of digits.now ≢ Ok out }
 {
-    write_bytes(digits, &mut room[..digits.len() / 2])
+    write_bytes(digits, &mut room[..digits.len() / 2], written)
 }

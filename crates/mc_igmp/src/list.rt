@@ -1,8 +1,9 @@
 //! A report list: what the hosts of one LAN answer to one General Query, a message on each line.
 
-ghost use Rattle.std.specs.Prelude.{◌≡◌, ◌≢◌, ◌++◌, ◌∷◌, ◌<◌, ◌^◌, ◌⊎◌, List, [], length};
+ghost use Rattle.std.specs.Prelude.{◌≡◌, ◌≢◌, ◌*◌, ◌++◌, ◌∷◌, ◌<◌, ◌≤◌, ◌^◌, ◌⊎◌, List, [], length};
 ghost use Rattle.std.specs.Prelude.{unwrap_or};
 ghost use Rattle.std.specs.Prelude.{IfOk, IfErr, OnOk, OnErr, MatchResult};
+ghost use Rattle.mc_text.specs.DigitPairs.{AreWritten};
 ghost use Rattle.mc_text.specs.LineView.{line_text};
 ghost use Rattle.mc_igmp.specs.declared.record.Record.{Record};
 ghost use Rattle.mc_igmp.specs.ReadingList.{IsMemory, no_memory};
@@ -39,9 +40,16 @@ fn bytes_of_older_record(group: Addr) -> [u8; 8]
     [2, 0, 0, 0, a, b, c, d]
 }
 
-/// Reads the bytes that a line's hexadecimal digits write, at the front of `bytes`, which stays as
-/// long as the longest line makes it: what stands there is written over.
-fn read_digits<'a>(line: &Line<'_>, bytes: &'a mut Vec<u8>) -> Result<&'a [u8], ListFault>
+/// Reads the bytes that a line's hexadecimal digits write, at the front of `bytes`, where so many
+/// are written. It stays as long as the longest line makes it: what stands there is written over.
+fn read_digits<'a>(
+    line: &Line<'_>,
+    bytes: &'a mut Vec<u8>,
+    written: usize,
+) -> Result<&'a [u8], ListFault>
+    requires written { AreWritten line.now.bytes.now bytes.old.items written }
+    requires within { 2 * written ≤ length line.now.bytes.now }
+    requires room { written ≤ length bytes.old.items }
     ensures ok { IfOk result (λ read. bytes_of_line (line_text line.now) ≡ Ok read.now) }
     ensures err { IfErr result (λ fault.
         IsMemory fault ⊎ (bytes_of_line (line_text line.now) ≡ Err fault)) }
@@ -59,7 +67,7 @@ fn read_digits<'a>(line: &Line<'_>, bytes: &'a mut Vec<u8>) -> Result<&'a [u8], 
     if bytes.len() < len {
         bytes.resize(len, 0)?;
     }
-    if write_to_front(line.bytes, bytes) {
+    if write_to_front(line.bytes, bytes, written) {
         Ok(&bytes[..len])
     } else {
         Err(ListFaultKind::BadHex.at(line.number, 0))
@@ -173,23 +181,28 @@ impl ReportList {
         let mut list = ReportList::none(alloc);
         let mut message = Vec::new(alloc);
         for line in Lines::new(text) {
-            list.push_line(&line, &mut message)?;
+            list.push_line(&line, &mut message, 0)?;
         }
         Ok(list)
     }
 
-    // Appends the records of the message on a line, for whose bytes `message` is room meanwhile.
+    // Appends the records of the message on a line, for whose bytes `message` is room meanwhile, and
+    // of which so many are written there.
     pub(crate) fn push_line(
         &mut self,
         line: &Line<'_>,
         message: &mut Vec<u8>,
+        written: usize,
     ) -> Result<(), ListFault>
+        requires written { AreWritten line.now.bytes.now message.old.items written }
+        requires within { 2 * written ≤ length line.now.bytes.now }
+        requires room { written ≤ length message.old.items }
         ensures ok { OnOk result ((records : List Record) ×
             (read_line (line_text line.now) ≡ Ok records) × (self.new ≡ self.old ++ records)) }
         ensures err { IfErr result (λ fault.
             IsMemory fault ⊎ (read_line (line_text line.now) ≡ Err fault)) }
     {
-        let bytes = read_digits(line, message)?;
+        let bytes = read_digits(line, message, written)?;
         if let Some(records) = records_taken(line.number, bytes)? {
             self.append(&records)?;
         }

@@ -1,13 +1,16 @@
 //! Reading a report list from pieces of its text.
 
 ghost use Rattle.std.specs.Prelude.{◌≡◌, ◌+◌, ◌<◌, ◌≤◌, ◌⊎◌, ℕ, List, [], ◌++◌, length, min};
-ghost use Rattle.std.specs.Prelude.{Ok, Err, IfOk, OnOk, IfErr};
+ghost use Rattle.std.specs.Prelude.{Ok, Err, IfOk, OnOk, IfErr, IfSome, ◌==◌, position, take, true};
+ghost use Rattle.std.specs.List.{list_all};
+ghost use Rattle.hex.specs.Hex.{is_hex_digit};
 ghost use Rattle.mc_text.specs.Lines.{max_text};
 ghost use Rattle.mc_igmp.specs.declared.record.Record.{Record};
 ghost use Rattle.mc_igmp.specs.ReadingList.{IsMemory, read_line, read_list};
-ghost use Rattle.mc_igmp.specs.ListSoFar.{WithoutLineFeed, line_after, read_on};
+ghost use Rattle.mc_igmp.specs.ListSoFar.{AreAhead, WithoutLineFeed, line_after, read_on};
 ghost use Rattle.mc_igmp.specs.ListSoFar.{no_list, without_records, list_if};
 
+use crate::digits::write_ahead;
 use crate::fault::{ListFault, ListFaultKind};
 use crate::list::{ListRecords, ReportList};
 use mc_text::{Line, MAX_TEXT, Memory, first_place_of};
@@ -25,6 +28,16 @@ fn whole_line<'a>(begun: &'a mut Vec<u8>, bytes: &'a [u8]) -> Result<&'a [u8], A
     Ok(begun.as_slice())
 }
 
+/// The place of the first line feed, where so many digits stand before it.
+fn line_feed_after(digits: usize, text: &[u8]) -> Option<usize>
+    requires within { digits ≤ length text.now }
+    requires digits { list_all is_hex_digit (take digits text.now) ≡ true }
+    ensures { result ≡ position (λ b. b == 10) text.now }
+{
+    let place = first_place_of(b'\n', &text[digits..])?;
+    Some(digits + place)
+}
+
 /// The lines that have come.
 #[derive(Debug, Drop)]
 struct LinesRead {
@@ -36,13 +49,46 @@ struct LinesRead {
     list: ReportList,
     /// Room for the bytes of a line's message, as long as it is read.
     message: Vec<u8>,
+    /// How many of them are written before the line's end is known.
+    written: usize,
 }
 
 impl LinesRead {
+    // Writes the bytes of the digits that come next, if they begin a line.
+    fn read_ahead(&mut self, rest: &[u8])
+        ensures ahead { AreAhead rest.now self.new.message.items self.new.written }
+        ensures split { (self.new.begun.items ≡ []) ⊎ (self.new.written ≡ 0) }
+        ensures begun { self.new.begun ≡ self.old.begun }
+        ensures list { self.new.list ≡ self.old.list }
+        ensures ended { self.new.ended ≡ self.old.ended }
+    {
+        if self.begun.is_empty() {
+            self.written = write_ahead(rest, &mut self.message);
+        } else {
+            self.written = 0;
+        }
+    }
+
+    // Where the line ends, if it does. Its digits are read meanwhile, so that its end isn't looked
+    // for among them.
+    fn find_end(&mut self, rest: &[u8]) -> Option<usize>
+        ensures end { result ≡ position (λ b. b == 10) rest.now }
+        ensures ahead { IfSome result (λ end. AreAhead
+            (self.new.begun.items ++ take end rest.now) self.new.message.items self.new.written) }
+        ensures begun { self.new.begun ≡ self.old.begun }
+        ensures list { self.new.list ≡ self.old.list }
+        ensures ended { self.new.ended ≡ self.old.ended }
+    {
+        self.read_ahead(rest);
+        line_feed_after(2 * self.written, rest)
+    }
+
     // A line ends here, of the bytes that have begun it, if it is split, and of these. One that
     // isn't is read where it stands.
     fn end_line(&mut self, bytes: &[u8]) -> Result<(), ListFault>
-        requires { self.old.ended < u32.MAX }
+        requires few { self.old.ended < u32.MAX }
+        requires ahead { AreAhead
+            (self.old.begun.items ++ bytes.now) self.old.message.items self.old.written }
         ensures records { OnOk result ((records : List Record)
             × (read_line (line_after self.old.ended (self.old.begun.items ++ bytes.now)) ≡ Ok records)
             × (self.new.list ≡ self.old.list ++ records)) }
@@ -56,7 +102,7 @@ impl LinesRead {
             bytes: whole_line(&mut self.begun, bytes)?,
             ended: true,
         };
-        self.list.push_line(&line, &mut self.message)?;
+        self.list.push_line(&line, &mut self.message, self.written)?;
         self.ended += 1;
         self.begun.clear();
         Ok(())
@@ -78,7 +124,7 @@ impl LinesRead {
         ensures begun { OnOk result (WithoutLineFeed self.new.begun.items) }
     {
         let mut rest = piece;
-        'lines: while let Some(end) = first_place_of(b'\n', rest) {
+        'lines: while let Some(end) = self.find_end(rest) {
             self.end_line(&rest[..end])?;
             rest = &rest[end + 1..];
         }
@@ -130,6 +176,7 @@ impl ListReader {
                 begun: Vec::new(alloc),
                 list: ReportList::none(alloc),
                 message: Vec::new(alloc),
+                written: 0,
             },
             fault: None,
         }

@@ -3,12 +3,14 @@ use Rattle.std.specs.Prelude.{ℕ, nat_le, List, ◌++◌, Option}
 use Rattle.std.specs.Prelude.{Some, None, if◌then◌else◌, codes, decimal, flat_map}
 use Rattle.std.specs.Str.{bytes_eq}
 use Rattle.mc_tables.specs.VifTable.{VifText, no_device}
+use Rattle.mc_tables.specs.Notes.{NotesText}
 use Rattle.mc_topology.specs.declared.flow.Flow.{Flow}
 use Rattle.mc_topology.specs.Topology.{lan_name, router_name}
 use Rattle.mc_forward.specs.ListedTables.{DomainFacts}
 use Rattle.mc_explain.specs.declared.told.Told.{Told}
 use Rattle.mc_explain.specs.declared.told.Told.TheVariants.{SentOnto, Circle, TakeOut, Unplaced}
-use Rattle.mc_explain.specs.declared.told.Told.TheVariants.{LeastTtl, StoppedAt}
+use Rattle.mc_explain.specs.declared.told.Told.TheVariants.{LeastTtl, OnlyEverySource, StoppedAt}
+use Rattle.mc_explain.specs.EverySourceText.{every_source_text}
 use Rattle.mc_explain.specs.RowText.{device_text, incoming_text, row_text}
 
 -- ---- why a vif is placed on no LAN
@@ -52,35 +54,46 @@ stopped_text d router vif threshold ttl =
     ++ (codes ": the copy has ttl " ++ (decimal ttl
     ++ (codes ", and is sent only above threshold " ++ (decimal threshold ++ codes "\n")))))))
 
+-- where a copy met a row for every source, by what is noted of the routers' caches
+abbrev pub only_every_source_text : DomainFacts → List NotesText → Flow → (router vif : ℕ) → List ℕ
+only_every_source_text d notes f router vif =
+    codes "  a copy comes in at " ++ (device_text d router vif
+    ++ (codes " of " ++ (router_name d.topology router
+    ++ (codes ", which has no resolved row of this source and group, only one for every source: "
+    ++ (every_source_text d notes f.group router
+    ++ codes "\n  this may be healthy: mcaudit judges source trees alone\n")))))
+
 -- the lines of one thing that is told of a flow, with its number
-abbrev pub told_text : DomainFacts → (number : ℕ) → Flow → Told → List ℕ
-told_text d number f (SentOnto lan router vif) =
+abbrev pub told_text : DomainFacts → List NotesText → (number : ℕ) → Flow → Told → List ℕ
+told_text d notes number f (SentOnto lan router vif) =
     codes "  sent onto " ++ (lan_name d.topology lan
     ++ (codes " by " ++ (router_name d.topology router
     ++ (codes " at " ++ (device_text d router vif
     ++ (codes ": " ++ (row_text d f router ((d.nets number).row router) ++ codes "\n")))))))
-told_text d number f (Circle from onto router vif) =
+told_text d notes number f (Circle from onto router vif) =
     codes "  " ++ (lan_name d.topology from
     ++ (codes " to " ++ (lan_name d.topology onto
     ++ (codes " by " ++ (router_name d.topology router
     ++ (codes " from " ++ (incoming_text d router ((d.nets number).row router)
     ++ (codes " to " ++ (device_text d router vif
     ++ (codes ": " ++ (row_text d f router ((d.nets number).row router) ++ codes "\n")))))))))))
-told_text d number f (TakeOut lan router vif least) =
+told_text d notes number f (TakeOut lan router vif least) =
     codes "  one way to end it: take " ++ (device_text d router vif
     ++ (codes " out of this row of " ++ (router_name d.topology router
     ++ (codes "; " ++ (cost_text d f lan least ++ codes "\n  audit again after each change\n")))))
-told_text d number f (Unplaced router vif) =
+told_text d notes number f (Unplaced router vif) =
     codes "  " ++ (device_text d router vif
     ++ (codes " of " ++ (router_name d.topology router
     ++ (codes " " ++ (unplaced_text d router (d.vifs router vif)
     ++ (codes "\n  " ++ (row_text d f router ((d.nets number).row router) ++ codes "\n")))))))
-told_text d number f (LeastTtl lan least) =
+told_text d notes number f (LeastTtl lan least) =
     codes "  " ++ (lan_name d.topology lan
     ++ (codes " is reached by packets sent with ttl " ++ (decimal least
     ++ (codes " or more; this flow is listed with ttl " ++ (decimal f.ttl ++ codes "\n")))))
-told_text d number f (StoppedAt router vif threshold ttl) = stopped_text d router vif threshold ttl
+told_text d notes number f (OnlyEverySource router vif) =
+    only_every_source_text d notes f router vif
+told_text d notes number f (StoppedAt router vif threshold ttl) = stopped_text d router vif threshold ttl
 
 -- the lines of all that is told of a flow, in order
-abbrev pub told_lines : DomainFacts → (number : ℕ) → Flow → List Told → List ℕ
-told_lines d number f told = flat_map (told_text d number f) told
+abbrev pub told_lines : DomainFacts → List NotesText → (number : ℕ) → Flow → List Told → List ℕ
+told_lines d notes number f told = flat_map (told_text d notes number f) told

@@ -1,5 +1,6 @@
 pub mod Explained
 pub mod RowText
+pub mod EverySourceText
 pub mod ExplanationText
 pub mod LanStart
 pub mod WantedText
@@ -10,6 +11,7 @@ pub mod Numbered
 pub mod Searched
 pub mod Looking
 pub mod SearchReach
+pub use Rattle.mc_tables.specs.Notes
 pub use Rattle.mc_theory.specs.Nets
 pub use Rattle.mc_theory.specs.Flights
 pub use Rattle.mc_theory.specs.Findings

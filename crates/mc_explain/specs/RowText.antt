@@ -56,13 +56,22 @@ abbrev pub pairs_text : DomainFacts → (router : ℕ) → List (ℕ × ℕ) →
 pairs_text d router [] = codes " none"
 pairs_text d router (p ∷ ps) = flat_map (pair_text d router) (p ∷ ps)
 
--- a router's row for a flow, as `row (10.0.0.5,239.1.2.3) from eth0 to eth1 eth2:5 in cache-r1`
-abbrev pub row_text : DomainFacts → Flow → (router : ℕ) → Row → List ℕ
-row_text d f router (Exact incoming pairs) =
-    codes "row (" ++ (dotted f.source ++ (codes "," ++ (dotted f.group
+-- a row's source or its group; 0.0.0.0 stands for every one
+abbrev pub address_text : ℕ → List ℕ
+address_text address = if address == 0 then codes "*" else dotted address
+
+-- a row, as `row (10.0.0.5,239.1.2.3) from eth0 to eth1 eth2:5 in cache-r1`
+abbrev pub entry_text : DomainFacts → (router source group incoming : ℕ) → List (ℕ × ℕ) → List ℕ
+entry_text d router source group incoming pairs =
+    codes "row (" ++ (address_text source ++ (codes "," ++ (address_text group
     ++ (codes ") from " ++ (device_text d router incoming
     ++ (codes " to" ++ (pairs_text d router pairs
     ++ (codes " in cache-" ++ router_name d.topology router))))))))
+
+-- a router's row for a flow
+abbrev pub row_text : DomainFacts → Flow → (router : ℕ) → Row → List ℕ
+row_text d f router (Exact incoming pairs) =
+    entry_text d router f.source f.group incoming pairs
 row_text d f router Open = []
 row_text d f router NoRow = []
 

@@ -2,12 +2,12 @@
 -- have an interface on it, and which LANs are looked at after it.
 use Rattle.std.specs.Prelude.{◌==◌, ◌||◌, ℕ, zero, suc, not, Bool, false, List, [], ◌∷◌}
 use Rattle.std.specs.Prelude.{◌++◌, length, flat_map, Option, Some, None, is_some, slice_get}
-use Rattle.std.specs.Prelude.{if◌then◌else◌, option_and_then, option_map, unwrap_or}
+use Rattle.std.specs.Prelude.{if◌then◌else◌, option_map, unwrap_or}
 use Rattle.std.specs.List.{filter_map, list_any}
 use Rattle.std.specs.FinSet as set
 use Rattle.mc_tables.specs.VifTable.{VifText}
 use Rattle.mc_tables.specs.CacheTable.{EntryText}
-use Rattle.mc_tables.specs.Notes.{NotesText, every_source_row}
+use Rattle.mc_tables.specs.Notes.{NotesText}
 use Rattle.mc_topology.specs.Topology.{flow_key}
 use Rattle.mc_theory.specs.Nets.{Net, Row, is_lan}
 use Rattle.mc_theory.specs.Nets.Row.{Exact, Open, NoRow as no_row}
@@ -23,6 +23,7 @@ use Rattle.mc_explain.specs.declared.searched.Searched.TheVariants.{Stopped, Wai
 use Rattle.mc_explain.specs.declared.searched.Searched.TheVariants.{ExpectedFromHere, NoRouter}
 use Rattle.mc_explain.specs.declared.searched.Searched.TheVariants.{NoSender}
 use Rattle.mc_explain.specs.declared.listed_interface.ListedInterface.{ListedInterface}
+use Rattle.mc_explain.specs.EverySourceText.{every_source_of}
 use Rattle.mc_explain.specs.TopologyLans.{on_lan}
 
 -- ---- what is searched
@@ -55,8 +56,7 @@ is_unresolved s router = unresolved_by (slice_get s.notes router) (key s)
 
 -- a router's row for every source, with the group that it has
 abbrev pub row_for_every_source : Search → (router : ℕ) → Option (ℕ × EntryText)
-row_for_every_source s router =
-    option_and_then (λ notes. every_source_row notes (key s).1) (slice_get s.notes router)
+row_for_every_source s router = every_source_of s.notes (key s).1 router
 
 -- ---- a router's row
 

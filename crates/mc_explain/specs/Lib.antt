@@ -2,6 +2,7 @@ pub mod Explained
 pub mod RowText
 pub mod EverySourceText
 pub mod ExplanationText
+pub mod Indented
 pub mod LanStart
 pub mod WantedText
 pub mod LastFlights

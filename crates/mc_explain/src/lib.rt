@@ -10,6 +10,7 @@ mod hop;
 mod interfaces_of_lans;
 mod lan_start;
 mod laws;
+mod line_laws;
 mod listed_interface;
 mod looking;
 mod met;
@@ -33,6 +34,7 @@ pub use laws::{
     the_ttl_that_is_told_is_the_least, what_is_told_is_determined,
     what_is_told_to_be_taken_out_can_be_spared,
 };
+pub use line_laws::explanations_begin_with_two_spaces;
 pub use reach::Reach;
 pub use search_laws::a_search_ends;
 pub use searched::Searched;

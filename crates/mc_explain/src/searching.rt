@@ -115,10 +115,10 @@ fn search_all(
     Ok(LanSearch { lines, reach })
 }
 
-/// Searches why a LAN carried no copy in a flight of a flow's packet with these events, by what is noted of each
-/// router's cache, the first router's first, and by the interfaces of the domain's LANs. It takes time
-/// in proportion to the LANs, the copies, the interfaces of the LANs that are looked at, and for each of
-/// those its row.
+/// Searches why a LAN carried no copy in a flight of a flow's packet with these events, by what is
+/// noted of each router's cache, the first router's first, and by the interfaces of the domain's LANs.
+/// It takes time in proportion to the LANs, the copies, the interfaces of the LANs that are looked at,
+/// and for each of those its row.
 ///
 /// # Errors
 ///

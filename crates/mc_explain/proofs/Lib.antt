@@ -1,4 +1,7 @@
 pub mod DeviceLemmas
+pub mod FeedLemmas
+pub mod IndentedLemmas
+pub mod ExplanationLemmas
 pub mod LanStartLemmas
 pub mod ToldLemmas
 pub mod BackLemmas

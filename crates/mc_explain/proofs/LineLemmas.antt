@@ -33,15 +33,15 @@ use Rattle.mc_maker.specs.declared.flown.Flown.{Flown}
 use Rattle.mc_maker.specs.declared.flown.Flown.TheVariants.{Certified, AtGreatest, AtLeast}
 use Rattle.mc_explain.specs.declared.told.Told.{Told}
 use Rattle.mc_explain.specs.declared.told.Told.TheVariants.{SentOnto, Circle, TakeOut, Unplaced}
-use Rattle.mc_explain.specs.declared.told.Told.TheVariants.{LeastTtl, StoppedAt}
+use Rattle.mc_explain.specs.declared.told.Told.TheVariants.{LeastTtl, OnlyEverySource, StoppedAt}
 use Rattle.mc_explain.specs.Explained.{ExplainsAtLeast, ExplainsDuplicate, ExplainsFinding}
 use Rattle.mc_explain.specs.Explained.{ExplainsLeastTtl, ExplainsLoop, IsExplained, IsToldToTakeOut}
 use Rattle.mc_explain.specs.Explained.{circle_line, sent_onto, stray_told}
 use Rattle.mc_explain.specs.LastFlights.{EndsTravel}
 use Rattle.mc_explain.specs.ToldFacts.{IsTold, LeadsOut, SendsOnto, StaysReached, StopsOnTheWay}
-use Rattle.mc_explain.specs.ToldFacts.{GoesAround, found}
+use Rattle.mc_explain.specs.ToldFacts.{GoesAround, MeetsEverySource, found}
 use Rattle.mc_explain.proofs.EndsLemmas.{ends-at, ends-least, last, net-in, shown-last}
-use Rattle.mc_explain.proofs.StrayLemmas.{all-left, left-exact}
+use Rattle.mc_explain.proofs.StrayLemmas.{LeftBy, all-left, left-exact, left-open}
 
 -- ---- what is so of a line, by what it tells
 
@@ -71,6 +71,7 @@ LineIs n told (Circle from onto router vif) =
     (h : Hop) × IsHop n h × (circle_line h ≡ Circle from onto router vif)
 LineIs n told (TakeOut lan router vif least) = Spared n router vif lan least
 LineIs n told (Unplaced router vif) = LeadsOut n router vif
+LineIs n told (OnlyEverySource router vif) = MeetsEverySource n router vif
 LineIs n told (LeastTtl lan least) = Least n lan least
 LineIs n told (StoppedAt router vif threshold left) = Stops n told router vif threshold left
 
@@ -198,13 +199,13 @@ lines-loop f lan j told ok e l =
 
 -- ---- a stray
 
-lines-row : (n : Net) (told : List Told) (row : Row) (router vif : ℕ) →
-    ((incoming : ℕ) (pairs : List (ℕ × ℕ)) → row ≡ Exact incoming pairs → LeadsOut n router vif) →
-    AllLines n told (stray_told row router vif)
-lines-row n told (Exact incoming pairs) router vif out =
-    line-one n told (Unplaced router vif) (out incoming pairs refl)
-lines-row n told Open router vif out = λ t h. absurd h
-lines-row n told NoRow router vif out = λ t h. absurd h
+lines-row : (n : Net) (told : List Told) (row : Row) (router vif : ℕ) → n.row router ≡ row →
+    LeftBy n (router, vif) → AllLines n told (stray_told row router vif)
+lines-row n told (Exact incoming pairs) router vif e left =
+    line-one n told (Unplaced router vif) (left-exact n (router, vif) incoming pairs e left)
+lines-row n told Open router vif e left =
+    line-one n told (OnlyEverySource router vif) (left-open n (router, vif) e left)
+lines-row n told NoRow router vif e left = λ t h. absurd h
 
 lines-stray : (f : FlowIn) (router vif : ℕ) (j : Journey) (told : List Told) → IsFlowIn f →
     EndsTravel f 255 (Stray router vif) j →
@@ -214,8 +215,7 @@ lines-stray f router vif j told ok e is =
     let strays = (shown-last f 255 (Stray router vif) j ok e).1 in
     let left = all-left n 255 (handles e.picks) (router, vif)
     (subst (λ (is : List Interface). In (router, vif) is) (sym strays.1) (inl refl)) in
-    subst (AllLines n told) (sym is) (lines-row n told (n.row router) router vif
-    (λ incoming pairs row. left-exact n (router, vif) incoming pairs row left))
+    subst (AllLines n told) (sym is) (lines-row n told (n.row router) router vif refl left)
 
 -- ---- a least TTL
 

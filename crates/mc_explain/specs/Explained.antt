@@ -13,7 +13,7 @@ use Rattle.mc_maker.specs.declared.flown.Flown.{Flown}
 use Rattle.mc_maker.specs.declared.flown.Flown.TheVariants.{Certified, AtGreatest, AtLeast}
 use Rattle.mc_explain.specs.declared.told.Told.{Told}
 use Rattle.mc_explain.specs.declared.told.Told.TheVariants.{SentOnto, Circle, TakeOut, Unplaced}
-use Rattle.mc_explain.specs.declared.told.Told.TheVariants.{LeastTtl, StoppedAt}
+use Rattle.mc_explain.specs.declared.told.Told.TheVariants.{LeastTtl, OnlyEverySource, StoppedAt}
 
 -- ---- two copies of a LAN
 
@@ -55,10 +55,10 @@ pub record ExplainsLoop (n : Net) (f : Flight) (lan : ℕ) (told : List Told) : 
 
 -- ---- a way out of the known domain
 
--- The router's row sent a copy by the vif. (Of a row for every source nothing is told.)
+-- The router's row sent a copy by the vif, or one came in by it and met a row for every source alone.
 abbrev pub stray_told : Row → (router vif : ℕ) → List Told
 stray_told (Exact incoming pairs) router vif = Unplaced router vif ∷ []
-stray_told Open router vif = []
+stray_told Open router vif = OnlyEverySource router vif ∷ []
 stray_told NoRow router vif = []
 
 -- ---- a LAN that is missed at the flow's TTL alone

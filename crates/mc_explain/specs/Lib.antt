@@ -1,5 +1,8 @@
 pub mod Explained
+pub mod RowText
+pub mod EverySourceText
 pub mod ExplanationText
+pub mod Indented
 pub mod LanStart
 pub mod WantedText
 pub mod LastFlights
@@ -9,10 +12,12 @@ pub mod Numbered
 pub mod Searched
 pub mod Looking
 pub mod SearchReach
+pub use Rattle.mc_tables.specs.Notes
 pub use Rattle.mc_theory.specs.Nets
 pub use Rattle.mc_theory.specs.Flights
 pub use Rattle.mc_theory.specs.Findings
 pub use Rattle.mc_theory.specs.Ways
 pub use Rattle.mc_forward.specs.Domains
+pub use Rattle.mc_forward.specs.ListedTables
 pub use Rattle.mc_replay.specs.FindingValues
 pub use Rattle.mc_maker.specs.Flown

@@ -2,19 +2,19 @@
 -- have an interface on it, and which LANs are looked at after it.
 use Rattle.std.specs.Prelude.{◌==◌, ◌||◌, ℕ, zero, suc, not, Bool, false, List, [], ◌∷◌}
 use Rattle.std.specs.Prelude.{◌++◌, length, flat_map, Option, Some, None, is_some, slice_get}
-use Rattle.std.specs.Prelude.{if◌then◌else◌, option_and_then, option_map, unwrap_or}
+use Rattle.std.specs.Prelude.{if◌then◌else◌, option_map, unwrap_or}
 use Rattle.std.specs.List.{filter_map, list_any}
 use Rattle.std.specs.FinSet as set
 use Rattle.mc_tables.specs.VifTable.{VifText}
 use Rattle.mc_tables.specs.CacheTable.{EntryText}
-use Rattle.mc_tables.specs.Notes.{NotesText, every_source_row}
+use Rattle.mc_tables.specs.Notes.{NotesText}
 use Rattle.mc_topology.specs.Topology.{flow_key}
 use Rattle.mc_theory.specs.Nets.{Net, Row, is_lan}
 use Rattle.mc_theory.specs.Nets.Row.{Exact, Open, NoRow as no_row}
 use Rattle.mc_theory.specs.Flights.{Copy}
 use Rattle.mc_theory.specs.Findings.{taken_from}
 use Rattle.mc_theory.specs.Made.{pairs_of, threshold_of}
-use Rattle.mc_forward.specs.Domains.{DomainValue, net_of, vif_of}
+use Rattle.mc_forward.specs.ListedTables.{DomainFacts}
 use Rattle.mc_explain.specs.declared.searched.Searched.{Searched}
 use Rattle.mc_explain.specs.declared.searched.Searched.TheVariants.{NoVif, NotMulticast, NoRow}
 use Rattle.mc_explain.specs.declared.searched.Searched.TheVariants.{Unresolved, EverySource}
@@ -23,19 +23,20 @@ use Rattle.mc_explain.specs.declared.searched.Searched.TheVariants.{Stopped, Wai
 use Rattle.mc_explain.specs.declared.searched.Searched.TheVariants.{ExpectedFromHere, NoRouter}
 use Rattle.mc_explain.specs.declared.searched.Searched.TheVariants.{NoSender}
 use Rattle.mc_explain.specs.declared.listed_interface.ListedInterface.{ListedInterface}
+use Rattle.mc_explain.specs.EverySourceText.{every_source_of}
 use Rattle.mc_explain.specs.TopologyLans.{on_lan}
 
 -- ---- what is searched
 
 -- a flow of a domain, what is noted of each router's cache, and the first copy on each LAN
 pub record Search : Type 0 where
-  pub domain : DomainValue
+  pub domain : DomainFacts
   pub flow : ℕ
   pub notes : List NotesText
   pub copy_on : ℕ → Option Copy
 
 abbrev pub net : Search → Net
-net s = net_of s.domain s.flow
+net s = s.domain.nets s.flow
 
 -- whether a LAN carried a copy
 abbrev pub carried : Search → (lan : ℕ) → Bool
@@ -55,8 +56,7 @@ is_unresolved s router = unresolved_by (slice_get s.notes router) (key s)
 
 -- a router's row for every source, with the group that it has
 abbrev pub row_for_every_source : Search → (router : ℕ) → Option (ℕ × EntryText)
-row_for_every_source s router =
-    option_and_then (λ notes. every_source_row notes (key s).1) (slice_get s.notes router)
+row_for_every_source s router = every_source_of s.notes (key s).1 router
 
 -- ---- a router's row
 
@@ -108,7 +108,7 @@ is_virtual (Some vif) = vif.tunnel || vif.register
 abbrev pub device_lines : Search → (lan : ℕ) → ListedInterface → Option ℕ → List Searched
 device_lines s lan i None = NoVif lan i.router i.interface ∷ []
 device_lines s lan i (Some vif) =
-    if is_virtual (vif_of s.domain.tables i.router vif)
+    if is_virtual (s.domain.vifs i.router vif)
     then NotMulticast lan i.router i.interface ∷ []
     else []
 

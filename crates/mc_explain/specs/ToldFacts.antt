@@ -2,12 +2,12 @@
 use Rattle.std.specs.Prelude.{◌≡◌, ℕ, ◌<◌, List, [], ◌∷◌, ◌++◌, map, reverse, length, Some, None}
 use Rattle.mc_theory.specs.Lists.{In}
 use Rattle.mc_theory.specs.Nets.{Net, Interface}
-use Rattle.mc_theory.specs.Nets.Row.{Exact}
+use Rattle.mc_theory.specs.Nets.Row.{Exact, Open}
 use Rattle.mc_theory.specs.Flights.{Pick, InRange, IsLossless, run, start}
 use Rattle.mc_theory.specs.Certificates.{lans}
 use Rattle.mc_theory.specs.Findings.{Finding}
 use Rattle.mc_theory.specs.Findings.Finding.{Clean}
-use Rattle.mc_theory.specs.Ways.{Hop, IsHop, IsWay, IsStopped, need}
+use Rattle.mc_theory.specs.Ways.{Hop, IsHop, IsReached, IsWay, IsStopped, need}
 use Rattle.mc_theory.specs.Ways.{take_out}
 use Rattle.mc_forward.specs.Domains.{DomainValue, IsDomain}
 use Rattle.mc_replay.specs.FindingValues.{finding_value}
@@ -50,6 +50,14 @@ pub record LeadsOut (n : Net) (router vif : ℕ) : Type 0 where
   pub threshold : ℕ
   pub has : HasPair n router vif threshold
   pub unplaced : n.placed router vif ≡ None
+
+-- The router has no row of the flow's source and group but one for every source, and the vif is
+-- placed on a LAN that the flow's packets reach, the time to live aside.
+pub record MeetsEverySource (n : Net) (router vif : ℕ) : Type 0 where
+  pub row : n.row router ≡ Open
+  pub lan : ℕ
+  pub placed : n.placed router vif ≡ Some lan
+  pub reached : IsReached n lan
 
 -- ---- a circle
 

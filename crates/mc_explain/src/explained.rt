@@ -132,14 +132,17 @@ fn around(
     Ok(told)
 }
 
-/// What is told of a copy that left the known domain by a router's vif.
+/// What is told of a copy that left the known domain by a router's vif, or met a row there that isn't
+/// followed.
 fn stray(alloc: Global, view: &FlowView<'_>, router: RouterNo, vif: u8) -> Result<Vec<Told>, Memory>
     ensures { IfOk result (λ told. told.items
         ≡ stray_told ((net_in view.now).row router) router vif) }
 {
     let mut told = Vec::new(alloc);
-    if let RowFor::Exact(_) = view.row(router) {
-        told.push(Told::Unplaced { router, vif })?;
+    match view.row(router) {
+        RowFor::Exact(_) => told.push(Told::Unplaced { router, vif })?,
+        RowFor::Open => told.push(Told::OnlyEverySource { router, vif })?,
+        RowFor::NoRow => {}
     }
     Ok(told)
 }

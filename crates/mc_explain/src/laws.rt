@@ -14,10 +14,12 @@ ghost use Rattle.mc_maker.specs.declared.flown.Flown.{Flown};
 ghost use Rattle.mc_maker.specs.declared.flown.Flown.TheVariants.{AtLeast};
 ghost use Rattle.mc_explain.specs.declared.told.Told.{Told};
 ghost use Rattle.mc_explain.specs.declared.told.Told.TheVariants.{SentOnto, Circle, TakeOut};
-ghost use Rattle.mc_explain.specs.declared.told.Told.TheVariants.{Unplaced, LeastTtl, StoppedAt};
+ghost use Rattle.mc_explain.specs.declared.told.Told.TheVariants.{Unplaced, LeastTtl, OnlyEverySource};
+ghost use Rattle.mc_explain.specs.declared.told.Told.TheVariants.{StoppedAt};
 ghost use Rattle.mc_explain.specs.Explained.{IsExplained, circle_line};
 ghost use Rattle.mc_explain.specs.ToldFacts.{CarriesAsMuch, GoesAround, IsTold, LeadsOut};
-ghost use Rattle.mc_explain.specs.ToldFacts.{SendsOnto, StaysReached, StopsOnTheWay, found};
+ghost use Rattle.mc_explain.specs.ToldFacts.{MeetsEverySource, SendsOnto, StaysReached};
+ghost use Rattle.mc_explain.specs.ToldFacts.{StopsOnTheWay, found};
 
 /// The row of a sender that is told is exact, and has the vif among its pairs, which is placed on
 /// the LAN.
@@ -77,6 +79,14 @@ pub fn a_vif_that_is_told_unplaced_leads_out()
     ensures { (d : DomainValue) (flow : ℕ) (flown : Flown) (told : List Told) (router vif : ℕ) →
         IsTold d flow flown told → In (Unplaced router vif) told →
         LeadsOut (net_of d flow) router vif }
+{}
+
+/// Where a row for every source is told, the router has no other one of the flow, and the vif is placed
+/// on a LAN that the flow's packets reach.
+pub fn a_row_for_every_source_that_is_told_is_met()
+    ensures { (d : DomainValue) (flow : ℕ) (flown : Flown) (told : List Told) (router vif : ℕ) →
+        IsTold d flow flown told → In (OnlyEverySource router vif) told →
+        MeetsEverySource (net_of d flow) router vif }
 {}
 
 /// The LAN is reached by packets with the TTL that is told or more, and by none with less. The

@@ -3,12 +3,14 @@
 #![tactic(auto)]
 
 mod device_text;
+mod every_source_row;
 mod explained;
 mod firsts;
 mod hop;
 mod interfaces_of_lans;
 mod lan_start;
 mod laws;
+mod line_laws;
 mod listed_interface;
 mod looking;
 mod met;
@@ -26,11 +28,13 @@ mod way;
 pub use explained::explain;
 pub use interfaces_of_lans::InterfacesOfLans;
 pub use laws::{
-    a_circle_that_is_told_is_closed, a_sender_that_is_told_has_such_a_row,
-    a_stop_that_is_told_stops_the_packet, a_vif_that_is_told_unplaced_leads_out,
-    at_the_flows_ttl_a_lan_is_missed, the_ttl_that_is_told_is_the_least,
-    what_is_told_is_determined, what_is_told_to_be_taken_out_can_be_spared,
+    a_circle_that_is_told_is_closed, a_row_for_every_source_that_is_told_is_met,
+    a_sender_that_is_told_has_such_a_row, a_stop_that_is_told_stops_the_packet,
+    a_vif_that_is_told_unplaced_leads_out, at_the_flows_ttl_a_lan_is_missed,
+    the_ttl_that_is_told_is_the_least, what_is_told_is_determined,
+    what_is_told_to_be_taken_out_can_be_spared,
 };
+pub use line_laws::explanations_begin_with_two_spaces;
 pub use reach::Reach;
 pub use search_laws::a_search_ends;
 pub use searched::Searched;

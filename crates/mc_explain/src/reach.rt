@@ -1,7 +1,7 @@
 //! What a search comes to: which of its routers sent copies on, and which took none.
 
-ghost use Rattle.std.specs.Prelude.{◌≡◌, ◌<◌, ◌≤◌, ◌||◌, ◌∷◌, ℕ, [], All, IfOk, OnOk, false, filter, length, map};
-ghost use Rattle.std.specs.Prelude.{◌&&◌, Bool, not, slice_index_or, true};
+ghost use Rattle.std.specs.Prelude.{◌≡◌, ◌<◌, ◌≤◌, ◌||◌, ◌∷◌, ℕ, [], All, IfOk, OnOk, false, filter};
+ghost use Rattle.std.specs.Prelude.{◌&&◌, Bool, length, map, not, slice_index_or, true};
 ghost use Rattle.mc_forward.specs.Outcomes.{outcome_seen};
 ghost use Rattle.mc_explain.specs.Looking.{IsLooking, search_in};
 ghost use Rattle.mc_explain.specs.Numbered.{AreListed, AreMarksOf};

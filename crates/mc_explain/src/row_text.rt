@@ -1,12 +1,16 @@
 //! A router's row as it is written.
 
 ghost use Rattle.std.specs.Prelude.{◌≡◌, Some};
-ghost use Rattle.mc_forward.specs.Domains.{pairs_of, row_of};
-ghost use Rattle.mc_explain.specs.ExplanationText.{incoming_text, pair_text, pairs_text, row_text};
+ghost use Rattle.mc_forward.specs.Domains.{pairs_of};
+ghost use Rattle.mc_forward.specs.Journeys.{net_in};
+ghost use Rattle.mc_forward.specs.ListedTables.{facts};
+ghost use Rattle.mc_explain.specs.RowText.{address_text, entry_text, incoming_text};
+ghost use Rattle.mc_explain.specs.RowText.{pair_text, pairs_text, row_text};
 
 use crate::device_text::ShownDevice;
 use mc_forward::{FlowView, RowFor};
 use mc_tables::Oif;
+use mc_text::Addr;
 use mc_topology::{Flow, RouterNo};
 use std::fmt;
 
@@ -19,7 +23,7 @@ struct ShownOif<'v> {
 }
 
 impl<'v> fmt::Display for ShownOif<'v> {
-    ghost output = { λ shown. Some (pair_text shown.view.now.domain shown.router
+    ghost output = { λ shown. Some (pair_text (facts shown.view.now.domain) shown.router
         (shown.oif.vif, shown.oif.threshold)) };
 
     fn fmt<W: fmt::Write>(&self, f: &mut fmt::Formatter<W>) -> fmt::Result {
@@ -46,7 +50,7 @@ struct ShownOifs<'v> {
 }
 
 impl<'v> fmt::Display for ShownOifs<'v> {
-    ghost output = { λ shown. Some (pairs_text shown.view.now.domain shown.router
+    ghost output = { λ shown. Some (pairs_text (facts shown.view.now.domain) shown.router
         (pairs_of shown.oifs.now)) };
 
     fn fmt<W: fmt::Write>(&self, f: &mut fmt::Formatter<W>) -> fmt::Result {
@@ -65,8 +69,64 @@ impl<'v> fmt::Display for ShownOifs<'v> {
     }
 }
 
-/// A router's row for a flow, as `row (10.0.0.5,239.1.2.3) from eth0 to eth1 eth2:5 in cache-r1`.
-/// Nothing is written of a row for every source, and where there is none.
+/// A row's source or its group. The address 0.0.0.0 stands for every one, and is written `*`.
+#[derive(Clone, Copy, Drop)]
+struct ShownAddress {
+    address: Addr,
+}
+
+impl fmt::Display for ShownAddress {
+    ghost output = { λ shown. Some (address_text shown.address) };
+
+    fn fmt<W: fmt::Write>(&self, f: &mut fmt::Formatter<W>) -> fmt::Result {
+        let address = self.address;
+        if address == Addr::from_octets([0, 0, 0, 0]) {
+            f.write_str("*")
+        } else {
+            write!(f, "{address}")
+        }
+    }
+}
+
+/// A row, as `row (10.0.0.5,239.1.2.3) from eth0 to eth1 eth2:5 in cache-r1`.
+#[derive(Clone, Copy, Drop)]
+pub(crate) struct ShownEntry<'v> {
+    /// A flow of the domain.
+    pub(crate) view: &'v FlowView<'v>,
+    /// The row's router.
+    pub(crate) router: RouterNo,
+    /// Its source.
+    pub(crate) source: Addr,
+    /// Its group.
+    pub(crate) group: Addr,
+    /// Its incoming vif.
+    pub(crate) incoming: u8,
+    /// Its outgoing vifs.
+    pub(crate) oifs: &'v [Oif],
+}
+
+impl<'v> fmt::Display for ShownEntry<'v> {
+    ghost output = { λ shown. Some (entry_text (facts shown.view.now.domain) shown.router
+        shown.source shown.group shown.incoming (pairs_of shown.oifs.now)) };
+
+    fn fmt<W: fmt::Write>(&self, f: &mut fmt::Formatter<W>) -> fmt::Result {
+        let (view, router, oifs) = (self.view, self.router, self.oifs);
+        let vif = self.incoming;
+        let incoming = ShownDevice { view, router, vif };
+        let outgoing = ShownOifs { view, router, oifs };
+        let name = view.topology().router_name_or_empty(router);
+        let address = self.source;
+        let source = ShownAddress { address };
+        let address = self.group;
+        let group = ShownAddress { address };
+        write!(
+            f,
+            "row ({source},{group}) from {incoming} to{outgoing} in cache-{name}"
+        )
+    }
+}
+
+/// A router's row for a flow. Nothing is written of a row for every source, and where there is none.
 #[derive(Clone, Copy, Drop)]
 pub(crate) struct ShownRow<'v> {
     /// The flow.
@@ -78,23 +138,22 @@ pub(crate) struct ShownRow<'v> {
 }
 
 impl<'v> fmt::Display for ShownRow<'v> {
-    ghost output = { λ shown. Some (row_text shown.view.now.domain shown.flow.now shown.router
-        (row_of shown.view.now.domain shown.view.now.flow shown.router)) };
+    ghost output = { λ shown. Some (row_text (facts shown.view.now.domain) shown.flow.now shown.router
+        ((net_in shown.view.now).row shown.router)) };
 
     fn fmt<W: fmt::Write>(&self, f: &mut fmt::Formatter<W>) -> fmt::Result {
         let (view, flow, router) = (self.view, self.flow, self.router);
         match view.row(router) {
             RowFor::Exact(entry) => {
-                let vif = entry.iif;
-                let incoming = ShownDevice { view, router, vif };
-                let oifs = entry.oifs;
-                let outgoing = ShownOifs { view, router, oifs };
-                let name = view.topology().router_name_or_empty(router);
-                let Flow { source, group, .. } = flow;
-                write!(
-                    f,
-                    "row ({source},{group}) from {incoming} to{outgoing} in cache-{name}"
-                )
+                let row = ShownEntry {
+                    view,
+                    router,
+                    source: flow.source,
+                    group: flow.group,
+                    incoming: entry.iif,
+                    oifs: entry.oifs,
+                };
+                write!(f, "{row}")
             }
             RowFor::Open | RowFor::NoRow => Ok(()),
         }
@@ -112,8 +171,8 @@ pub(crate) struct ShownIncoming<'v> {
 }
 
 impl<'v> fmt::Display for ShownIncoming<'v> {
-    ghost output = { λ shown. Some (incoming_text shown.view.now.domain shown.router
-        (row_of shown.view.now.domain shown.view.now.flow shown.router)) };
+    ghost output = { λ shown. Some (incoming_text (facts shown.view.now.domain) shown.router
+        ((net_in shown.view.now).row shown.router)) };
 
     fn fmt<W: fmt::Write>(&self, f: &mut fmt::Formatter<W>) -> fmt::Result {
         match self.view.row(self.router) {

@@ -45,6 +45,13 @@ pub enum Told {
         /// The vif.
         vif: u8,
     },
+    /// A copy came in by this vif of a router that has no resolved row but one for every source.
+    OnlyEverySource {
+        /// The router.
+        router: RouterNo,
+        /// The vif, 0 to 31.
+        vif: u8,
+    },
     /// The LAN is reached by packets with this TTL, and not with one less.
     LeastTtl {
         /// The LAN.

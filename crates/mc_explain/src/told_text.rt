@@ -1,19 +1,21 @@
 //! What is told of a flow's fault as it is written, line by line.
 
-ghost use Rattle.std.specs.Prelude.{◌≡◌, ◌<◌, ◌++◌, OnOk, Some, length, slice_get};
+ghost use Rattle.std.specs.Prelude.{◌≡◌, ◌<◌, ◌++◌, [], OnOk, Some, length, slice_get};
 ghost use Rattle.std.specs.String.{string_bytes};
 ghost use Rattle.mc_topology.specs.declared.flow.Flow.{Flow};
 ghost use Rattle.mc_forward.specs.Domains.{vif_of};
+ghost use Rattle.mc_forward.specs.ListedTables.{facts};
 ghost use Rattle.mc_explain.specs.ExplanationText.{cost_text, reason_text, told_lines, told_text};
-ghost use Rattle.mc_explain.specs.ExplanationText.{stopped_text, unplaced_text};
+ghost use Rattle.mc_explain.specs.ExplanationText.{only_every_source_text, stopped_text, unplaced_text};
 ghost use Rattle.mc_explain.specs.declared.told.Told.TheVariants.{SentOnto, Circle, TakeOut, Unplaced};
 ghost use Rattle.mc_explain.specs.declared.told.Told.TheVariants.{LeastTtl};
 
 use crate::device_text::{NO_DEVICE, ShownDevice};
+use crate::every_source_row::ShownEverySource;
 use crate::row_text::{ShownIncoming, ShownRow};
 use crate::told::Told;
 use mc_forward::{Domain, FlowView};
-use mc_tables::Vif;
+use mc_tables::{CacheNotes, Vif};
 use mc_text::Memory;
 use mc_topology::{Flow, LanNo, RouterNo};
 use std::alloc::AllocError;
@@ -44,7 +46,7 @@ struct ShownReason<'v> {
 }
 
 impl<'v> fmt::Display for ShownReason<'v> {
-    ghost output = { λ shown. Some (unplaced_text shown.view.now.domain shown.router
+    ghost output = { λ shown. Some (unplaced_text (facts shown.view.now.domain) shown.router
         (vif_of shown.view.now.domain.tables shown.router shown.vif)) };
 
     fn fmt<W: fmt::Write>(&self, f: &mut fmt::Formatter<W>) -> fmt::Result {
@@ -70,7 +72,7 @@ struct ShownCost<'v> {
 
 impl<'v> fmt::Display for ShownCost<'v> {
     ghost output = { λ shown.
-        Some (cost_text shown.view.now.domain shown.flow.now shown.lan shown.least) };
+        Some (cost_text (facts shown.view.now.domain) shown.flow.now shown.lan shown.least) };
 
     fn fmt<W: fmt::Write>(&self, f: &mut fmt::Formatter<W>) -> fmt::Result {
         let (least, ttl) = (self.least, self.flow.ttl);
@@ -96,7 +98,7 @@ fn push_sent_onto(
     vif: u8,
 ) -> Result<(), AllocError>
     ensures { OnOk result (string_bytes text.new ≡ string_bytes text.old
-        ++ told_text view.now.domain view.now.flow flow.now (SentOnto lan router vif)) }
+        ++ told_text (facts view.now.domain) [] view.now.flow flow.now (SentOnto lan router vif)) }
 {
     let device = ShownDevice { view, router, vif };
     let row = ShownRow { view, flow, router };
@@ -117,7 +119,7 @@ fn push_circle(
     vif: u8,
 ) -> Result<(), AllocError>
     ensures { OnOk result (string_bytes text.new ≡ string_bytes text.old
-        ++ told_text view.now.domain view.now.flow flow.now (Circle from onto router vif)) }
+        ++ told_text (facts view.now.domain) [] view.now.flow flow.now (Circle from onto router vif)) }
 {
     let incoming = ShownIncoming { view, router };
     let device = ShownDevice { view, router, vif };
@@ -143,7 +145,7 @@ fn push_take_out(
     least: u8,
 ) -> Result<(), AllocError>
     ensures { OnOk result (string_bytes text.new ≡ string_bytes text.old
-        ++ told_text view.now.domain view.now.flow flow.now (TakeOut lan router vif least)) }
+        ++ told_text (facts view.now.domain) [] view.now.flow flow.now (TakeOut lan router vif least)) }
 {
     let device = ShownDevice { view, router, vif };
     let cost = ShownCost {
@@ -169,7 +171,7 @@ fn push_unplaced(
     vif: u8,
 ) -> Result<(), AllocError>
     ensures { OnOk result (string_bytes text.new ≡ string_bytes text.old
-        ++ told_text view.now.domain view.now.flow flow.now (Unplaced router vif)) }
+        ++ told_text (facts view.now.domain) [] view.now.flow flow.now (Unplaced router vif)) }
 {
     let device = ShownDevice { view, router, vif };
     let reason = ShownReason { view, router, vif };
@@ -187,7 +189,7 @@ fn push_least_ttl(
     least: u8,
 ) -> Result<(), AllocError>
     ensures { OnOk result (string_bytes text.new ≡ string_bytes text.old
-        ++ told_text view.now.domain view.now.flow flow.now (LeastTtl lan least)) }
+        ++ told_text (facts view.now.domain) [] view.now.flow flow.now (LeastTtl lan least)) }
 {
     let lan = view.topology().lan_name_or_empty(lan);
     let ttl = flow.ttl;
@@ -208,7 +210,7 @@ fn push_stopped_at(
     ttl: u8,
 ) -> Result<(), AllocError>
     ensures { OnOk result (string_bytes text.new ≡ string_bytes text.old
-        ++ stopped_text view.now.domain router vif threshold ttl) }
+        ++ stopped_text (facts view.now.domain) router vif threshold ttl) }
 {
     let name = view.topology().router_name_or_empty(router);
     let view = &*view;
@@ -220,15 +222,44 @@ fn push_stopped_at(
     )
 }
 
+/// Writes by which row for every source a copy was met.
+fn push_only_every_source(
+    text: &mut String,
+    view: &FlowView<'_>,
+    notes: &[CacheNotes],
+    flow: &Flow,
+    router: RouterNo,
+    vif: u8,
+) -> Result<(), AllocError>
+    ensures { OnOk result (string_bytes text.new ≡ string_bytes text.old
+        ++ only_every_source_text (facts view.now.domain) notes.now flow.now router vif) }
+{
+    let device = ShownDevice { view, router, vif };
+    let row = ShownEverySource {
+        view,
+        notes,
+        group: flow.group,
+        router,
+    };
+    let name = view.topology().router_name_or_empty(router);
+    writeln!(
+        text,
+        "  a copy comes in at {device} of {name}, which has no resolved row of this source and \
+         group, only one for every source: {row}\n  this may be healthy: mcaudit judges source \
+         trees alone"
+    )
+}
+
 /// Writes the lines of one thing that is told.
 fn push_line(
     text: &mut String,
     view: &FlowView<'_>,
+    notes: &[CacheNotes],
     flow: &Flow,
     told: Told,
 ) -> Result<(), AllocError>
     ensures { OnOk result (string_bytes text.new ≡ string_bytes text.old
-        ++ told_text view.now.domain view.now.flow flow.now told) }
+        ++ told_text (facts view.now.domain) notes.now view.now.flow flow.now told) }
 {
     match told {
         Told::SentOnto { lan, router, vif } => push_sent_onto(text, view, flow, lan, router, vif),
@@ -245,6 +276,9 @@ fn push_line(
             least,
         } => push_take_out(text, view, flow, lan, router, vif, least),
         Told::Unplaced { router, vif } => push_unplaced(text, view, flow, router, vif),
+        Told::OnlyEverySource { router, vif } => {
+            push_only_every_source(text, view, notes, flow, router, vif)
+        }
         Told::LeastTtl { lan, least } => push_least_ttl(text, view, flow, lan, least),
         Told::StoppedAt {
             router,
@@ -259,30 +293,38 @@ fn push_line(
 fn push_lines(
     text: &mut String,
     view: &FlowView<'_>,
+    notes: &[CacheNotes],
     flow: &Flow,
     told: &[Told],
 ) -> Result<(), Memory>
     ensures { OnOk result (string_bytes text.new ≡ string_bytes text.old
-        ++ told_lines view.now.domain view.now.flow flow.now told.now) }
+        ++ told_lines (facts view.now.domain) notes.now view.now.flow flow.now told.now) }
 {
     for line in told {
-        push_line(text, view, flow, *line)?;
+        push_line(text, view, notes, flow, *line)?;
     }
     Ok(())
 }
 
 /// Writes what is told of the flow with this number, by the names of the topology and of the vif
-/// tables, a line each, and of what may be taken out two.
+/// tables, and by what is noted of each router's cache, the first router's first: a line each, and
+/// of what may be taken out, of a vif that is placed on no LAN and of a row for every source two.
 ///
 /// # Errors
 ///
 /// `Memory` where a growth was refused.
-pub fn push_told(text: &mut String, domain: &Domain, flow: u32, told: &[Told]) -> Result<(), Memory>
+pub fn push_told(
+    text: &mut String,
+    domain: &Domain,
+    notes: &[CacheNotes],
+    flow: u32,
+    told: &[Told],
+) -> Result<(), Memory>
     requires flow { flow < length domain.now.topology.flows }
     ensures lines { OnOk result ((listed : Flow) → slice_get domain.now.topology.flows flow ≡ Some listed
         → string_bytes text.new ≡ string_bytes text.old
-        ++ told_lines domain.now flow listed told.now) }
+        ++ told_lines (facts domain.now) notes.now flow listed told.now) }
 {
     let view = FlowView::new(domain, flow);
-    push_lines(text, &view, domain.topology().flow(flow), told)
+    push_lines(text, &view, notes, domain.topology().flow(flow), told)
 }

@@ -1,0 +1,54 @@
+//! A router's row for every source as it is written.
+
+ghost use Rattle.std.specs.Prelude.{◌≡◌, Some};
+ghost use Rattle.mc_forward.specs.ListedTables.{facts};
+ghost use Rattle.mc_explain.specs.EverySourceText.{every_source_text};
+
+use crate::row_text::ShownEntry;
+use mc_forward::FlowView;
+use mc_tables::CacheNotes;
+use mc_text::Addr;
+use mc_topology::RouterNo;
+use std::fmt;
+
+/// A router's row for every source, as `row (*,239.1.2.3) from eth0 to eth1 eth2:5 in cache-r1`: the
+/// first of the group, or else of the group 0.0.0.0, which is written `*`, too. Nothing is written
+/// where the notes have none.
+#[derive(Clone, Copy, Drop)]
+pub(crate) struct ShownEverySource<'v> {
+    /// A flow of the domain.
+    pub(crate) view: &'v FlowView<'v>,
+    /// What is noted of each router's cache, the first router's first.
+    pub(crate) notes: &'v [CacheNotes],
+    /// The flow's group.
+    pub(crate) group: Addr,
+    /// The router.
+    pub(crate) router: RouterNo,
+}
+
+impl<'v> fmt::Display for ShownEverySource<'v> {
+    ghost output = { λ shown. Some (every_source_text (facts shown.view.now.domain)
+        shown.notes.now shown.group shown.router) };
+
+    fn fmt<W: fmt::Write>(&self, f: &mut fmt::Formatter<W>) -> fmt::Result {
+        let (view, router) = (self.view, self.router);
+        let Some(notes) = self.notes.get(router.0 as usize) else {
+            return Ok(());
+        };
+        match notes.row_for_every_source(self.group) {
+            Some(row) => {
+                let (group, entry) = row;
+                let row = ShownEntry {
+                    view,
+                    router,
+                    source: Addr::from_octets([0, 0, 0, 0]),
+                    group,
+                    incoming: entry.iif,
+                    oifs: entry.oifs,
+                };
+                write!(f, "{row}")
+            }
+            None => Ok(()),
+        }
+    }
+}

@@ -1,5 +1,6 @@
 //! What a run is handed: a domain's texts, as the parts of one bundle or as the files of a folder,
-//! each by its reader, in the one order in which they are judged, and the domain that they mean.
+//! each by its reader, in the one order in which they are judged, and the domain that they mean; of a
+//! folder also what is noted of its caches.
 #![tactic(auto)]
 
 mod bundle;
@@ -17,10 +18,11 @@ mod slot_part;
 mod source_fault;
 mod told;
 
-pub use domain::{DomainRead, PIECE, domain_in, domain_of};
+pub use domain::{DomainRead, NotedDomain, PIECE, domain_in, noted_domain_of};
 pub use each_file::{Refusal, RefusedFile, refused_files};
 pub use fault::InputFault;
 pub use laws::{
-    files_stand_for_one_input, packed_files_stand_for_their_input, texts_stand_for_one_input,
+    files_stand_for_one_input, notes_are_determined, packed_files_stand_for_their_input,
+    texts_stand_for_one_input,
 };
 pub use source_fault::SourceFault;

@@ -1,2 +1,3 @@
+pub mod AuditWords
 pub mod Task
 pub use Rattle.mc_text.specs.Addr

@@ -2,6 +2,8 @@
 
 ghost use Rattle.std.specs.Prelude.{◌≡◌, map, is_none, true, false, IfErr, IfOk, OnOk};
 ghost use Rattle.mc_words.specs.AuditWords.{is_among, are_routers, is_option};
+ghost use Rattle.clap.specs.Matches.{found_of};
+ghost use Rattle.mc_words.specs.AuditFound.{AreFound, AreOptions};
 ghost use Rattle.mc_words.specs.Task.{IsAudit};
 ghost use Rattle.mc_words.specs.declared.fault.WordsFault.TheVariants.{Memory};
 
@@ -95,7 +97,9 @@ fn folder_of(alloc: Global, word: &str) -> Result<&str, WordsFault>
 }
 
 /// The options that are set.
-fn options_of(matches: &ArgMatches<'_>) -> AuditOptions {
+fn options_of(matches: &ArgMatches<'_>) -> AuditOptions
+    ensures { AreOptions (found_of matches.now) result }
+{
     AuditOptions {
         travels: matches.get_flag("travel"),
         faults: matches.get_flag("faults"),
@@ -111,6 +115,7 @@ pub fn audit_words_of<'a>(
     matches: &ArgMatches<'a>,
 ) -> Result<AuditWords<'a>, WordsFault>
     ensures allowed { IfOk result IsAudit }
+    ensures found { IfOk result (AreFound (found_of matches.now)) }
 {
     let folder = folder_of(alloc, matches.get_str("folder").unwrap_or(""))?;
     let options = options_of(matches);

@@ -102,10 +102,9 @@ pub fn audit_command<'a>(alloc: Global) -> Result<Command<'a>, AllocError> {
         "Judges each flow of a folder's files, and shows what is wrong with each that has no certificate",
         AUDIT_USAGE,
     );
-    let travel = "Shows the travel of each packet that shows a fault";
+    let travel = "Tells the travel of each packet that shows a fault, event by event";
     let faults = "Leaves out the flows that are right and wanted";
-    let unlisted = "Shows all sources and groups that stand in the caches and aren't listed, \
-        not the 20 lowest alone";
+    let unlisted = "Tells all unlisted sources and groups of the caches, not the 20 lowest alone";
     let strict = "Ends with status 1 where a flow that is right is wanted by nobody";
     let json = "Writes one JSON object a line";
     let without = "Audits without the router's tables, and then can't say yes";

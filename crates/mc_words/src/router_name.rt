@@ -19,12 +19,9 @@ fn has_name_bytes(text: &str) -> bool
 }
 
 /// Whether the text can be the name of a router: 1 to 32 letters, digits, `-`, `_` or `.`.
-#[tactic(auto, using(std::proofs::lemmas::Bool::Decides::nat_tests), unfolding(crate::specs::AuditWords::is_name))]
+#[tactic(auto, unfolding(crate::specs::AuditWords::is_name))]
 pub fn is_name(text: &str) -> bool
     ensures { result ≡ is_name text.now }
 {
-    if text.is_empty() || text.len() > 32 {
-        return false;
-    }
-    has_name_bytes(text)
+    !text.is_empty() && text.len() <= 32 && has_name_bytes(text)
 }

@@ -6,7 +6,7 @@ use Rattle.mc_words.specs.declared.audit_words.AuditWords.{AuditWords}
 use Rattle.mc_words.specs.declared.task.Task.{Task}
 use Rattle.mc_words.specs.declared.task.Task.TheVariants.{Wants, Check, Make, Replay, Pack, Audit}
 
--- the folder isn't told like an option, and without names routers, each once
+-- the folder doesn't begin like an option, and what is left out are names of routers, each once
 pub record IsAudit (words : AuditWords) : Type 0 where
   pub folder : is_option words.folder.now ≡ false
   pub without : are_routers (map (λ word. word.now) words.without.items) ≡ true

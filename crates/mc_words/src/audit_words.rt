@@ -1,9 +1,9 @@
 //! What the words after `audit` say.
 
 ghost use Rattle.std.specs.Prelude.{◌≡◌, map, is_none, true, false, IfErr, IfOk, OnOk};
-ghost use Rattle.mc_words.specs.AuditWords.{is_among, are_routers, is_option};
 ghost use Rattle.clap.specs.Matches.{found_of};
 ghost use Rattle.mc_words.specs.AuditFound.{AreFound, AreOptions};
+ghost use Rattle.mc_words.specs.AuditWords.{is_among, are_routers, is_option};
 ghost use Rattle.mc_words.specs.Task.{IsAudit};
 ghost use Rattle.mc_words.specs.declared.fault.WordsFault.TheVariants.{Memory};
 

@@ -180,7 +180,8 @@ fn task_of<'a>(alloc: Global, matches: &ArgMatches<'a>) -> Result<Task<'a>, Word
 /// The task that the program's words ask for. The first word is the program's own name.
 pub fn command_of<'a>(alloc: Global, words: &'a [&'a str]) -> Result<Task<'a>, WordsFault>
     // A task is given only with a group that routers forward and an address that a host may send
-    // from, and with a flow's number from 1 to 4,096 and a time to live from 1.
+    // from, with a flow's number from 1 to 4,096 and a time to live from 1, and with a folder to be
+    // audited that doesn't begin with `-` and names of routers, each once, to be audited without.
     ensures allowed { IfOk result IsAllowed }
 {
     match program(alloc)?.try_get_matches_from(words) {

@@ -5,6 +5,7 @@ ghost use Rattle.mc_text.specs.Addr.{IsForwardedGroup, IsSource, dotted};
 ghost use Rattle.mc_text.specs.Number.{IsDecimal};
 ghost use Rattle.mc_words.specs.Task.{AreWords, IsAllowed};
 
+use crate::audit_words::{AuditWords, audit_words_of};
 use crate::command::{program, replay_command, wants_command};
 use crate::fault::{WordsFault, refusal, wrong_words};
 use clap::ArgMatches;
@@ -13,7 +14,7 @@ use mc_text::{Addr, decimal};
 use std::alloc::Global;
 
 /// What the words ask for.
-#[derive(Clone, Copy, Debug, PartialEq, Eq)]
+#[derive(Debug, Drop, PartialEq, Eq)]
 pub enum Task<'a> {
     /// Whether the LAN whose reports are read wants what the source sends to the group.
     Wants {
@@ -45,12 +46,7 @@ pub enum Task<'a> {
     },
     /// Which flows of the domain of a folder's files have a certificate, and what a packet meets of
     /// each other one.
-    Audit {
-        /// The folder's path, which is empty for the present directory.
-        folder: &'a str,
-        /// Whether the travel of that packet is shown too.
-        travels: bool,
-    },
+    Audit(AuditWords<'a>),
 }
 
 const GROUP_RULE: &str = "<group> is an address from 224.0.1.0 to 239.255.255.255, as 239.1.2.3";
@@ -103,12 +99,12 @@ fn is_last(word: &str) -> Option<bool> {
 }
 
 /// The task of the words after `replay`.
-fn replay_task(
+fn replay_task<'a>(
     alloc: Global,
-    flow: &str,
-    ttl: &str,
-    order: &str,
-) -> Result<Task<'static>, WordsFault>
+    flow: &'a str,
+    ttl: &'a str,
+    order: &'a str,
+) -> Result<Task<'a>, WordsFault>
     ensures allowed { IfOk result IsAllowed }
 {
     let Some(flow) = number_of(flow, 4_096) else {
@@ -126,7 +122,7 @@ fn replay_task(
 }
 
 /// The task of the words after `wants`.
-fn wants_task(alloc: Global, group: &str, source: &str) -> Result<Task<'static>, WordsFault>
+fn wants_task<'a>(alloc: Global, group: &'a str, source: &'a str) -> Result<Task<'a>, WordsFault>
     ensures allowed { IfOk result IsAllowed }
     ensures found { IfOk result (AreWords group.now source.now) }
     ensures only { (g s : ℕ) → IsForwardedGroup g → IsSource s → group.now ≡ dotted g
@@ -142,6 +138,13 @@ fn wants_task(alloc: Global, group: &str, source: &str) -> Result<Task<'static>,
     Ok(Task::Wants { group, source })
 }
 
+/// The task of the words after `audit`.
+fn audit_task<'a>(alloc: Global, matches: &ArgMatches<'a>) -> Result<Task<'a>, WordsFault>
+    ensures allowed { IfOk result IsAllowed }
+{
+    Ok(Task::Audit(audit_words_of(alloc, matches)?))
+}
+
 /// The word of a required argument.
 fn word_of<'a>(matches: &ArgMatches<'a>, argument: &str) -> &'a str {
     matches.get_str(argument).unwrap_or("")
@@ -152,10 +155,7 @@ fn task_of<'a>(alloc: Global, matches: &ArgMatches<'a>) -> Result<Task<'a>, Word
     ensures allowed { IfOk result IsAllowed }
 {
     match matches.subcommand() {
-        Some(("audit", words)) => Ok(Task::Audit {
-            folder: word_of(words, "folder"),
-            travels: words.get_flag("travel"),
-        }),
+        Some(("audit", words)) => audit_task(alloc, words),
         Some(("check", _)) => Ok(Task::Check),
         Some(("make", _)) => Ok(Task::Make),
         Some(("pack", words)) => Ok(Task::Pack {
@@ -180,7 +180,8 @@ fn task_of<'a>(alloc: Global, matches: &ArgMatches<'a>) -> Result<Task<'a>, Word
 /// The task that the program's words ask for. The first word is the program's own name.
 pub fn command_of<'a>(alloc: Global, words: &'a [&'a str]) -> Result<Task<'a>, WordsFault>
     // A task is given only with a group that routers forward and an address that a host may send
-    // from, and with a flow's number from 1 to 4,096 and a time to live from 1.
+    // from, with a flow's number from 1 to 4,096 and a time to live from 1, and with a folder to be
+    // audited that doesn't begin with `-` and names of routers, each once, to be audited without.
     ensures allowed { IfOk result IsAllowed }
 {
     match program(alloc)?.try_get_matches_from(words) {

@@ -5,6 +5,7 @@ pub mod CertifiedLemmas
 pub mod CheckLemmas
 pub mod LookLemmas
 pub mod MakeLemmas
+pub mod MissedLemmas
 pub mod PackingLemmas
 pub mod ReplayLemmas
 pub mod RunLemmas

@@ -3,7 +3,7 @@ use Rattle.std.proofs.Common.{◌≡◌, ℕ, ◌+◌, ◌-◌, ◌/◌, ◌%◌
 use Rattle.std.proofs.Common.{[], ◌∷◌, ap, ap₂, ◌∙◌, arith}
 use Rattle.std.specs.Fmt.{padded_integral, format_spec, digits, digit_glyph}
 use Rattle.std.proofs.lemmas.Fmt.{hex_byte}
-use Rattle.mc_explain.specs.ExplanationText.{hex_digit_of}
+use Rattle.mc_explain.specs.RowText.{hex_digit_of}
 
 -- std's digit is the same one
 glyph : (d : ℕ) → digit_glyph false d ≡ hex_digit_of d

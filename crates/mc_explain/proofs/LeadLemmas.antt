@@ -1,6 +1,6 @@
 -- The LANs that lines lead to are LANs of the domain.
 use Rattle.std.proofs.Common.{◌≡◌, ℕ, ◌<◌, ◌∷◌, [], ◌++◌, inl, inr, Bool, true, false, cond, List, length}
-use Rattle.std.proofs.Common.{flat_map, Option, Some, None, refl, subst, get_or, zero, suc, arith}
+use Rattle.std.proofs.Common.{flat_map, Option, Some, None, refl, sym, subst, get_or, zero, suc, arith}
 use Rattle.std.specs.Prelude.{IfSome, ◌==◌}
 use Rattle.std.specs.List.{list_any}
 use Rattle.mc_tables.specs.CacheTable.{EntryText}
@@ -10,7 +10,8 @@ use Rattle.mc_theory.specs.Nets.Row.{Exact, Open, NoRow as no_row}
 use Rattle.mc_theory.specs.Flights.{Copy}
 use Rattle.mc_theory.specs.Made.{threshold_of}
 use Rattle.mc_theory.proofs.InLists.{in-append_cases, in-flat_map_cases}
-use Rattle.mc_forward.specs.Domains.{IsDomain}
+use Rattle.mc_forward.specs.Domains.{DomainValue, IsDomain}
+use Rattle.mc_forward.specs.ListedTables.{DomainFacts, facts}
 use Rattle.mc_forward.proofs.DomainLemmas.{placed-listed}
 use Rattle.mc_explain.specs.declared.searched.Searched.{Searched}
 use Rattle.mc_explain.specs.declared.searched.Searched.TheVariants.{DoesNotSend, NoRow, NoSender}
@@ -21,6 +22,18 @@ use Rattle.mc_explain.specs.Searched.{held_up, if_missed, is_unresolved, last_li
 use Rattle.mc_explain.specs.Searched.{lines_of_lan, net, router_lines, routers_on}
 use Rattle.mc_explain.specs.Searched.{row_for_every_source, row_lines, sends_by, sends_here}
 use Rattle.mc_explain.specs.Searched.{taken_lines, vif_line, vif_lines}
+
+-- each vif is placed on a LAN of the domain, or on none
+abbrev pub PlacesInside : Search → Type 0
+PlacesInside s = (router vif : ℕ) →
+    IfSome ((net s).placed router vif) (λ lan. lan < length s.domain.topology.lans)
+
+pub places-inside : (d : DomainValue) (s : Search) → IsDomain d → s.domain ≡ facts d
+    → PlacesInside s
+places-inside d s ok same router vif =
+    subst (λ (x : DomainFacts).
+    IfSome ((x.nets s.flow).placed router vif) (λ lan. lan < length x.topology.lans)) (sym same)
+    (placed-listed d router vif ok _ refl)
 
 -- if a line leads to a LAN, then to one of the domain
 abbrev pub LeadsInside : Search → Searched → Type 0
@@ -66,10 +79,10 @@ missed-inside s (Some lan) h = by (carried s lan)
     by true = tt
     by false = h
 
-every-inside : (s : Search) (router : ℕ) → IsDomain s.domain → (o : Option (ℕ × EntryText))
+every-inside : (s : Search) (router : ℕ) → PlacesInside s → (o : Option (ℕ × EntryText))
     → IfSome (every_source_from s router o) (λ lan. lan < length s.domain.topology.lans)
 every-inside s router ok None = tt
-every-inside s router ok (Some row) = placed-listed s.domain router row.1.iif ok _ refl
+every-inside s router ok (Some row) = ok router row.1.iif
 
 held-inside : (s : Search) (copy : Option Copy) (lan router vif from threshold : ℕ)
     → from < length s.domain.topology.lans → LeadsInside s (held_up copy lan router vif from threshold)
@@ -103,11 +116,11 @@ taken-inside s lan router pairs is (Some from) h =
     (inside-each s (λ (i : ListedInterface). vif_lines s lan router from pairs i.vif) is
     (λ i. vifs-inside s lan router from pairs i.vif h))
 
-row-inside : (s : Search) (lan router : ℕ) (is : List ListedInterface) → IsDomain s.domain
+row-inside : (s : Search) (lan router : ℕ) (is : List ListedInterface) → PlacesInside s
     → (row : Row) → AllInside s (row_lines s lan router is row)
 row-inside s lan router is ok (Exact incoming pairs) =
     taken-inside s lan router pairs is ((net s).placed router incoming)
-    (placed-listed s.domain router incoming ok _ refl)
+    (ok router incoming)
 row-inside s lan router is ok Open =
     inside-one s _ (missed-inside s (every_source_from s router (row_for_every_source s router))
     (every-inside s router ok (row_for_every_source s router)))
@@ -128,7 +141,7 @@ last-inside s lan gs [] = inside-one s _ tt
 last-inside s lan gs (line ∷ lines) = inside-unless s (list_any (sends_here s) gs) (NoSender lan ∷ []) (inside-one s (NoSender lan) tt)
 
 -- each line of a LAN
-pub lines-inside : (s : Search) (lan : ℕ) → IsDomain s.domain → AllInside s (lines_of_lan s lan)
+pub lines-inside : (s : Search) (lan : ℕ) → PlacesInside s → AllInside s (lines_of_lan s lan)
 lines-inside s lan ok =
     inside-both s (lines_by s lan (routers_on s lan)) _
     (inside-both s (flat_map (router_lines s lan) (routers_on s lan)) _
@@ -146,7 +159,7 @@ read-in (x ∷ xs) zero d lt = inl refl
 read-in (x ∷ xs) (suc k) d lt = inr (read-in xs k d (omega (arith, lt)))
 
 -- the same of lines that were added, place by place
-pub added-inside : (s : Search) (lan : ℕ) (lines : List Searched) → IsDomain s.domain
+pub added-inside : (s : Search) (lan : ℕ) (lines : List Searched) → PlacesInside s
     → lines ≡ lines_of_lan s lan → (k : ℕ) (d : Searched) → k < length lines
     → LeadsInside s (get_or lines k d)
 added-inside s lan lines ok e k d lt =

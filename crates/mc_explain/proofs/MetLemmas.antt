@@ -6,12 +6,11 @@ use Rattle.std.specs.List.{cons_option, filter_map, list_any}
 use Rattle.std.proofs.lemmas.Option.{slice_get_past}
 use Rattle.mc_theory.specs.Lists.{In}
 use Rattle.mc_theory.proofs.InLists.{in-append_left, in-push_cases}
-use Rattle.mc_forward.specs.Domains.{IsDomain}
 use Rattle.mc_forward.proofs.BelowLemmas.{few-different}
 use Rattle.mc_explain.specs.declared.searched.Searched.{Searched}
 use Rattle.mc_explain.specs.Searched.{Search, add_met, lans_of_search, lead, leads_to, lines_of_lan}
 use Rattle.mc_explain.specs.Searched.{met, met_after}
-use Rattle.mc_explain.proofs.LeadLemmas.{AllInside, lines-inside}
+use Rattle.mc_explain.proofs.LeadLemmas.{AllInside, PlacesInside, lines-inside}
 use Rattle.mc_explain.proofs.SearchLemmas.{distinct-met, met-more}
 
 abbrev pub AllBelow : ℕ → List ℕ → Type 0
@@ -53,7 +52,7 @@ more-below n lans (lan ∷ more) all new =
     by true old more = old
     by false old more = more
 
-pub met-below : (s : Search) (missed k : ℕ) → IsDomain s.domain
+pub met-below : (s : Search) (missed k : ℕ) → PlacesInside s
     → missed < length s.domain.topology.lans
     → AllBelow (length s.domain.topology.lans) (met s missed k)
 met-below s missed zero ok lt = λ lan h. elim h [
@@ -69,14 +68,14 @@ met-below s missed (suc k) ok lt =
     by (Some lan) all = more-below (length s.domain.topology.lans) (met s missed k) (leads_to s lan)
         all (leads-below s (lines_of_lan s lan) (lines-inside s lan ok))
 
-few-below : (s : Search) (missed k : ℕ) → IsDomain s.domain
+few-below : (s : Search) (missed k : ℕ) → PlacesInside s
     → missed < length s.domain.topology.lans
     → length (met s missed k) ≤ length s.domain.topology.lans
 few-below s missed k ok lt =
     few-different (met s missed k) (length s.domain.topology.lans) (distinct-met s missed k)
     (met-below s missed k ok lt)
 
-ends-after : (s : Search) (missed more : ℕ) → IsDomain s.domain
+ends-after : (s : Search) (missed more : ℕ) → PlacesInside s
     → missed < length s.domain.topology.lans
     → met s missed (more + length s.domain.topology.lans) ≡ lans_of_search s missed
 ends-after s missed zero ok lt =
@@ -91,7 +90,7 @@ ends-after s missed (suc more) ok lt =
     ∙ ends-after s missed more ok lt
 
 -- no more are met
-pub search-ends : (s : Search) (missed k : ℕ) → IsDomain s.domain
+pub search-ends : (s : Search) (missed k : ℕ) → PlacesInside s
     → missed < length s.domain.topology.lans → length s.domain.topology.lans ≤ k
     → met s missed k ≡ lans_of_search s missed
 search-ends s missed k ok lt le =

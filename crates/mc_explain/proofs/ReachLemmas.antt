@@ -9,7 +9,7 @@ use Rattle.mc_theory.specs.Lists.{In, below}
 use Rattle.mc_theory.proofs.InLists.{in-below_cases, in-filter_cases, in-flat_map_cases, in-map_cases}
 use Rattle.mc_theory.proofs.InLists.{in-push_cases}
 use Rattle.mc_theory.specs.Events.{Event}
-use Rattle.mc_forward.specs.Domains.{DomainValue}
+use Rattle.mc_forward.specs.ListedTables.{DomainFacts}
 use Rattle.mc_explain.specs.declared.listed_interface.ListedInterface.{ListedInterface}
 use Rattle.mc_explain.specs.TopologyLans.{interface_at, listed_at, of_router, on_lan}
 use Rattle.mc_explain.specs.Searched.{Search, add_met, groups, join, routers_on}
@@ -63,7 +63,7 @@ group-of (i ∷ is) g h = by (groups is) (group-of is g) h
     by (k ∷ gs) old h = cut (k.0 == i.router) k gs old h
 
 -- its router is one of the topology
-pub group-router : (d : DomainValue) (lan : ℕ) (g : ℕ × List ListedInterface)
+pub group-router : (d : DomainFacts) (lan : ℕ) (g : ℕ × List ListedInterface)
     → In g (groups (on_lan d lan)) → g.0 < length d.topology.routers
 group-router d lan g h =
     let t = d.topology in

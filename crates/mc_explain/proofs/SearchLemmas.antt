@@ -16,6 +16,7 @@ use Rattle.mc_theory.specs.Findings.{copy_on}
 use Rattle.mc_theory.proofs.InLists.{slice_get-in, in-push_cases}
 use Rattle.mc_forward.specs.Domains.{DomainValue}
 use Rattle.mc_forward.specs.Journeys.{FlowIn}
+use Rattle.mc_forward.specs.ListedTables.{facts}
 use Rattle.mc_forward.specs.PerLan.{held, first_by, IsFirstBy}
 use Rattle.mc_forward.proofs.BelowLemmas.{few-different}
 use Rattle.mc_forward.proofs.EachLemmas.{take-found}
@@ -198,21 +199,21 @@ pub same-search : (view : FlowIn) (d : DomainValue) (flow : ℕ) (notes : List N
     → view ≡ record { domain = d; flow = flow } → IsFirstBy (λ (c : Copy). c.lan) places copies
     → copies ≡ cs
     → ◌≡◌ {A = Search} (record {
-      domain = view.domain;
+      domain = facts view.domain;
       flow = view.flow;
       notes = notes;
       copy_on = held places;
     })
-    (record { domain = d; flow = flow; notes = notes; copy_on = copy_on cs })
+    (record { domain = facts d; flow = flow; notes = notes; copy_on = copy_on cs })
 same-search view d flow notes places copies cs e first same =
     ap {B = Search} (λ (v : FlowIn). record {
-      domain = v.domain;
+      domain = facts v.domain;
       flow = v.flow;
       notes = notes;
       copy_on = held places;
     }) e
     ∙ ap {B = Search} (λ (f : ℕ → Option Copy). record {
-      domain = d;
+      domain = facts d;
       flow = flow;
       notes = notes;
       copy_on = f;

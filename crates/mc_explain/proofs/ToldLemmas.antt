@@ -3,11 +3,11 @@ use Rattle.std.proofs.Common.{◌≡◌, ℕ, ◌<◌, Bool, cond, List, codes, 
 use Rattle.std.proofs.lemmas.Bool.{lt-leb}
 use Rattle.mc_topology.specs.declared.flow.Flow.{Flow}
 use Rattle.mc_topology.specs.Topology.{lan_name}
-use Rattle.mc_forward.specs.Domains.{DomainValue}
+use Rattle.mc_forward.specs.ListedTables.{DomainFacts}
 use Rattle.mc_explain.specs.ExplanationText.{cost_text, dear_text}
 
 -- a flow that is listed with less than the least TTL
-pub cost-dear : (d : DomainValue) (f : Flow) (lan least : ℕ) (name : List ℕ) → f.ttl < least
+pub cost-dear : (d : DomainFacts) (f : Flow) (lan least : ℕ) (name : List ℕ) → f.ttl < least
     → name ≡ lan_name d.topology lan → dear_text name least f.ttl ≡ cost_text d f lan least
 cost-dear d f lan least name less named =
     ap (λ s. dear_text s least f.ttl) named

@@ -1,4 +1,5 @@
 pub mod Explained
+pub mod RowText
 pub mod ExplanationText
 pub mod LanStart
 pub mod WantedText
@@ -14,5 +15,6 @@ pub use Rattle.mc_theory.specs.Flights
 pub use Rattle.mc_theory.specs.Findings
 pub use Rattle.mc_theory.specs.Ways
 pub use Rattle.mc_forward.specs.Domains
+pub use Rattle.mc_forward.specs.ListedTables
 pub use Rattle.mc_replay.specs.FindingValues
 pub use Rattle.mc_maker.specs.Flown

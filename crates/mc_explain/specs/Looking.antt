@@ -1,5 +1,6 @@
 -- What the search is done with, and what that stands for.
 use Rattle.std.specs.Prelude.{◌≡◌, Some, slice_get, ℕ, length}
+use Rattle.mc_forward.specs.ListedTables.{facts}
 use Rattle.mc_forward.specs.PerLan.{held, IsFirstBy}
 use Rattle.mc_explain.specs.declared.looking.Looking.{Looking}
 use Rattle.mc_explain.specs.TopologyLans.{on_lans}
@@ -8,7 +9,7 @@ use Rattle.mc_explain.specs.declared.met.Met.{Met}
 
 abbrev pub search_in : Looking → Search
 search_in l = record {
-  domain = l.view.now.domain;
+  domain = facts l.view.now.domain;
   flow = l.view.now.flow;
   notes = l.notes.now;
   copy_on = held l.firsts.now.by_lan;
@@ -16,7 +17,7 @@ search_in l = record {
 
 pub record IsLooking (l : Looking) : Type 0 where
   pub flow : slice_get l.view.now.domain.topology.flows l.view.now.flow ≡ Some l.flow.now
-  pub interfaces : l.interfaces.now ≡ on_lans l.view.now.domain
+  pub interfaces : l.interfaces.now ≡ on_lans (facts l.view.now.domain)
 
 -- ---- the LANs that a search met, as they are kept
 

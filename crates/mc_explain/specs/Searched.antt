@@ -14,7 +14,7 @@ use Rattle.mc_theory.specs.Nets.Row.{Exact, Open, NoRow as no_row}
 use Rattle.mc_theory.specs.Flights.{Copy}
 use Rattle.mc_theory.specs.Findings.{taken_from}
 use Rattle.mc_theory.specs.Made.{pairs_of, threshold_of}
-use Rattle.mc_forward.specs.Domains.{DomainValue, net_of, vif_of}
+use Rattle.mc_forward.specs.ListedTables.{DomainFacts}
 use Rattle.mc_explain.specs.declared.searched.Searched.{Searched}
 use Rattle.mc_explain.specs.declared.searched.Searched.TheVariants.{NoVif, NotMulticast, NoRow}
 use Rattle.mc_explain.specs.declared.searched.Searched.TheVariants.{Unresolved, EverySource}
@@ -29,13 +29,13 @@ use Rattle.mc_explain.specs.TopologyLans.{on_lan}
 
 -- a flow of a domain, what is noted of each router's cache, and the first copy on each LAN
 pub record Search : Type 0 where
-  pub domain : DomainValue
+  pub domain : DomainFacts
   pub flow : ℕ
   pub notes : List NotesText
   pub copy_on : ℕ → Option Copy
 
 abbrev pub net : Search → Net
-net s = net_of s.domain s.flow
+net s = s.domain.nets s.flow
 
 -- whether a LAN carried a copy
 abbrev pub carried : Search → (lan : ℕ) → Bool
@@ -108,7 +108,7 @@ is_virtual (Some vif) = vif.tunnel || vif.register
 abbrev pub device_lines : Search → (lan : ℕ) → ListedInterface → Option ℕ → List Searched
 device_lines s lan i None = NoVif lan i.router i.interface ∷ []
 device_lines s lan i (Some vif) =
-    if is_virtual (vif_of s.domain.tables i.router vif)
+    if is_virtual (s.domain.vifs i.router vif)
     then NotMulticast lan i.router i.interface ∷ []
     else []
 

@@ -6,7 +6,7 @@ use Rattle.mc_tables.specs.VifTable.{VifText}
 use Rattle.mc_topology.specs.Rows.{InterfaceRow}
 use Rattle.mc_topology.specs.Topology.{TopologyValue}
 use Rattle.mc_theory.specs.Lists.{below}
-use Rattle.mc_forward.specs.Domains.{DomainValue, TablesValue, vif_of}
+use Rattle.mc_forward.specs.ListedTables.{DomainFacts}
 use Rattle.mc_explain.specs.declared.listed_interface.ListedInterface.{ListedInterface}
 
 -- the interface with this number, in the topology's order from 0
@@ -31,28 +31,27 @@ is_of device None = false
 is_of device (Some vif) = bytes_eq vif.device device
 
 -- a router's vif of a device
-abbrev pub vif_with : List TablesValue → (router : ℕ) → List ℕ → Option ℕ
-vif_with tables router device =
-    find (λ vif. is_of device (vif_of tables router vif)) (below 32)
+abbrev pub vif_with : DomainFacts → (router : ℕ) → List ℕ → Option ℕ
+vif_with d router device = find (λ vif. is_of device (d.vifs router vif)) (below 32)
 
 -- an interface's number, its router, and the router's vif of its device
-abbrev pub listed_of : DomainValue → ℕ → InterfaceRow → ListedInterface
+abbrev pub listed_of : DomainFacts → ℕ → InterfaceRow → ListedInterface
 listed_of d k i = record {
   router = i.router;
   interface = k;
-  vif = vif_with d.tables i.router i.device;
+  vif = vif_with d i.router i.device;
 }
 
-abbrev pub listed_at : DomainValue → ℕ → ListedInterface
+abbrev pub listed_at : DomainFacts → ℕ → ListedInterface
 listed_at d k = listed_of d k (interface_at d.topology k)
 
 -- ---- LANs
 
 -- the interfaces on a LAN, by router and then in the topology's order
-abbrev pub on_lan : DomainValue → (lan : ℕ) → List ListedInterface
+abbrev pub on_lan : DomainFacts → (lan : ℕ) → List ListedInterface
 on_lan d lan =
     map (listed_at d) (filter (λ k. (interface_at d.topology k).lan == lan) (by_router d.topology))
 
 -- those of each LAN
-abbrev pub on_lans : DomainValue → List (List ListedInterface)
+abbrev pub on_lans : DomainFacts → List (List ListedInterface)
 on_lans d = map (on_lan d) (below (length d.topology.lans))

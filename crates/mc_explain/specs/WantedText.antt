@@ -5,8 +5,7 @@ use Rattle.mc_topology.specs.Topology.{TopologyValue, lan_name}
 use Rattle.mc_theory.specs.Lists.{below}
 use Rattle.mc_theory.specs.Flights.{Copy}
 use Rattle.mc_theory.specs.Findings.{copy_on}
-use Rattle.mc_forward.specs.Domains.{DomainValue, wants_of}
-use Rattle.mc_forward.specs.Journeys.{Journey}
+use Rattle.mc_forward.specs.ListedTables.{DomainFacts}
 
 -- ---- a list of LANs by their names, of which the first 8 are shown
 
@@ -24,8 +23,8 @@ lans_text t lans = flat_map (behind_space t) (take 8 lans) ++ more_text (length 
 -- ---- the LANs that want a flow
 
 -- in the topology's order
-abbrev pub wanting : DomainValue → (flow : ℕ) → List ℕ
-wanting d flow = filter (wants_of d flow) (below (length d.topology.lans))
+abbrev pub wanting : DomainFacts → (flow : ℕ) → List ℕ
+wanting d flow = filter (d.nets flow).wants (below (length d.topology.lans))
 
 abbrev pub wanted_text : TopologyValue → (lans : List ℕ) → List ℕ
 wanted_text t [] = codes "  wanted 0: no report asks for it\n"
@@ -34,21 +33,20 @@ wanted_text t (lan ∷ lans) =
     ++ (codes ":" ++ (lans_text t (lan ∷ lans) ++ codes "\n")))
 
 -- the line of a flow
-abbrev pub wanted_line : DomainValue → (flow : ℕ) → List ℕ
+abbrev pub wanted_line : DomainFacts → (flow : ℕ) → List ℕ
 wanted_line d flow = wanted_text d.topology (wanting d flow)
 
 -- ---- the LANs that were missed besides
 
 -- whether a LAN that isn't this one wants the flow, and carried none of these copies
-abbrev pub is_missed_too : DomainValue → (flow : ℕ) → List Copy → (missed lan : ℕ) → Bool
+abbrev pub is_missed_too : DomainFacts → (flow : ℕ) → List Copy → (missed lan : ℕ) → Bool
 is_missed_too d flow copies missed lan =
-    (wants_of d flow lan && not (is_some (copy_on copies lan))) && not (lan == missed)
+    ((d.nets flow).wants lan && not (is_some (copy_on copies lan))) && not (lan == missed)
 
--- in the topology's order, by the flight of a packet
-abbrev pub missed_too : Journey → (missed : ℕ) → List ℕ
-missed_too j missed =
-    filter (is_missed_too j.domain j.flow j.flight.carried missed)
-    (below (length j.domain.topology.lans))
+-- in the topology's order, by the copies of a packet
+abbrev pub missed_too : DomainFacts → (flow : ℕ) → List Copy → (missed : ℕ) → List ℕ
+missed_too d flow copies missed =
+    filter (is_missed_too d flow copies missed) (below (length d.topology.lans))
 
 -- nothing where there are none
 abbrev pub missed_too_text : TopologyValue → (lans : List ℕ) → List ℕ
@@ -56,6 +54,7 @@ missed_too_text t [] = []
 missed_too_text t (lan ∷ lans) =
     codes "  also missed:" ++ (lans_text t (lan ∷ lans) ++ codes "\n")
 
--- the line of a flight in which that LAN was missed
-abbrev pub missed_too_line : Journey → (missed : ℕ) → List ℕ
-missed_too_line j missed = missed_too_text j.domain.topology (missed_too j missed)
+-- the line of a packet whose copies these are, and which missed that LAN
+abbrev pub missed_too_line : DomainFacts → (flow : ℕ) → List Copy → (missed : ℕ) → List ℕ
+missed_too_line d flow copies missed =
+    missed_too_text d.topology (missed_too d flow copies missed)

@@ -1,8 +1,9 @@
 //! The device of a vif as it is written.
 
 ghost use Rattle.std.specs.Prelude.{◌≡◌, Some};
-ghost use Rattle.mc_explain.specs.ExplanationText.{byte_text, device_text, name_text};
-ghost use Rattle.mc_explain.specs.ExplanationText.{is_plain as plain};
+ghost use Rattle.mc_forward.specs.ListedTables.{facts};
+ghost use Rattle.mc_explain.specs.RowText.{byte_text, device_text, name_text};
+ghost use Rattle.mc_explain.specs.RowText.{is_plain as plain};
 
 use mc_forward::FlowView;
 use mc_topology::RouterNo;
@@ -69,7 +70,7 @@ pub(crate) struct ShownDevice<'v> {
 }
 
 impl<'v> fmt::Display for ShownDevice<'v> {
-    ghost output = { λ shown. Some (device_text shown.view.now.domain shown.router shown.vif) };
+    ghost output = { λ shown. Some (device_text (facts shown.view.now.domain) shown.router shown.vif) };
 
     fn fmt<W: fmt::Write>(&self, f: &mut fmt::Formatter<W>) -> fmt::Result {
         let vif = self.vif;

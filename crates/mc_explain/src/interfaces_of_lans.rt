@@ -2,7 +2,8 @@
 
 ghost use Rattle.std.specs.Prelude.{◌≡◌, ◌<◌, ◌++◌, ◌∷◌, ℕ, [], All, IfOk, List, OnOk, length, map};
 ghost use Rattle.mc_theory.specs.Lists.{below};
-ghost use Rattle.mc_forward.specs.Domains.{DomainValue, vif_of};
+ghost use Rattle.mc_forward.specs.Domains.{vif_of};
+ghost use Rattle.mc_forward.specs.ListedTables.{DomainFacts, facts};
 ghost use Rattle.mc_explain.specs.TopologyLans.{listed_at, listed_of, of_router, on_lan, on_lans};
 ghost use Rattle.mc_explain.specs.TopologyLans.{interface_at, is_of, vif_with};
 ghost use Rattle.mc_explain.specs.Numbered.{Holds};
@@ -84,7 +85,7 @@ fn is_of(domain: &Domain, router: RouterNo, vif: u8, device: &[u8]) -> bool
 
 /// The vif of a router that has this device.
 fn vif_with(domain: &Domain, router: RouterNo, device: &[u8]) -> Option<u8>
-    ensures { result ≡ vif_with domain.now.tables router device.now }
+    ensures { result ≡ vif_with (facts domain.now) router device.now }
 {
     for vif in 0..32u8 {
         if is_of(domain, router, vif, device) {
@@ -96,7 +97,7 @@ fn vif_with(domain: &Domain, router: RouterNo, device: &[u8]) -> Option<u8>
 
 /// An interface with its number, and its router's vif.
 fn listed_of(domain: &Domain, number: u32, interface: &Interface<'_>) -> ListedInterface
-    ensures { result ≡ listed_of domain.now number interface.now }
+    ensures { result ≡ listed_of (facts domain.now) number interface.now }
 {
     ListedInterface {
         router: interface.router,
@@ -115,9 +116,9 @@ fn add_interfaces(
     requires lans { length lists.old.items ≡ length domain.now.topology.lans }
     ensures count { length lists.new.items ≡ length domain.now.topology.lans }
     ensures each { OnOk result ((earlier : List ℕ) →
-        Holds (listed_at domain.now) (λ k. (interface_at domain.now.topology k).lan)
+        Holds (listed_at (facts domain.now)) (λ k. (interface_at domain.now.topology k).lan)
         lists.old.items earlier →
-        Holds (listed_at domain.now) (λ k. (interface_at domain.now.topology k).lan)
+        Holds (listed_at (facts domain.now)) (λ k. (interface_at domain.now.topology k).lan)
         lists.new.items (earlier ++ numbers.now)) }
 {
     for number in numbers {
@@ -135,7 +136,7 @@ fn interfaces_of_lans(
     alloc: Global,
     domain: &Domain,
 ) -> Result<Vec<Listed<ListedInterface>>, Memory>
-    ensures { IfOk result (λ lists. lists.items ≡ on_lans domain.now) }
+    ensures { IfOk result (λ lists. lists.items ≡ on_lans (facts domain.now)) }
 {
     let topology = domain.topology();
     let routers = numbers_of_routers(alloc, topology)?;
@@ -154,7 +155,7 @@ impl InterfacesOfLans {
     ///
     /// `Memory` where a growth was refused.
     pub fn new(alloc: Global, domain: &Domain) -> Result<InterfacesOfLans, Memory>
-        ensures { IfOk result (λ interfaces. interfaces ≡ on_lans domain.now) }
+        ensures { IfOk result (λ interfaces. interfaces ≡ on_lans (facts domain.now)) }
     {
         let lans = interfaces_of_lans(alloc, domain)?;
         Ok(InterfacesOfLans { lans })
@@ -163,7 +164,7 @@ impl InterfacesOfLans {
     /// Those on a LAN.
     pub(crate) fn on(&self, lan: LanNo) -> &[ListedInterface]
         requires { lan < length self.now }
-        ensures { (d : DomainValue) → self.now ≡ on_lans d → lan < length d.topology.lans →
+        ensures { (d : DomainFacts) → self.now ≡ on_lans d → lan < length d.topology.lans →
             result.now ≡ on_lan d lan }
     {
         &self.lans[lan.0 as usize].items

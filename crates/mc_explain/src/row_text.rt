@@ -1,8 +1,10 @@
 //! A router's row as it is written.
 
 ghost use Rattle.std.specs.Prelude.{◌≡◌, Some};
-ghost use Rattle.mc_forward.specs.Domains.{pairs_of, row_of};
-ghost use Rattle.mc_explain.specs.ExplanationText.{incoming_text, pair_text, pairs_text, row_text};
+ghost use Rattle.mc_forward.specs.Domains.{pairs_of};
+ghost use Rattle.mc_forward.specs.Journeys.{net_in};
+ghost use Rattle.mc_forward.specs.ListedTables.{facts};
+ghost use Rattle.mc_explain.specs.RowText.{incoming_text, pair_text, pairs_text, row_text};
 
 use crate::device_text::ShownDevice;
 use mc_forward::{FlowView, RowFor};
@@ -19,7 +21,7 @@ struct ShownOif<'v> {
 }
 
 impl<'v> fmt::Display for ShownOif<'v> {
-    ghost output = { λ shown. Some (pair_text shown.view.now.domain shown.router
+    ghost output = { λ shown. Some (pair_text (facts shown.view.now.domain) shown.router
         (shown.oif.vif, shown.oif.threshold)) };
 
     fn fmt<W: fmt::Write>(&self, f: &mut fmt::Formatter<W>) -> fmt::Result {
@@ -46,7 +48,7 @@ struct ShownOifs<'v> {
 }
 
 impl<'v> fmt::Display for ShownOifs<'v> {
-    ghost output = { λ shown. Some (pairs_text shown.view.now.domain shown.router
+    ghost output = { λ shown. Some (pairs_text (facts shown.view.now.domain) shown.router
         (pairs_of shown.oifs.now)) };
 
     fn fmt<W: fmt::Write>(&self, f: &mut fmt::Formatter<W>) -> fmt::Result {
@@ -78,8 +80,8 @@ pub(crate) struct ShownRow<'v> {
 }
 
 impl<'v> fmt::Display for ShownRow<'v> {
-    ghost output = { λ shown. Some (row_text shown.view.now.domain shown.flow.now shown.router
-        (row_of shown.view.now.domain shown.view.now.flow shown.router)) };
+    ghost output = { λ shown. Some (row_text (facts shown.view.now.domain) shown.flow.now shown.router
+        ((net_in shown.view.now).row shown.router)) };
 
     fn fmt<W: fmt::Write>(&self, f: &mut fmt::Formatter<W>) -> fmt::Result {
         let (view, flow, router) = (self.view, self.flow, self.router);
@@ -112,8 +114,8 @@ pub(crate) struct ShownIncoming<'v> {
 }
 
 impl<'v> fmt::Display for ShownIncoming<'v> {
-    ghost output = { λ shown. Some (incoming_text shown.view.now.domain shown.router
-        (row_of shown.view.now.domain shown.view.now.flow shown.router)) };
+    ghost output = { λ shown. Some (incoming_text (facts shown.view.now.domain) shown.router
+        ((net_in shown.view.now).row shown.router)) };
 
     fn fmt<W: fmt::Write>(&self, f: &mut fmt::Formatter<W>) -> fmt::Result {
         match self.view.row(self.router) {

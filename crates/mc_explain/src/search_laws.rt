@@ -2,7 +2,8 @@
 
 ghost use Rattle.std.specs.Prelude.{◌≡◌, ◌<◌, ◌≤◌, ℕ, length};
 ghost use Rattle.mc_theory.specs.Lists.{Distinct, In};
-ghost use Rattle.mc_forward.specs.Domains.{IsDomain};
+ghost use Rattle.mc_forward.specs.Domains.{DomainValue, IsDomain};
+ghost use Rattle.mc_forward.specs.ListedTables.{facts};
 ghost use Rattle.mc_explain.specs.Searched.{Search, lans_of_search, met};
 
 /// The LANs of a search are the missed one and those that are met from there, each once.
@@ -11,11 +12,11 @@ pub fn a_search_ends()
     ensures missed { (s : Search) (missed : ℕ) → In missed (lans_of_search s missed) }
     // each is looked at once, and is one of the domain,
     ensures once { (s : Search) (missed : ℕ) → Distinct (lans_of_search s missed) }
-    ensures lans { (s : Search) (missed lan : ℕ) → IsDomain s.domain →
-        missed < length s.domain.topology.lans → In lan (lans_of_search s missed) →
-        lan < length s.domain.topology.lans }
+    ensures lans { (d : DomainValue) (s : Search) (missed lan : ℕ) → IsDomain d →
+        s.domain ≡ facts d → missed < length d.topology.lans →
+        In lan (lans_of_search s missed) → lan < length d.topology.lans }
     // and no more are met, however long the search goes on.
-    ensures ends { (s : Search) (missed looked : ℕ) → IsDomain s.domain →
-        missed < length s.domain.topology.lans → length s.domain.topology.lans ≤ looked →
+    ensures ends { (d : DomainValue) (s : Search) (missed looked : ℕ) → IsDomain d →
+        s.domain ≡ facts d → missed < length d.topology.lans → length d.topology.lans ≤ looked →
         met s missed looked ≡ lans_of_search s missed }
 {}

@@ -4,6 +4,7 @@
 ghost use Rattle.std.specs.Prelude.{◌≡◌, ◌<◌, ◌++◌, All, IfOk, IfSome, OnOk, length};
 ghost use Rattle.std.specs.List.{filter_map};
 ghost use Rattle.mc_theory.specs.Findings.{copy_on};
+ghost use Rattle.mc_forward.specs.ListedTables.{facts};
 ghost use Rattle.mc_explain.specs.Looking.{IsLooking, search_in};
 ghost use Rattle.mc_explain.specs.Looking.{IsMet};
 ghost use Rattle.mc_explain.specs.Searched.{add_met, lead, leads_to, lines_of_lan, search_lines};
@@ -133,11 +134,11 @@ pub fn search(
     missed: LanNo,
 ) -> Result<LanSearch, Memory>
     requires flow { flow < length domain.now.topology.flows }
-    requires interfaces { interfaces.now ≡ on_lans domain.now }
+    requires interfaces { interfaces.now ≡ on_lans (facts domain.now) }
     requires flight { flight.now.domain ≡ domain.now }
     requires missed { missed < length domain.now.topology.lans }
     ensures { IfOk result (IsSearched (record {
-      domain = domain.now;
+      domain = facts domain.now;
       flow = flow;
       notes = notes.now;
       copy_on = copy_on flight.now.flight.carried;

@@ -4,6 +4,7 @@ ghost use Rattle.std.specs.Prelude.{◌≡◌, ◌<◌, ◌++◌, OnOk, Some, le
 ghost use Rattle.std.specs.String.{string_bytes};
 ghost use Rattle.mc_topology.specs.declared.flow.Flow.{Flow};
 ghost use Rattle.mc_forward.specs.Domains.{vif_of};
+ghost use Rattle.mc_forward.specs.ListedTables.{facts};
 ghost use Rattle.mc_explain.specs.ExplanationText.{cost_text, reason_text, told_lines, told_text};
 ghost use Rattle.mc_explain.specs.ExplanationText.{stopped_text, unplaced_text};
 ghost use Rattle.mc_explain.specs.declared.told.Told.TheVariants.{SentOnto, Circle, TakeOut, Unplaced};
@@ -44,7 +45,7 @@ struct ShownReason<'v> {
 }
 
 impl<'v> fmt::Display for ShownReason<'v> {
-    ghost output = { λ shown. Some (unplaced_text shown.view.now.domain shown.router
+    ghost output = { λ shown. Some (unplaced_text (facts shown.view.now.domain) shown.router
         (vif_of shown.view.now.domain.tables shown.router shown.vif)) };
 
     fn fmt<W: fmt::Write>(&self, f: &mut fmt::Formatter<W>) -> fmt::Result {
@@ -70,7 +71,7 @@ struct ShownCost<'v> {
 
 impl<'v> fmt::Display for ShownCost<'v> {
     ghost output = { λ shown.
-        Some (cost_text shown.view.now.domain shown.flow.now shown.lan shown.least) };
+        Some (cost_text (facts shown.view.now.domain) shown.flow.now shown.lan shown.least) };
 
     fn fmt<W: fmt::Write>(&self, f: &mut fmt::Formatter<W>) -> fmt::Result {
         let (least, ttl) = (self.least, self.flow.ttl);
@@ -96,7 +97,7 @@ fn push_sent_onto(
     vif: u8,
 ) -> Result<(), AllocError>
     ensures { OnOk result (string_bytes text.new ≡ string_bytes text.old
-        ++ told_text view.now.domain view.now.flow flow.now (SentOnto lan router vif)) }
+        ++ told_text (facts view.now.domain) view.now.flow flow.now (SentOnto lan router vif)) }
 {
     let device = ShownDevice { view, router, vif };
     let row = ShownRow { view, flow, router };
@@ -117,7 +118,7 @@ fn push_circle(
     vif: u8,
 ) -> Result<(), AllocError>
     ensures { OnOk result (string_bytes text.new ≡ string_bytes text.old
-        ++ told_text view.now.domain view.now.flow flow.now (Circle from onto router vif)) }
+        ++ told_text (facts view.now.domain) view.now.flow flow.now (Circle from onto router vif)) }
 {
     let incoming = ShownIncoming { view, router };
     let device = ShownDevice { view, router, vif };
@@ -143,7 +144,7 @@ fn push_take_out(
     least: u8,
 ) -> Result<(), AllocError>
     ensures { OnOk result (string_bytes text.new ≡ string_bytes text.old
-        ++ told_text view.now.domain view.now.flow flow.now (TakeOut lan router vif least)) }
+        ++ told_text (facts view.now.domain) view.now.flow flow.now (TakeOut lan router vif least)) }
 {
     let device = ShownDevice { view, router, vif };
     let cost = ShownCost {
@@ -169,7 +170,7 @@ fn push_unplaced(
     vif: u8,
 ) -> Result<(), AllocError>
     ensures { OnOk result (string_bytes text.new ≡ string_bytes text.old
-        ++ told_text view.now.domain view.now.flow flow.now (Unplaced router vif)) }
+        ++ told_text (facts view.now.domain) view.now.flow flow.now (Unplaced router vif)) }
 {
     let device = ShownDevice { view, router, vif };
     let reason = ShownReason { view, router, vif };
@@ -187,7 +188,7 @@ fn push_least_ttl(
     least: u8,
 ) -> Result<(), AllocError>
     ensures { OnOk result (string_bytes text.new ≡ string_bytes text.old
-        ++ told_text view.now.domain view.now.flow flow.now (LeastTtl lan least)) }
+        ++ told_text (facts view.now.domain) view.now.flow flow.now (LeastTtl lan least)) }
 {
     let lan = view.topology().lan_name_or_empty(lan);
     let ttl = flow.ttl;
@@ -208,7 +209,7 @@ fn push_stopped_at(
     ttl: u8,
 ) -> Result<(), AllocError>
     ensures { OnOk result (string_bytes text.new ≡ string_bytes text.old
-        ++ stopped_text view.now.domain router vif threshold ttl) }
+        ++ stopped_text (facts view.now.domain) router vif threshold ttl) }
 {
     let name = view.topology().router_name_or_empty(router);
     let view = &*view;
@@ -228,7 +229,7 @@ fn push_line(
     told: Told,
 ) -> Result<(), AllocError>
     ensures { OnOk result (string_bytes text.new ≡ string_bytes text.old
-        ++ told_text view.now.domain view.now.flow flow.now told) }
+        ++ told_text (facts view.now.domain) view.now.flow flow.now told) }
 {
     match told {
         Told::SentOnto { lan, router, vif } => push_sent_onto(text, view, flow, lan, router, vif),
@@ -263,7 +264,7 @@ fn push_lines(
     told: &[Told],
 ) -> Result<(), Memory>
     ensures { OnOk result (string_bytes text.new ≡ string_bytes text.old
-        ++ told_lines view.now.domain view.now.flow flow.now told.now) }
+        ++ told_lines (facts view.now.domain) view.now.flow flow.now told.now) }
 {
     for line in told {
         push_line(text, view, flow, *line)?;
@@ -281,7 +282,7 @@ pub fn push_told(text: &mut String, domain: &Domain, flow: u32, told: &[Told]) -
     requires flow { flow < length domain.now.topology.flows }
     ensures lines { OnOk result ((listed : Flow) → slice_get domain.now.topology.flows flow ≡ Some listed
         → string_bytes text.new ≡ string_bytes text.old
-        ++ told_lines domain.now flow listed told.now) }
+        ++ told_lines (facts domain.now) flow listed told.now) }
 {
     let view = FlowView::new(domain, flow);
     push_lines(text, &view, domain.topology().flow(flow), told)

@@ -3,6 +3,7 @@
 ghost use Rattle.std.specs.Prelude.{◌≡◌, ℕ, ◌<◌, ◌≤◌, ◌++◌, ◌||◌, All, IfOk, List, OnOk, false, filter};
 ghost use Rattle.std.specs.Prelude.{is_some, length, slice_index_or};
 ghost use Rattle.std.specs.String.{string_bytes};
+ghost use Rattle.mc_forward.specs.ListedTables.{facts};
 ghost use Rattle.mc_theory.specs.Lists.{below};
 ghost use Rattle.mc_theory.specs.Flights.{Copy};
 ghost use Rattle.mc_theory.specs.Findings.{copy_on};
@@ -20,7 +21,7 @@ const MAX_LANS: usize = 1024;
 
 /// The LANs that want a flow.
 fn wanting(view: &FlowView<'_>) -> LanStart
-    ensures { IsStartOf result (wanting view.now.domain view.now.flow) }
+    ensures { IsStartOf result (wanting (facts view.now.domain) view.now.flow) }
 {
     let mut start = LanStart::new();
     for number in 0..view.lans() {
@@ -41,8 +42,8 @@ fn wanting(view: &FlowView<'_>) -> LanStart
 pub fn push_wanted(text: &mut String, domain: &Domain, flow: u32) -> Result<u32, Memory>
     requires flow { flow < length domain.now.topology.flows }
     ensures line { OnOk result (string_bytes text.new ≡
-        string_bytes text.old ++ wanted_line domain.now flow) }
-    ensures count { IfOk result (λ count. count ≡ length (wanting domain.now flow)) }
+        string_bytes text.old ++ wanted_line (facts domain.now) flow) }
+    ensures count { IfOk result (λ count. count ≡ length (wanting (facts domain.now) flow)) }
 {
     let view = FlowView::new(domain, flow);
     let start = wanting(&view);
@@ -76,7 +77,7 @@ fn is_unmarked(view: &FlowView<'_>, marks: &[bool], missed: LanNo, lan: LanNo) -
     requires listed { lan < length view.now.domain.topology.lans }
     requires marked { lan < length marks.now }
     ensures { (copies : List Copy) → AreMarked marks.now copies →
-        result ≡ is_missed_too view.now.domain view.now.flow copies missed lan }
+        result ≡ is_missed_too (facts view.now.domain) view.now.flow copies missed lan }
 {
     view.wants(lan) && !marks[lan.0 as usize] && lan != missed
 }
@@ -85,7 +86,7 @@ fn is_unmarked(view: &FlowView<'_>, marks: &[bool], missed: LanNo, lan: LanNo) -
 fn unmarked(view: &FlowView<'_>, marks: &[bool], missed: LanNo) -> LanStart
     requires { length view.now.domain.topology.lans ≤ length marks.now }
     ensures { (copies : List Copy) → AreMarked marks.now copies → IsStartOf result
-        (filter (is_missed_too view.now.domain view.now.flow copies missed)
+        (filter (is_missed_too (facts view.now.domain) view.now.flow copies missed)
         (below (length view.now.domain.topology.lans))) }
 {
     let mut start = LanStart::new();
@@ -100,7 +101,8 @@ fn unmarked(view: &FlowView<'_>, marks: &[bool], missed: LanNo) -> LanStart
 
 /// The LANs that aren't this one, want the flow, and carried no copy in a flight.
 fn missed_too(flight: &Flight<'_>, missed: LanNo) -> LanStart
-    ensures { IsStartOf result (missed_too flight.now missed) }
+    ensures { IsStartOf result (missed_too (facts flight.now.domain) flight.now.flow
+        flight.now.flight.carried missed) }
 {
     let view = flight.flow_view();
     let _rules = view.topology();
@@ -117,7 +119,8 @@ fn missed_too(flight: &Flight<'_>, missed: LanNo) -> LanStart
 /// `Memory` where a growth was refused.
 pub fn push_also_missed(text: &mut String, flight: &Flight<'_>, missed: LanNo) -> Result<(), Memory>
     ensures line { OnOk result (string_bytes text.new ≡
-        string_bytes text.old ++ missed_too_line flight.now missed) }
+        string_bytes text.old ++ missed_too_line (facts flight.now.domain)
+        flight.now.flow flight.now.flight.carried missed) }
 {
     let start = missed_too(flight, missed);
     if start.count() > 0 {

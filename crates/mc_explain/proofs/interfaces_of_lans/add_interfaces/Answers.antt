@@ -5,6 +5,7 @@ use Rattle.std.specs.Prelude.{unwrap_or}
 use Rattle.std.proofs.lemmas.List.{length-set, take_more, take_all}
 use Rattle.mc_topology.specs.Rows.{InterfaceRow}
 use Rattle.mc_topology.specs.Topology.{TopologyValue}
+use Rattle.mc_forward.specs.ListedTables.{facts}
 use Rattle.mc_explain.specs.declared.listed_interface.ListedInterface.{ListedInterface}
 use Rattle.mc_explain.specs.Numbered.{Holds}
 use Rattle.mc_explain.specs.TopologyLans.{interface_at, listed_at, listed_of}
@@ -13,7 +14,7 @@ use Rattle.mc_explain.proofs.interfaces_of_lans.add_interfaces.Goals as goal
 
 pub loop-number-preserved : goal.loop-number-preserved
 loop-number-preserved c =
-    let d = c.args.domain.now in
+    let d = facts c.args.domain.now in
     let numbers = c.args.numbers.now in
     let i = c.loop-number.number-index in
     let k = get_or numbers i 0 in
@@ -52,7 +53,7 @@ loop-number-preserved c =
 pub returns-clause-each : goal.returns-clause-each
 returns-clause-each c = λ earlier h.
     let numbers = c.args.numbers.now in
-    subst (λ (ks : List ℕ). Holds (listed_at c.args.domain.now)
+    subst (λ (ks : List ℕ). Holds (listed_at (facts c.args.domain.now))
     (λ (k : ℕ). (interface_at c.args.domain.now.topology k).lan) c.loop-number.lists.items
     (earlier ++ ks)) (take_all c.loop-number.number-index numbers c.loop-number-test.false)
     (c.loop-number.invariant.holds earlier h)

@@ -4,6 +4,7 @@ use Rattle.std.proofs.Common.{get_or, sym, ap, subst, ◌∙◌, arith}
 use Rattle.std.proofs.lemmas.List.{length-map}
 use Rattle.mc_topology.specs.Topology.{TopologyValue}
 use Rattle.mc_theory.specs.Lists.{below}
+use Rattle.mc_forward.specs.ListedTables.{facts}
 use Rattle.mc_forward.proofs.BelowLemmas.{length-below}
 use Rattle.mc_forward.proofs.EachLemmas.{by_number}
 use Rattle.mc_explain.specs.declared.listed_interface.ListedInterface.{ListedInterface}
@@ -23,7 +24,7 @@ by-routers t u xs ys same copied found =
 pub loop-router-init : goal.loop-router-init
 unfolding below
 loop-router-init c =
-    let d = c.args.domain.now in
+    let d = facts c.args.domain.now in
     record {
       count = ap length c.in_ok-lists.ensures
           ∙ length-map {B = List ListedInterface} (below c.lans.result) (λ _. [])
@@ -51,7 +52,7 @@ add_interfaces-requires-clause-numbers c = λ k default lt.
 
 pub loop-router-preserved : goal.loop-router-preserved
 loop-router-preserved c =
-    let d = c.args.domain.now in
+    let d = facts c.args.domain.now in
     let t = d.topology in
     let i = c.loop-router.router-index in
     let count = length t.interfaces in
@@ -73,7 +74,7 @@ loop-router-preserved c =
 
 pub returns : goal.returns
 returns c =
-    let d = c.args.domain.now in
+    let d = facts c.args.domain.now in
     let t = d.topology in
     let count = length t.interfaces in
     let lists = c.loop-router.lists.items in

@@ -1,6 +1,7 @@
 -- Router by router.
 use Rattle.std.proofs.Common.{◌≡◌, ℕ, List, ◌∷◌, inl, inr, map, refl, sym, ap, subst, ◌∙◌, arith}
 use Rattle.mc_theory.specs.Lists.{In}
+use Rattle.mc_forward.specs.ListedTables.{facts}
 use Rattle.mc_explain.specs.declared.listed_interface.ListedInterface.{ListedInterface}
 use Rattle.mc_explain.specs.Searched.{add_met}
 use Rattle.mc_explain.proofs.ReachLemmas.{group-router}
@@ -8,7 +9,7 @@ use Rattle.mc_explain.proofs.reach.add_routers.Goals as goal
 
 pub loop-own-init : goal.loop-own-init
 loop-own-init c =
-    let d = c.args.looking.now.view.now.domain in
+    let d = facts c.args.looking.now.view.now.domain in
     let old = c.args.routers.now.items in
     let same = c.into_iter-own-iterator.ensures.into_iter_gives ∙ c.routers_on-own-items.ensures in
     record {

@@ -3,6 +3,7 @@ use Rattle.std.specs.Prelude.{is_some}
 use Rattle.mc_theory.specs.Lists.{below}
 use Rattle.mc_theory.specs.Findings.{copy_on}
 use Rattle.mc_forward.specs.Journeys.{FlowIn}
+use Rattle.mc_forward.specs.ListedTables.{facts}
 use Rattle.mc_explain.specs.LanStart.{AreMarked, IsStartOf}
 use Rattle.mc_explain.specs.WantedText.{is_missed_too}
 use Rattle.mc_explain.proofs.LanStartLemmas.{unmarked}
@@ -29,6 +30,6 @@ returns c =
     ∙ (ap (λ b. b || is_some (copy_on c.copies.result.now lan)) (unmarked 1024 lan)
     ∙ ap (λ cs. is_some (copy_on cs lan)) c.copies.ensures.copies) in
     subst (λ (v : FlowIn). IsStartOf c.unmarked.result
-    (filter (is_missed_too v.domain v.flow copies c.args.missed)
+    (filter (is_missed_too (facts v.domain) v.flow copies c.args.missed)
     (below (length v.domain.topology.lans)))) c.flow_view-view.ensures
     (c.unmarked.ensures copies marked)

@@ -2,6 +2,7 @@ use Rattle.std.proofs.Common.{◌≡◌, ◌++◌, ◌∙◌, ap, arith, codes, 
 use Rattle.std.specs.String.{string_bytes}
 use Rattle.mc_topology.specs.Topology.{TopologyValue}
 use Rattle.mc_forward.specs.Journeys.{FlowIn}
+use Rattle.mc_forward.specs.ListedTables.{facts}
 use Rattle.mc_explain.specs.LanStart.{start_text}
 use Rattle.mc_explain.specs.WantedText.{wanted_line, wanted_text, wanting}
 use Rattle.mc_explain.proofs.LanStartLemmas.{wanted-some}
@@ -19,8 +20,8 @@ returns-in_ok-writeln-clause-line c =
     c.in_ok-writeln.ensures.bytes in
     written
     ∙ ap (λ line. old ++ line)
-    (wanted-some topology start count (wanting view.domain view.flow) c.wanting-start.ensures
+    (wanted-some topology start count (wanting (facts view.domain) view.flow) c.wanting-start.ensures
     c.count-count.ensures (let some = c.if-count-eq0.false in omega (arith, some))
-    ∙ (ap (λ (t : TopologyValue). wanted_text t (wanting view.domain view.flow))
+    ∙ (ap (λ (t : TopologyValue). wanted_text t (wanting (facts view.domain) view.flow))
     c.topology.ensures.topology
-    ∙ ap (λ (v : FlowIn). wanted_line v.domain v.flow) c.new-view.ensures.flow))
+    ∙ ap (λ (v : FlowIn). wanted_line (facts v.domain) v.flow) c.new-view.ensures.flow))

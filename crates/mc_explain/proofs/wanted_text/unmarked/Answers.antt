@@ -1,6 +1,7 @@
 use Rattle.std.proofs.Common.{ℕ, ◌∙◌, Bool, List, sym, arith}
 use Rattle.mc_theory.specs.Lists.{below}
 use Rattle.mc_theory.specs.Flights.{Copy}
+use Rattle.mc_forward.specs.ListedTables.{facts}
 use Rattle.mc_explain.specs.WantedText.{is_missed_too}
 use Rattle.mc_explain.proofs.LanStartLemmas.{start-passed, start-passed_not}
 use Rattle.mc_explain.proofs.wanted_text.unmarked.Goals as goal
@@ -17,7 +18,7 @@ pub loop-number-preserved : goal.loop-number-preserved
 loop-number-preserved c =
     let view = c.args.view.now in
     let missed_too : List Copy → ℕ → Bool =
-    λ copies. is_missed_too view.domain view.flow copies c.args.missed in
+    λ copies. is_missed_too (facts view.domain) view.flow copies c.args.missed in
     let n = c.loop-number.number in
     let now = c.loop-number.invariant in
     elim c.if-is_unmarked.branch [

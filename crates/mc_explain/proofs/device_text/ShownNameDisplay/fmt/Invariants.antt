@@ -1,6 +1,6 @@
 use Rattle.std.proofs.Common.{take}
 use Rattle.std.specs.Fmt.{HasWritten, IsPlainFormatter}
-use Rattle.mc_explain.specs.ExplanationText.{name_text}
+use Rattle.mc_explain.specs.RowText.{name_text}
 use Rattle.mc_explain.proofs.device_text.ShownNameDisplay.fmt.Given as goal
 
 -- the bytes so far are written

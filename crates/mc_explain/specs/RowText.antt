@@ -1,0 +1,73 @@
+-- How a router's devices and its rows are written, by the names of the topology and of the vif
+-- tables.
+use Rattle.std.specs.Prelude.{ℕ, ◌+◌, ◌/◌, ◌%◌, ◌==◌, ◌&&◌, not, nat_le, Bool, List, [], ◌∷◌, ◌++◌, Option}
+use Rattle.std.specs.Prelude.{Some, None, if◌then◌else◌, codes, decimal, flat_map}
+use Rattle.std.specs.Str.{bytes_eq}
+use Rattle.mc_text.specs.Addr.{dotted}
+use Rattle.mc_tables.specs.VifTable.{VifText, no_device}
+use Rattle.mc_topology.specs.declared.flow.Flow.{Flow}
+use Rattle.mc_topology.specs.Topology.{router_name}
+use Rattle.mc_theory.specs.Nets.{Row}
+use Rattle.mc_theory.specs.Nets.Row.{Exact, Open, NoRow}
+use Rattle.mc_forward.specs.ListedTables.{DomainFacts}
+
+-- ---- devices
+
+-- a digit of two small hexadecimal ones
+abbrev pub hex_digit_of : ℕ → ℕ
+hex_digit_of d = if nat_le d 9 then 48 + d else 87 + d
+
+-- a byte that is written as it is: from 0x21 to 0x7e, but for the backslash
+abbrev pub is_plain : ℕ → Bool
+is_plain b = (nat_le 0x21 b && nat_le b 0x7e) && not (b == 0x5c)
+
+-- a byte of a device's name; one that isn't plain is written `\xhh`
+abbrev pub byte_text : ℕ → List ℕ
+byte_text b =
+    if is_plain b
+    then b ∷ []
+    else codes "\\x" ++ (hex_digit_of (b / 16) ∷ hex_digit_of (b % 16) ∷ [])
+
+abbrev pub name_text : List ℕ → List ℕ
+name_text name = flat_map byte_text name
+
+-- a vif by its number, where its table has no line for it or no device
+abbrev pub vif_number_text : ℕ → List ℕ
+vif_number_text vif = codes "vif/" ++ decimal vif
+
+abbrev pub device_text_of : (vif : ℕ) → Option VifText → List ℕ
+device_text_of vif None = vif_number_text vif
+device_text_of vif (Some v) =
+    if bytes_eq v.device no_device then vif_number_text vif else name_text v.device
+
+-- the device of a router's vif, as `eth1`
+abbrev pub device_text : DomainFacts → (router vif : ℕ) → List ℕ
+device_text d router vif = device_text_of vif (d.vifs router vif)
+
+-- ---- rows
+
+-- a row's outgoing vif with its threshold, if that isn't 1
+abbrev pub pair_text : DomainFacts → (router : ℕ) → ℕ × ℕ → List ℕ
+pair_text d router p =
+    codes " " ++ (device_text d router p.0
+    ++ (if p.1 == 1 then [] else codes ":" ++ decimal p.1))
+
+abbrev pub pairs_text : DomainFacts → (router : ℕ) → List (ℕ × ℕ) → List ℕ
+pairs_text d router [] = codes " none"
+pairs_text d router (p ∷ ps) = flat_map (pair_text d router) (p ∷ ps)
+
+-- a router's row for a flow, as `row (10.0.0.5,239.1.2.3) from eth0 to eth1 eth2:5 in cache-r1`
+abbrev pub row_text : DomainFacts → Flow → (router : ℕ) → Row → List ℕ
+row_text d f router (Exact incoming pairs) =
+    codes "row (" ++ (dotted f.source ++ (codes "," ++ (dotted f.group
+    ++ (codes ") from " ++ (device_text d router incoming
+    ++ (codes " to" ++ (pairs_text d router pairs
+    ++ (codes " in cache-" ++ router_name d.topology router))))))))
+row_text d f router Open = []
+row_text d f router NoRow = []
+
+-- the device that a row takes from
+abbrev pub incoming_text : DomainFacts → (router : ℕ) → Row → List ℕ
+incoming_text d router (Exact incoming pairs) = device_text d router incoming
+incoming_text d router Open = []
+incoming_text d router NoRow = []

@@ -23,14 +23,6 @@ files_mean files v d read kept rules =
     let stands = files_take files v read in
     kept_means FilesStand files stands.parts None v d stands stands.stand kept rules
 
-pub means_of_files : (o : Option (List FileText)) (r : Result DomainValue SourceFault)
-    → GivesKeptOf o IsDomainOf r files_of → IfOk r IsDomain
-    → IfOk r (λ d. IfSome o (λ files. FilesMeanListed files d))
-means_of_files None (Ok d) keeps rules = tt
-means_of_files (Some files) (Ok d) keeps rules =
-    let read = keeps files refl in files_mean files read.0 d read.1 read.2 rules
-means_of_files o (Err fault) keeps rules = tt
-
 -- files that mean a domain are not refused
 never_refused : (files : List FileText) (d : DomainValue) (fault : SourceFault)
     → MeansFiles files d → files_of files ≡ Err fault → ⊥
@@ -41,19 +33,39 @@ never_refused files d fault means refused =
         → (let r : Result InputValue SourceFault = Ok v in r) ≡ Err fault → ⊥
     absurd_of e = cc
 
-pub only_of_files : (o : Option (List FileText)) (r : Result DomainValue SourceFault)
-    → GivesKeptOf o IsDomainOf r files_of → IfOk r IsDomain → (files : List FileText) (d : DomainValue)
-    → o ≡ Some files → MeansFiles files d → MatchResult r (SaysTheSame d) IsSilent
-only_of_files o (Ok own) keeps rules files d told means =
-    let read = keeps files told in
-    let listed = files_mean files read.0 own read.1 read.2 rules in
-    subst (λ e. SaysTheSame e own) (one_of_files files listed.whole d listed.means means) listed.same
-only_of_files o (Err fault) keeps rules files d told means =
-    silent_of fault (files_of files ≡ Err fault) (keeps files told) (never_refused files d fault means)
+module _ {X : Type 0} (d : X → DomainValue) where
+  pub means_of_files : (o : Option (List FileText)) (r : Result X SourceFault)
+      → GivesKeptOf o (λ x. IsDomainOf (d x)) r files_of → IfOk r (λ x. IsDomain (d x))
+      → IfOk r (λ x. IfSome o (λ files. FilesMeanListed files (d x)))
+  means_of_files None (Ok x) keeps rules = tt
+  means_of_files (Some files) (Ok x) keeps rules =
+      let read = keeps files refl in files_mean files read.0 (d x) read.1 read.2 rules
+  means_of_files o (Err fault) keeps rules = tt
 
-pub refused_of_files : (o : Option (List FileText)) (r : Result DomainValue SourceFault)
-    → GivesKeptOf o IsDomainOf r files_of
-    → IfErr r (λ fault. IfSome o (λ files. ¬ IsSilent fault → files_of files ≡ Err fault))
-refused_of_files o (Ok d) keeps = tt
-refused_of_files None (Err fault) keeps = tt
-refused_of_files (Some files) (Err fault) keeps = keeps files refl
+  pub only_of_files : (o : Option (List FileText)) (r : Result X SourceFault)
+      → GivesKeptOf o (λ x. IsDomainOf (d x)) r files_of → IfOk r (λ x. IsDomain (d x))
+      → (files : List FileText) (domain : DomainValue) → o ≡ Some files → MeansFiles files domain
+      → MatchResult r (λ x. SaysTheSame domain (d x)) IsSilent
+  only_of_files o (Ok x) keeps rules files domain told means =
+      let read = keeps files told in
+      let listed = files_mean files read.0 (d x) read.1 read.2 rules in
+      subst (λ e. SaysTheSame e (d x))
+      (one_of_files files listed.whole domain listed.means means) listed.same
+  only_of_files o (Err fault) keeps rules files domain told means =
+      silent_of fault (files_of files ≡ Err fault) (keeps files told)
+      (never_refused files domain fault means)
+
+  pub refused_of_files : (o : Option (List FileText)) (r : Result X SourceFault)
+      → GivesKeptOf o (λ x. IsDomainOf (d x)) r files_of
+      → IfErr r (λ fault. IfSome o (λ files. ¬ IsSilent fault → files_of files ≡ Err fault))
+  refused_of_files o (Ok x) keeps = tt
+  refused_of_files None (Err fault) keeps = tt
+  refused_of_files (Some files) (Err fault) keeps = keeps files refl
+
+-- what holds of an answer where these are the files, holds where files are told
+pub told_of : {X : Type 0} {P : List FileText → X → Type 0} (o : Option (List FileText))
+    (r : Result X SourceFault) → ((files : List FileText) → o ≡ Some files → IfOk r (P files))
+    → IfOk r (λ x. IfSome o (λ files. P files x))
+told_of None (Ok x) holds = tt
+told_of (Some files) (Ok x) holds = holds files refl
+told_of o (Err fault) holds = tt

@@ -10,6 +10,7 @@ pub mod OneDomain
 mod InTurnLemmas
 mod KeptLemmas
 mod MeansLemmas
+mod NotesLemmas
 mod OneInput
 mod ReadLemmas
 mod ReadingLemmas

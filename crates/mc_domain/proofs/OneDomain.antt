@@ -17,7 +17,8 @@ use Rattle.mc_domain.proofs.OneInput.{one_input, one_input_of_files}
 
 -- ---- what is assembled of an input is one domain
 
-lists_same : {A : Type 0} (xs ys : List A) → length xs ≡ length ys
+-- two lists with the same items
+pub lists_same : {A : Type 0} (xs ys : List A) → length xs ≡ length ys
     → ((k : ℕ) (x y : A) → slice_get xs k ≡ Some x → slice_get ys k ≡ Some y → x ≡ y) → xs ≡ ys
 lists_same [] [] count each = refl
 lists_same [] (y ∷ ys) count each = absurd (omega (arith, count))

@@ -32,7 +32,7 @@ pub drop-at : {A : Type 0} (xs : List A) (i : ℕ) (x : A) → slice_get xs i �
 drop-at xs i x e = rw (add-one) (drop-suc xs i x e)
 
 -- a router with this name and this byte order stands at the place
-router-at : (rs : List RouterRow) (i : ℕ) (name : List ℕ) (order : Order)
+pub router-at : (rs : List RouterRow) (i : ℕ) (name : List ℕ) (order : Order)
     → option_map (λ r. r.name) (slice_get rs i) ≡ Some name
     → option_map (λ r. r.order) (slice_get rs i) ≡ Some order
     → (r : RouterRow) × (slice_get rs i ≡ Some r) × (r.name ≡ name) × (r.order ≡ order)

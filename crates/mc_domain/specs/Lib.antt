@@ -7,6 +7,7 @@ pub mod PartsReading
 pub mod SourceFault
 pub mod FilesInput
 pub mod FilesReading
+pub mod NotesOfFiles
 pub mod Meaning
 pub use Rattle.mc_text.specs.Bundle
 pub use Rattle.mc_text.specs.BundleReading
@@ -20,6 +21,7 @@ pub use Rattle.mc_tables.specs.VifReading
 pub use Rattle.mc_tables.specs.CacheTable
 pub use Rattle.mc_tables.specs.CacheReading
 pub use Rattle.mc_tables.specs.ListedRows
+pub use Rattle.mc_tables.specs.Notes
 pub use Rattle.mc_igmp.specs.ReportList
 pub use Rattle.mc_igmp.specs.ReadingList
 pub use Rattle.mc_topology.specs.Topology

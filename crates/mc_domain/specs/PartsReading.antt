@@ -11,6 +11,8 @@ use Rattle.mc_tables.specs.VifTable.{VifText}
 use Rattle.mc_tables.specs.CacheTable.{CacheText}
 use Rattle.mc_tables.specs.VifReading.{vifs_in}
 use Rattle.mc_tables.specs.CacheReading.{cache_in}
+use Rattle.mc_tables.specs.NotedReading.{noted_in}
+use Rattle.mc_tables.specs.declared.noted_cache.NotedCache.{NotedCache}
 use Rattle.mc_igmp.specs.declared.record.Record.{Record}
 use Rattle.mc_igmp.specs.ReadingList.{read_list}
 use Rattle.mc_topology.specs.Rows.{RouterRow}
@@ -35,6 +37,10 @@ vifs_of part = refused_as (Vif part.name) (vifs_in part.bytes)
 -- the forwarding cache of a router
 abbrev pub cache_of : Order → PartText → Result CacheText InputFault
 cache_of order part = refused_as (Cache part.name) (cache_in order part.bytes)
+
+-- the entries of these sources and groups, and what is noted of all rows for them
+abbrev pub noted_of : Order → List (ℕ × ℕ) → PartText → Result NotedCache InputFault
+noted_of order pairs part = refused_as (Cache part.name) (noted_in order pairs part.bytes)
 
 -- the records of a LAN's reports
 abbrev pub reports_of : PartText → Result (List Record) InputFault

@@ -15,6 +15,7 @@ ghost use Rattle.mc_domain.specs.InputReading.{input_of};
 ghost use Rattle.mc_domain.specs.InputView.{text_seen};
 ghost use Rattle.mc_domain.specs.Kept.{IsDomainOf, GivesKeptOf};
 ghost use Rattle.mc_domain.specs.Meaning.{FilesMeanListed, MeansDomain, MeansFiles, MeansListed};
+ghost use Rattle.mc_domain.specs.NotesOfFiles.{AreNotesOf};
 ghost use Rattle.mc_domain.specs.PartsInTurn.{IsReadOf, Refuses, told_in};
 ghost use Rattle.mc_domain.specs.SourceFault.{IsSilent, is_read};
 ghost use Rattle.mc_domain.specs.declared.source_fault.SourceFault.TheVariants.{Input as refused};
@@ -26,6 +27,7 @@ use crate::files::contents_in as contents_of_files;
 use crate::source_fault::SourceFault;
 use mc_forward::Domain;
 use mc_layout::PieceSource;
+use mc_tables::CacheNotes;
 use mc_text::{Input, Parts};
 use std::alloc::Global;
 
@@ -141,47 +143,68 @@ pub fn domain_in<R: Input>(
     read_through(alloc, input, &mut buffer, certified)
 }
 
-/// The domain that files tell, which but for the topology are read in pieces through the buffer.
+/// A domain, and what is noted of each router's cache, the first router's first.
+#[derive(Drop)]
+pub struct NotedDomain {
+    /// The domain.
+    pub domain: Domain,
+    /// The notes of each router's cache.
+    pub notes: Vec<CacheNotes>,
+}
+
+/// The domain that files tell, which but for the topology are read in pieces through the buffer, and
+/// what is noted of the caches.
 fn files_through<F: PieceSource>(
     alloc: Global,
     files: &mut F,
     buffer: &mut [u8],
-) -> Result<Domain, SourceFault>
+) -> Result<NotedDomain, SourceFault>
     requires room { 0 < length buffer.old }
     requires reads { F.failed files.old < u64.MAX }
     ensures same { F.names files.new ≡ F.names files.old }
     ensures kept { F.told files.new ≡ F.told files.old }
-    ensures domain { GivesKeptOf (F.told files.old) IsDomainOf result files_of }
-    ensures rules { IfOk result IsDomain }
+    ensures domain { GivesKeptOf (F.told files.old) (λ read. IsDomainOf read.domain) result files_of }
+    ensures rules { IfOk result (λ read. IsDomain read.domain) }
+    ensures notes { (told : List FileText) → F.told files.old ≡ Some told →
+        IfOk result (λ read. AreNotesOf told read.domain.topology read.notes.items) }
     ensures failures { F.failed files.new ≡ counted is_read result (F.failed files.old) }
 {
     let topology = topology_of_files(alloc, files)?;
     let listed = contents_of_files(alloc, files, buffer, &topology)?;
-    Ok(Domain::of_wants(alloc, topology, listed.0, listed.1)?)
+    let notes = listed.notes;
+    let domain = Domain::of_wants(alloc, topology, listed.tables, listed.wants)?;
+    Ok(NotedDomain { domain, notes })
 }
 
 /// Reads the domain that a folder's files mean: `topology`, `vif-<router>` and `cache-<router>` for
 /// each router, and `igmp-<lan>` for each LAN, each in the order of the topology. Each file may have
 /// 16,777,216 bytes, and is judged before the next one is asked for. Tables and report lists are read
-/// as they come, and of a cache the rows of listed flows are kept. The count of the source's failures
-/// has to be below `u64::MAX`.
+/// as they come, and of a cache the rows of listed flows are kept, with what is noted of all rows. The
+/// count of the source's failures has to be below `u64::MAX`.
 ///
 /// # Errors
 ///
 /// The first fault in this order: `Read` where a file isn't there or can't be read, `Input` with
 /// `TooLarge` where it has too many bytes, and `Input` with what is wrong in it. Or `Input` with
 /// `Memory` where memory ran out.
-pub fn domain_of<F: PieceSource>(alloc: Global, files: &mut F) -> Result<Domain, SourceFault>
+pub fn noted_domain_of<F: PieceSource>(
+    alloc: Global,
+    files: &mut F,
+) -> Result<NotedDomain, SourceFault>
     requires { F.failed files.old < u64.MAX }
     ensures same { F.names files.new ≡ F.names files.old }
     ensures kept { F.told files.new ≡ F.told files.old }
     // The files mean a domain, and what was read says the same of each flow.
-    ensures means { IfOk result (λ domain.
-        IfSome (F.told files.old) (λ told. FilesMeanListed told domain)) }
-    ensures rules { IfOk result IsDomain }
+    ensures means { IfOk result (λ read.
+        IfSome (F.told files.old) (λ told. FilesMeanListed told read.domain)) }
+    ensures rules { IfOk result (λ read. IsDomain read.domain) }
     // Files that mean a domain are read, and as that, unless the source fails or memory runs out.
     ensures only { (told : List FileText) (domain : DomainValue) → F.told files.old ≡ Some told →
-        MeansFiles told domain → MatchResult result (SaysTheSame domain) IsSilent }
+        MeansFiles told domain → MatchResult result (λ read. SaysTheSame domain read.domain)
+        IsSilent }
+    // Each router's notes are of the rows in its own file, for the flows of the topology.
+    ensures notes { IfOk result (λ read. IfSome (F.told files.old) (λ told.
+        AreNotesOf told read.domain.topology read.notes.items)) }
     // Which fault it is, unless the source fails or memory runs out.
     ensures fault { IfErr result (λ fault. IfSome (F.told files.old) (λ told.
         ¬ IsSilent fault → files_of told ≡ Err fault)) }

@@ -8,10 +8,10 @@ use crate::domain::PIECE;
 use crate::fault::InputFault;
 use crate::file_part::{cache_in, topology_in, vifs_in, wanted_in};
 use crate::source_fault::SourceFault;
-use crate::told::listed_flows;
+use crate::told::noted_flows;
 use mc_forward::FlowChannels;
 use mc_layout::{PieceSource, Slot, Unread, may_be_asked};
-use mc_tables::ListedPairs;
+use mc_tables::NotedPairs;
 use mc_text::{Memory, Order};
 use mc_topology::{LanNo, RouterNo, Topology};
 use std::alloc::Global;
@@ -94,7 +94,7 @@ fn judge_cache<F: PieceSource>(
     alloc: Global,
     files: &mut F,
     buffer: &mut [u8],
-    listed: &ListedPairs,
+    listed: &NotedPairs,
     router: &str,
     order: Order,
     refused: &mut Vec<RefusedFile>,
@@ -138,7 +138,7 @@ fn judge_routers<F: PieceSource>(
 ) -> Result<(), Memory>
     requires room { 0 < length buffer.old }
 {
-    let Ok(listed) = listed_flows(alloc, topology) else {
+    let Ok(listed) = noted_flows(alloc, topology) else {
         return Err(Memory);
     };
     for router in 0..topology.routers() {

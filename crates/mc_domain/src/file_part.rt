@@ -1,15 +1,14 @@
 //! What is kept of what one file of a folder tells, as the part that it makes.
 
-ghost use Rattle.std.specs.Prelude.{◌≡◌, ◌<◌, ℕ, List, IfOk, IsTrue, Some, length};
+ghost use Rattle.std.specs.Prelude.{◌≡◌, ◌<◌, ℕ, List, IfOk, IsTrue, length};
 ghost use Rattle.mc_text.specs.Device.{counted};
-ghost use Rattle.mc_tables.specs.ListedRows.{IsListedPart};
 ghost use Rattle.mc_topology.specs.Names.{is_name};
 ghost use Rattle.mc_forward.specs.Assembling.{AreChannelsWanted};
 ghost use Rattle.mc_layout.specs.Layout.{cache_slot, reports_slot, topology_slot, vif_slot};
 ghost use Rattle.mc_domain.specs.SourceFault.{GivesOf, is_read};
 ghost use Rattle.mc_domain.specs.FilesReading.{part_filed};
 ghost use Rattle.mc_domain.specs.Kept.{AreSamePairs, GivesKeptOf};
-ghost use Rattle.mc_domain.specs.PartsReading.{cache_of as told_cache, reports_of as told_reports, told_by};
+ghost use Rattle.mc_domain.specs.PartsReading.{noted_of as told_noted, reports_of as told_reports, told_by};
 ghost use Rattle.mc_domain.specs.PartsReading.{topology_of as told_topology, vifs_of as told_vifs};
 ghost use Rattle.mc_domain.specs.declared.source_fault.SourceFault.TheVariants.{Input};
 
@@ -19,7 +18,7 @@ use crate::told::{cache_told, topology_of, vifs_told, wanted_told};
 use mc_forward::{FlowChannels, Items};
 use mc_igmp::ListReader;
 use mc_layout::{FileSource, PieceSource, Slot, part_of_file};
-use mc_tables::{CacheReader, CacheTable, ListedPairs, VifReader, VifTable};
+use mc_tables::{NotedCache, NotedPairs, NotedReader, VifReader, VifTable};
 use mc_text::Order;
 use mc_topology::Topology;
 use std::alloc::Global;
@@ -62,26 +61,26 @@ pub(crate) fn vifs_in<F: PieceSource>(
 }
 
 /// The forwarding cache of a router, in the file `cache-<router>`, of which the rows of listed
-/// sources and groups are kept.
+/// sources and groups are kept, with what is noted of all rows for those.
 pub(crate) fn cache_in<F: PieceSource>(
     alloc: Global,
     files: &mut F,
     buffer: &mut [u8],
-    listed: &ListedPairs,
+    listed: &NotedPairs,
     router: &str,
     order: Order,
-) -> Result<CacheTable, SourceFault>
+) -> Result<NotedCache, SourceFault>
     requires name { IsTrue (is_name router.now) }
     requires room { 0 < length buffer.old }
     requires reads { F.failed files.old < u64.MAX }
     ensures same { F.names files.new ≡ F.names files.old }
     ensures kept { F.told files.new ≡ F.told files.old }
     ensures cache { (n : ℕ) (pairs : List (ℕ × ℕ)) → AreSamePairs listed.now pairs →
-        GivesKeptOf (F.told files.old) (IsListedPart (Some pairs)) result
-        (λ told. told_by Input (part_filed told n (cache_slot router.now)) (told_cache order)) }
+        GivesKeptOf (F.told files.old) (λ kept noted. kept ≡ noted) result (λ told.
+        told_by Input (part_filed told n (cache_slot router.now)) (told_noted order pairs)) }
     ensures failures { F.failed files.new ≡ counted is_read result (F.failed files.old) }
 {
-    let mut reader = CacheReader::new(alloc, order, listed.clone()?);
+    let mut reader = NotedReader::new(alloc, order, listed.clone()?);
     let name = feed_slot(alloc, files, &Slot::cache(router), buffer, &mut reader)?;
     Ok(cache_told(name, reader.finish())?)
 }

@@ -1,80 +1,102 @@
 //! What a folder's files tell of a domain. The files are read one after another: each is judged
 //! before the next one is asked for, its text is let go, and of a table the rows of listed flows are
-//! kept.
+//! kept, with what is noted of all.
 
-ghost use Rattle.std.specs.Prelude.{◌≡◌, ◌<◌, ℕ, List, IfOk, IsTrue, length};
+ghost use Rattle.std.specs.Prelude.{◌≡◌, ◌<◌, ℕ, List, IfOk, IsTrue, Some, length};
 ghost use Rattle.mc_text.specs.Device.{counted};
 ghost use Rattle.mc_topology.specs.Names.{is_name};
+ghost use Rattle.mc_topology.specs.Rows.{RouterRow};
 ghost use Rattle.mc_topology.specs.declared.flow.Flow.{Flow};
 ghost use Rattle.mc_forward.specs.Assembling.{AreAnswers};
 ghost use Rattle.mc_forward.specs.ListedTables.{AreListed, AreListedTables};
+ghost use Rattle.mc_layout.specs.Files.{FileText};
 ghost use Rattle.mc_domain.specs.SourceFault.{is_read};
 ghost use Rattle.mc_domain.specs.FilesReading.{part_filed};
 ghost use Rattle.mc_domain.specs.Kept.{AreFlowPairs, AreWantedBy, IsListedOf, GivesKeptOf};
+ghost use Rattle.mc_domain.specs.NotesOfFiles.{AreNotes, AreNotesOf};
 ghost use Rattle.mc_domain.specs.PartsReading.{all_reports, all_tables, contents, lans_number};
 ghost use Rattle.mc_domain.specs.PartsReading.{router_tables};
 ghost use Rattle.mc_domain.specs.declared.source_fault.SourceFault.TheVariants.{Input};
 
 use crate::file_part::{cache_in, vifs_in, wanted_in};
 use crate::source_fault::SourceFault;
-use crate::told::listed_flows;
+use crate::told::noted_flows;
 use mc_forward::{FlowChannels, Items, Tables};
 use mc_layout::PieceSource;
-use mc_tables::ListedPairs;
+use mc_tables::{CacheNotes, NotedPairs};
 use mc_text::Order;
 use mc_topology::{LanNo, RouterNo, Topology};
 use std::alloc::Global;
 
-/// Both tables of a router.
+/// What is kept of the files beside the topology.
+#[derive(Drop)]
+pub(crate) struct NotedContents {
+    /// Of each router the vifs, and of its cache what it says of the flows.
+    pub(crate) tables: Vec<Tables>,
+    /// What is noted of each router's cache.
+    pub(crate) notes: Vec<CacheNotes>,
+    /// For each LAN, which flows it wants.
+    pub(crate) wants: Vec<Items<bool>>,
+}
+
+/// Both tables of a router, and what is noted of its cache.
 fn tables_of<F: PieceSource>(
     alloc: Global,
     files: &mut F,
     buffer: &mut [u8],
-    listed: &ListedPairs,
+    listed: &NotedPairs,
     router: &str,
     order: Order,
-) -> Result<Tables, SourceFault>
+) -> Result<(Tables, CacheNotes), SourceFault>
     requires name { IsTrue (is_name router.now) }
     requires room { 0 < length buffer.old }
     requires reads { F.failed files.old < u64.MAX }
     ensures same { F.names files.new ≡ F.names files.old }
     ensures kept { F.told files.new ≡ F.told files.old }
     ensures tables { (n : ℕ) (flows : List Flow) → AreFlowPairs flows listed.now →
-        GivesKeptOf (F.told files.old) (AreListedTables flows) result
+        GivesKeptOf (F.told files.old) (λ read whole. AreListedTables flows read.0 whole) result
         (λ told. router_tables Input (part_filed told) n router.now order) }
+    ensures notes { (flows : List Flow) (told : List FileText) → AreFlowPairs flows listed.now →
+        F.told files.old ≡ Some told → IfOk result (λ read. (r : RouterRow) →
+        r.name ≡ router.now → r.order ≡ order → AreNotes told flows r read.1) }
     ensures failures { F.failed files.new ≡ counted is_read result (F.failed files.old) }
 {
     let vifs = vifs_in(alloc, files, buffer, router)?;
     let cache = cache_in(alloc, files, buffer, listed, router, order)?;
-    Ok(Tables { vifs, cache })
+    let table = cache.table;
+    Ok((Tables { vifs, cache: table }, cache.notes))
 }
 
-/// The tables of each router.
+/// The tables of each router, and what is noted of its cache.
 fn tables_in<F: PieceSource>(
     alloc: Global,
     files: &mut F,
     buffer: &mut [u8],
     topology: &Topology,
-) -> Result<Vec<Tables>, SourceFault>
+) -> Result<(Vec<Tables>, Vec<CacheNotes>), SourceFault>
     requires room { 0 < length buffer.old }
     requires reads { F.failed files.old < u64.MAX }
     ensures same { F.names files.new ≡ F.names files.old }
     ensures kept { F.told files.new ≡ F.told files.old }
     ensures tables { GivesKeptOf (F.told files.old)
-        (λ tables wholes. AreListed topology.now.flows tables.items wholes) result
+        (λ read wholes. AreListed topology.now.flows read.0.items wholes) result
         (λ told. all_tables Input (part_filed told) 1 topology.now.routers) }
-    ensures count { IfOk result (λ tables.
-        length tables.items ≡ length topology.now.routers) }
+    ensures notes { (told : List FileText) → F.told files.old ≡ Some told →
+        IfOk result (λ read. AreNotesOf told topology.now read.1.items) }
+    ensures count { IfOk result (λ read. length read.0.items ≡ length topology.now.routers) }
     ensures failures { F.failed files.new ≡ counted is_read result (F.failed files.old) }
 {
-    let listed = listed_flows(alloc, topology)?;
+    let listed = noted_flows(alloc, topology)?;
     let mut tables = Vec::new(alloc);
+    let mut notes = Vec::new(alloc);
     for router in 0..topology.routers() {
         let name = topology.router_name(RouterNo(router));
         let order = topology.order(RouterNo(router));
-        tables.push(tables_of(alloc, files, buffer, &listed, name, order)?)?;
+        let own = tables_of(alloc, files, buffer, &listed, name, order)?;
+        tables.push(own.0)?;
+        notes.push(own.1)?;
     }
-    Ok(tables)
+    Ok((tables, notes))
 }
 
 /// Which flows each LAN wants.
@@ -103,27 +125,32 @@ fn wants_in<F: PieceSource>(
     Ok(wants)
 }
 
-/// What is kept of the files beside the topology, which are read one after another: of each router
-/// the vifs and what its cache says of the flows, and for each LAN which flows it wants.
+/// What is kept of the files beside the topology, which are read one after another.
 pub(crate) fn contents_in<F: PieceSource>(
     alloc: Global,
     files: &mut F,
     buffer: &mut [u8],
     topology: &Topology,
-) -> Result<(Vec<Tables>, Vec<Items<bool>>), SourceFault>
+) -> Result<NotedContents, SourceFault>
     requires room { 0 < length buffer.old }
     requires reads { F.failed files.old < u64.MAX }
     ensures same { F.names files.new ≡ F.names files.old }
     ensures kept { F.told files.new ≡ F.told files.old }
     ensures contents { GivesKeptOf (F.told files.old)
-        (λ listed input. IsListedOf input topology.now listed.0.items listed.1.items) result
+        (λ listed input. IsListedOf input topology.now listed.tables.items listed.wants.items) result
         (λ told. contents Input (part_filed told) topology.now) }
+    ensures notes { (told : List FileText) → F.told files.old ≡ Some told →
+        IfOk result (λ listed. AreNotesOf told topology.now listed.notes.items) }
     ensures count { IfOk result (λ listed.
-        length listed.0.items ≡ length topology.now.routers) }
-    ensures answers { IfOk result (λ listed. AreAnswers topology.now listed.1.items) }
+        length listed.tables.items ≡ length topology.now.routers) }
+    ensures answers { IfOk result (λ listed. AreAnswers topology.now listed.wants.items) }
     ensures failures { F.failed files.new ≡ counted is_read result (F.failed files.old) }
 {
     let tables = tables_in(alloc, files, buffer, topology)?;
     let wants = wants_in(alloc, files, buffer, topology)?;
-    Ok((tables, wants))
+    Ok(NotedContents {
+        tables: tables.0,
+        notes: tables.1,
+        wants,
+    })
 }

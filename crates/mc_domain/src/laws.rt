@@ -2,10 +2,13 @@
 
 ghost use Rattle.std.specs.Prelude.{◌≡◌, ℕ, false, is_some, List, None, Option};
 ghost use Rattle.mc_text.specs.Bundle.{PartText, IsBundle};
+ghost use Rattle.mc_tables.specs.Notes.{NotesText};
+ghost use Rattle.mc_topology.specs.Topology.{TopologyValue};
 ghost use Rattle.mc_layout.specs.Files.{FileText};
 ghost use Rattle.mc_layout.specs.Packing.{IsPacked};
 ghost use Rattle.mc_domain.specs.FilesInput.{FilesStand};
 ghost use Rattle.mc_domain.specs.Input.{InputValue, InputStands};
+ghost use Rattle.mc_domain.specs.NotesOfFiles.{AreNotesOf};
 
 /// The text of a bundle stands for one input at most, and one text of a certificate, where each has
 /// one or neither has.
@@ -22,6 +25,12 @@ pub fn texts_stand_for_one_input()
 pub fn files_stand_for_one_input()
     ensures { (files : List FileText) (a b : InputValue) → FilesStand files a → FilesStand files b
         → a ≡ b }
+{}
+
+/// Of one folder's files and one topology one list of notes is told at most.
+pub fn notes_are_determined()
+    ensures { (files : List FileText) (t : TopologyValue) (a b : List NotesText) →
+        AreNotesOf files t a → AreNotesOf files t b → a ≡ b }
 {}
 
 /// The bundle that is packed of files without a certificate stands for the input that the files

@@ -17,10 +17,11 @@ mod slot_part;
 mod source_fault;
 mod told;
 
-pub use domain::{DomainRead, PIECE, domain_in, domain_of};
+pub use domain::{DomainRead, NotedDomain, PIECE, domain_in, noted_domain_of};
 pub use each_file::{Refusal, RefusedFile, refused_files};
 pub use fault::InputFault;
 pub use laws::{
-    files_stand_for_one_input, packed_files_stand_for_their_input, texts_stand_for_one_input,
+    files_stand_for_one_input, notes_are_determined, packed_files_stand_for_their_input,
+    texts_stand_for_one_input,
 };
 pub use source_fault::SourceFault;

@@ -6,7 +6,7 @@ ghost use Rattle.mc_text.specs.Lines.{max_text};
 ghost use Rattle.mc_tables.specs.Steps.{out_of_memory};
 
 use mc_igmp::ListReader;
-use mc_tables::{CacheReader, TableFault, TableFaultKind, VifReader};
+use mc_tables::{CacheReader, NotedReader, TableFault, TableFaultKind, VifReader};
 use mc_text::Memory;
 
 /// A reader that is fed its text in pieces.
@@ -75,6 +75,23 @@ impl PieceReader for CacheReader {
     ghost End = { Result CacheText FaultOfTable };
 
     ghost ends = { cache_if };
+
+    // after a fault none
+    ghost size = { λ s. if is_some s.fault then 0 else s.lines.size };
+
+    fn take(&mut self, piece: &[u8]) -> Result<(), Memory> {
+        want_of_memory(self.feed(piece))
+    }
+}
+
+impl PieceReader for NotedReader {
+    ghost use Rattle.mc_tables.specs.NotedReading.{noted_if};
+    ghost use Rattle.mc_tables.specs.declared.fault.TableFault.{TableFault as FaultOfTable};
+    ghost use Rattle.mc_tables.specs.declared.noted_cache.NotedCache.{NotedCache};
+
+    ghost End = { Result NotedCache FaultOfTable };
+
+    ghost ends = { noted_if };
 
     // after a fault none
     ghost size = { λ s. if is_some s.fault then 0 else s.lines.size };

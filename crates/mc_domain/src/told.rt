@@ -5,7 +5,6 @@ ghost use Rattle.std.specs.Ordering.{nat_cmp};
 ghost use Rattle.std.specs.Prelude.{◌≡◌, ◌≢◌, Err, IfErr, IfOk, List, Result, length};
 ghost use Rattle.mc_text.specs.BundleView.{part_text};
 ghost use Rattle.mc_text.specs.Steps.{refused_as};
-ghost use Rattle.mc_tables.specs.CacheTable.{CacheText};
 ghost use Rattle.mc_tables.specs.Steps.{out_of_memory};
 ghost use Rattle.mc_tables.specs.VifTable.{VifText};
 ghost use Rattle.mc_tables.specs.declared.fault.TableFault.{TableFault as FaultOfTable};
@@ -24,7 +23,7 @@ ghost use Rattle.mc_domain.specs.PartsReading.{topology_of};
 use crate::fault::InputFault;
 use mc_forward::{FlowChannels, Items, pairs_of};
 use mc_igmp::{ListFault, ListFaultKind, ReportList};
-use mc_tables::{CacheTable, ListedPairs, TableFault, TableFaultKind, VifTable};
+use mc_tables::{ListedPairs, NotedPairs, TableFault, TableFaultKind, VifTable};
 use mc_text::{Part, PartName};
 use mc_topology::{Topology, TopologyFault, TopologyFaultKind};
 use std::alloc::Global;
@@ -74,12 +73,21 @@ pub(crate) fn listed_flows(alloc: Global, topology: &Topology) -> Result<ListedP
     Ok(ListedPairs::of(alloc, &pairs_of(alloc, topology)?)?)
 }
 
-/// The forwarding cache of a router, as the reader of the part with this name found it.
-pub(crate) fn cache_told(
+/// The same for the readers that note rows too.
+pub(crate) fn noted_flows(alloc: Global, topology: &Topology) -> Result<NotedPairs, InputFault>
+    ensures listed { IfOk result (AreFlowPairs topology.now.flows) }
+    ensures memory { IfErr result (λ fault. fault ≡ InputFault.Memory) }
+{
+    Ok(NotedPairs::of(alloc, &pairs_of(alloc, topology)?)?)
+}
+
+/// The forwarding cache of a router, with notes or without, as the reader of the part with this name
+/// found it.
+pub(crate) fn cache_told<T: Drop>(
     name: PartName,
-    found: Result<CacheTable, TableFault>,
-) -> Result<CacheTable, InputFault>
-    ensures { (read : Result CacheText FaultOfTable) →
+    found: Result<T, TableFault>,
+) -> Result<T, InputFault>
+    ensures { (read : Result T FaultOfTable) →
         (found ≢ Err out_of_memory → read ≡ found) →
         IsToldOf (λ kept cache. kept ≡ cache) result (refused_as (RefusedCache name) read) }
 {

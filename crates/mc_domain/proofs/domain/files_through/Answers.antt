@@ -1,8 +1,10 @@
 use Rattle.std.proofs.Common.{◌∙◌, ap, Err, Ok, refl, subst, sym}
 use Rattle.std.proofs.lemmas.Result.{err_from_is_err_and}
+use Rattle.mc_topology.specs.Topology.{TopologyValue}
 use Rattle.mc_forward.specs.Domains.{DomainValue}
 use Rattle.mc_domain.specs.FilesReading.{part_filed}
 use Rattle.mc_domain.specs.Kept.{IsDomainOf}
+use Rattle.mc_domain.specs.NotesOfFiles.{AreNotesOf}
 use Rattle.mc_domain.specs.declared.source_fault.SourceFault.TheVariants.{Input}
 use Rattle.mc_domain.proofs.ReadingLemmas.{contents_of, topology_refused}
 use Rattle.mc_domain.proofs.domain.files_through.Goals as goal
@@ -27,5 +29,11 @@ returns-clause-domain g c = λ told is.
       read.0,
       contents_of Input (part_filed told) (λ t. Ok tt) c.in_ok-topology.topology tt
           (c.in_ok-topology.ensures.topology 0 told is) refl ∙ read.1,
-      subst (λ (d : DomainValue). IsDomainOf d read.0) (sym c.in_ok-of_wants.ensures.domain) read.2,
+      subst (λ (d : DomainValue). IsDomainOf d read.0) (sym c.in_ok-domain.ensures.domain) read.2,
     )
+
+pub returns-clause-notes : goal.returns-clause-notes
+returns-clause-notes g c = λ told is.
+    subst (λ (t : TopologyValue). AreNotesOf told t c.in_ok-listed.listed.notes.items)
+    (sym (ap (λ (d : DomainValue). d.topology) c.in_ok-domain.ensures.domain))
+    (c.in_ok-listed.ensures.notes told (c.in_ok-topology.ensures.kept ∙ is))

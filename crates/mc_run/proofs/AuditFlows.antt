@@ -1,18 +1,26 @@
 -- What is written of the flows of a domain, one after the other.
-use Rattle.std.proofs.Common.{◌≡◌, ℕ, zero, suc, ◌+◌, ◌<◌, ◌⊎◌, inl, inr, Bool, true, false}
+use Rattle.std.proofs.Common.{◌≡◌, ℕ, zero, suc, ◌+◌, ◌≤◌, ◌<◌, ◌⊎◌, inl, inr, Bool, true, false}
 use Rattle.std.proofs.Common.{List, [], ◌∷◌, ◌++◌}
 use Rattle.std.proofs.Common.{Global, Vec, length, Option, Some, None, Result, Ok, Err, refl, sym, ap}
 use Rattle.std.proofs.Common.{subst, ◌∙◌, arith}
 use Rattle.std.proofs.Common.{append_assoc, append-nil, length-append}
-use Rattle.std.specs.Prelude.{◌&&◌, ◌==◌, not, cond, filter, flat_map, IfOk, OnOk, slice_get}
+use Rattle.std.specs.Prelude.{◌&&◌, ◌==◌, not, cond, filter, flat_map, IfOk, OnOk, slice_get, unwrap_or, option_map}
 use Rattle.mc_topology.specs.declared.flow.Flow.{Flow}
+use Rattle.std.specs.Result.{IsOkAnd}
+use Rattle.std.proofs.lemmas.Bool.{false≢true, ne_eqb}
+use Rattle.mc_theory.specs.Certificates.{Entry, IsAccepted}
 use Rattle.mc_theory.specs.Headline.{HeadlineHolds}
-use Rattle.mc_forward.specs.Domains.{DomainValue, net_of}
+use Rattle.mc_theory.specs.Nets.{Net}
+use Rattle.mc_check.specs.Verdicts.{HasCopies, IsExact}
+use Rattle.mc_check.specs.declared.verdict.Verdict.{Verdict}
+use Rattle.mc_check.specs.declared.verdict.Verdict.TheVariants.{Yes, No}
+use Rattle.mc_forward.specs.Domains.{DomainValue, net_of, ttl_of}
+use Rattle.mc_topology.specs.Topology.{TopologyValue}
 use Rattle.mc_forward.specs.ListedTables.{facts}
 use Rattle.mc_forward.proofs.EachLemmas.{some-at}
 use Rattle.mc_cert.specs.declared.reached.Reached.{Reached}
 use Rattle.mc_cert.specs.Certificate.{Tree}
-use Rattle.mc_maker.specs.Examined.{IfFound, IsTravelOfFirst}
+use Rattle.mc_maker.specs.Examined.{IfFound, IsTravelOfFirst, is_certified}
 use Rattle.mc_maker.specs.Flown.{IsFlown, examined_by}
 use Rattle.mc_maker.specs.declared.flown.Flown.{Flown}
 use Rattle.mc_maker.specs.declared.flown.Flown.TheVariants.{Certified, AtGreatest, AtLeast}
@@ -21,7 +29,7 @@ use Rattle.mc_maker.specs.declared.examination.Examined.TheVariants as examined
 use Rattle.mc_replay.specs.declared.travel.Travel.{Travel}
 use Rattle.mc_explain.specs.WantedText.{wanting}
 use Rattle.mc_run.specs.AuditEnd.{FlowAnswer, are_right, count, is_right, is_unwanted, is_wrong}
-use Rattle.mc_run.specs.AuditEnd.{no_standings, with_standing}
+use Rattle.mc_run.specs.AuditEnd.{with_standing}
 use Rattle.mc_run.specs.AuditPieces.{AreFlowsPushed, IsExplanationPushed, IsFlowPushed}
 use Rattle.mc_run.specs.AuditReasons.{IsExplanation}
 use Rattle.mc_run.specs.AuditRun.{IsAnswer, NotedValue}
@@ -35,6 +43,18 @@ use Rattle.mc_run.specs.declared.standing.Standings.{Standings}
 
 -- ---- one flow
 
+-- the checker says yes to a list that is accepted, with the number of its entries
+pub yes_written : {X Y : Type 0} (n : Net) (es : List Entry) (answer : Result Verdict X)
+    (r : Result Standing Y) (P : Verdict → Type 0) → IfOk answer (IsExact n es)
+    → IfOk answer (HasCopies n es) → IsAccepted n es → OnOk r (IsOkAnd answer P)
+    → OnOk r (P (Yes (length es)))
+yes_written n es answer (Err e) P exact copies accepted is = tt
+yes_written n es (Err e) (Ok s) P exact copies accepted is = absurd is
+yes_written n es (Ok (No reason)) (Ok s) P exact copies accepted is =
+    absurd (false≢true (exact.1 accepted))
+yes_written n es (Ok (Yes count)) (Ok s) P exact copies accepted is =
+    subst (λ (k : ℕ). P (Yes k)) copies is
+
 -- what is found is found by the travel that was flown
 pub travel_flown : (d : DomainValue) (flow : ℕ) (x : Flown) → IsFlown d flow x
     → IfFound (IsTravelOfFirst d flow) (examined_by d flow x)
@@ -43,7 +63,7 @@ travel_flown d flow (AtGreatest ended) is = (ended.flight.flight, is.run)
 travel_flown d flow (AtLeast greatest least) is = (least.flight.flight, is.2.run)
 
 -- nothing is explained of a flow that is right
-no_explanation : Explanation
+abbrev no_explanation : Explanation
 no_explanation = record { told = []; search = None; also = [] }
 
 -- the flow's list was accepted,
@@ -135,6 +155,33 @@ flow_wrong v o flow x f ttl travel old found reasons new here flies is so begun 
           ∙ append_assoc old first (why ++ events);
     }
 
+-- as it is found in the topology that was asked
+pub wrong_pushed : (v : NotedValue) (o : AuditOptions) (flow : ℕ) (x : Flown) (t : TopologyValue)
+    (f : Flow) (ttl : ℕ) (travel : Travel) (old found reasons new : List ℕ) → t ≡ v.domain.topology
+    → slice_get t.flows flow ≡ Some f → IsFlown v.domain flow x
+    → IsExamined v.domain flow (examined_by v.domain flow x)
+    → (slice_get v.domain.topology.flows flow ≡ Some f
+    → examined_by v.domain flow x ≡ examined.Found ttl travel)
+    → found ≡ old ++ found_lines t f ttl travel.finding
+    → ((g : Flow) → slice_get v.domain.topology.flows flow ≡ Some g
+    → IsExplanationPushed v flow g x found reasons)
+    → new ≡ reasons ++ events_told o.travels t travel → IsFlowPushed v o flow Wrong old new
+wrong_pushed v o flow x t f ttl travel old found reasons new same here flies is so begun explains
+    ends =
+    let there = subst (λ (s : TopologyValue). slice_get s.flows flow ≡ Some f) same here in
+    flow_wrong v o flow x f ttl travel old found reasons new there flies is (so there)
+    (begun ∙ ap (λ (s : TopologyValue). old ++ found_lines s f ttl travel.finding) same)
+    (explains f there)
+    (ends ∙ ap (λ (s : TopologyValue). reasons ++ events_told o.travels s travel) same)
+
+-- the flow's TTL, as the topology lists it
+pub ttl_listed : (d : DomainValue) (flow : ℕ) (f : Flow) (travel : Travel)
+    → slice_get d.topology.flows flow ≡ Some f
+    → (let x : Examined = examined.Found (ttl_of d flow) travel in x) ≡ examined.Found f.ttl travel
+ttl_listed d flow f travel here =
+    ap (λ (o : Option Flow). (let x : Examined =
+    examined.Found (unwrap_or (option_map (λ g. g.ttl) o) 0) travel in x)) here
+
 -- ---- flow by flow
 
 pub flows_start : (v : NotedValue) (o : AuditOptions) (s : Standings) → s.right ≡ 0 → s.wrong ≡ 0
@@ -149,31 +196,34 @@ flows_start v o s right wrong unwanted = record {
   spelled = refl;
 }
 
-lines_push : (as : List FlowAnswer) (a : FlowAnswer)
-    → flat_map (λ b. b.lines) (as ++ a ∷ []) ≡ flat_map (λ b. b.lines) as ++ a.lines
+lines_push : (answers : List FlowAnswer) (a : FlowAnswer)
+    → flat_map (λ b. b.lines) (answers ++ a ∷ []) ≡ flat_map (λ b. b.lines) answers ++ a.lines
 lines_push [] a = append-nil a.lines
-lines_push (b ∷ as) a =
-    ap (λ xs. b.lines ++ xs) (lines_push as a)
-    ∙ sym (append_assoc b.lines (flat_map (λ c. c.lines) as) a.lines)
+lines_push (b ∷ answers) a =
+    ap (λ xs. b.lines ++ xs) (lines_push answers a)
+    ∙ sym (append_assoc b.lines (flat_map (λ c. c.lines) answers) a.lines)
 
 -- how many more there are with one item more
-one_if : Bool → ℕ
+abbrev one_if : Bool → ℕ
 one_if true = 1
 one_if false = 0
 
-count_push : (p : FlowAnswer → Bool) (as : List FlowAnswer) (a : FlowAnswer)
-    → count p (as ++ a ∷ []) ≡ count p as + one_if (p a)
-count_push p [] a = by (p a)
-  where
-    by : (b : Bool) → length (cond b (a ∷ []) []) ≡ 0 + one_if b
-    by true = refl
-    by false = refl
-count_push p (x ∷ as) a = by (p x)
-  where
-    by : (b : Bool) → length (cond b (x ∷ filter p (as ++ a ∷ [])) (filter p (as ++ a ∷ [])))
-        ≡ length (cond b (x ∷ filter p as) (filter p as)) + one_if (p a)
-    by true = ap suc (count_push p as a)
-    by false = count_push p as a
+count_first : (b : Bool) (x : FlowAnswer) (more less : List FlowAnswer) (n : ℕ)
+    → length more ≡ length less + n
+    → length (cond b (x ∷ more) more) ≡ length (cond b (x ∷ less) less) + n
+count_first true x more less n same = omega (arith, same)
+count_first false x more less n same = same
+
+count_last : (b : Bool) (a : FlowAnswer) → length (cond b (a ∷ []) []) ≡ 0 + one_if b
+count_last true a = refl
+count_last false a = refl
+
+count_push : (p : FlowAnswer → Bool) (answers : List FlowAnswer) (a : FlowAnswer)
+    → count p (answers ++ a ∷ []) ≡ count p answers + one_if (p a)
+count_push p [] a = count_last (p a) a
+count_push p (x ∷ answers) a =
+    count_first (p x) x (filter p (answers ++ a ∷ [])) (filter p answers) (one_if (p a))
+    (count_push p answers a)
 
 -- what stands in a list that has grown by one item stood there, or is that item
 grown : {A : Type 0} (xs : List A) (x : A) (i : ℕ) (y : A) → slice_get (xs ++ x ∷ []) i ≡ Some y
@@ -203,7 +253,8 @@ unwanted_by : (x : Examined) (wanted lines : List ℕ) (s : Standings)
     → (with_standing s (standing_of x wanted)).unwanted
     ≡ s.unwanted + one_if (is_unwanted (record { examined = x; wanted = wanted; lines = lines }))
 unwanted_by (examined.Certified entries) [] lines s = refl
-unwanted_by (examined.Certified entries) (lan ∷ wanted) lines s = omega arith
+unwanted_by (examined.Certified entries) (lan ∷ wanted) lines s =
+    rw (ne_eqb (length (lan ∷ wanted)) 0 (λ e. omega (arith, e))) (omega arith)
 unwanted_by (examined.Found ttl travel) wanted lines s = omega arith
 
 -- one flow more was written
@@ -235,14 +286,51 @@ flows_next v o k s standing more old new to is same =
       spelled = is.spelled ∙ ap (λ xs. xs ++ a.lines) to.spelled ∙ sym (lines_push to.answers a);
     }
 
+-- there are at most as many as flows
+count_step : (b : Bool) (x : FlowAnswer) (some all : List FlowAnswer) → length some ≤ length all
+    → length (cond b (x ∷ some) some) ≤ suc (length all)
+count_step true x some all le = omega (arith, le)
+count_step false x some all le = omega (arith, le)
+
+count_within : (p : FlowAnswer → Bool) (answers : List FlowAnswer)
+    → count p answers ≤ length answers
+count_within p [] = omega arith
+count_within p (x ∷ answers) =
+    count_step (p x) x (filter p answers) answers (count_within p answers)
+
+pub right_within : (v : NotedValue) (o : AuditOptions) (k : ℕ) (s : Standings) (text : List ℕ)
+    → AreFlowsPushed v o k s text → s.right ≤ k
+right_within v o k s text to =
+    let h = count_within is_right to.answers in
+    let n = to.count_is in
+    let r = to.right in
+    omega (arith, h, n, r)
+
+pub wrong_within : (v : NotedValue) (o : AuditOptions) (k : ℕ) (s : Standings) (text : List ℕ)
+    → AreFlowsPushed v o k s text → s.wrong ≤ k
+wrong_within v o k s text to =
+    let h = count_within is_wrong to.answers in
+    let n = to.count_is in
+    let r = to.wrong in
+    omega (arith, h, n, r)
+
+pub unwanted_within : (v : NotedValue) (o : AuditOptions) (k : ℕ) (s : Standings) (text : List ℕ)
+    → AreFlowsPushed v o k s text → s.unwanted ≤ k
+unwanted_within v o k s text to =
+    let h = count_within is_unwanted to.answers in
+    let n = to.count_is in
+    let r = to.unwanted in
+    omega (arith, h, n, r)
+
 -- all flows are right where none is wrong
-pub none_wrong : (as : List FlowAnswer) → (count is_wrong as == 0) ≡ are_right as
+right_first : (x : Examined) (a : FlowAnswer) (answers : List FlowAnswer)
+    → (count is_wrong answers == 0) ≡ are_right answers
+    → (length (cond (not (is_certified x)) (a ∷ filter is_wrong answers) (filter is_wrong answers))
+    == 0) ≡ (is_certified x && are_right answers)
+right_first (examined.Certified entries) a answers same = same
+right_first (examined.Found ttl travel) a answers same =
+    ne_eqb (length (a ∷ filter is_wrong answers)) 0 (λ e. omega (arith, e))
+
+pub none_wrong : (answers : List FlowAnswer) → (count is_wrong answers == 0) ≡ are_right answers
 none_wrong [] = refl
-none_wrong (a ∷ as) = by a.examined
-  where
-    by : (x : Examined)
-        → (length (cond (not (is_right (record { examined = x; wanted = []; lines = [] })))
-        (a ∷ filter is_wrong as) (filter is_wrong as)) == 0)
-        ≡ (is_right (record { examined = x; wanted = []; lines = [] }) && are_right as)
-    by (examined.Certified entries) = none_wrong as
-    by (examined.Found ttl travel) = refl
+none_wrong (a ∷ answers) = right_first a.examined a answers (none_wrong answers)

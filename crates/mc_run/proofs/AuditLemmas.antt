@@ -45,7 +45,7 @@ use Rattle.mc_run.proofs.RunLemmas.{AreSaid, more_meant, said_so}
 
 -- the examinations of all flows
 examinations : List FlowAnswer → List Examined
-examinations as = map (λ a. a.examined) as
+examinations answers = map (λ a. a.examined) answers
 
 -- what stands in a mapped list is what an item of the list gives
 mapped-at : {A B : Type 0} (f : A → B) (xs : List A) (k : ℕ) (y : B) → slice_get (map f xs) k ≡ Some y
@@ -54,16 +54,16 @@ mapped-at f [] k y at = absurd cc
 mapped-at f (x ∷ xs) zero y at = (x, refl, cc)
 mapped-at f (x ∷ xs) (suc k) y at = mapped-at f xs k y at
 
-all_right : (as : List FlowAnswer) → are_certified (examinations as) ≡ are_right as
+all_right : (answers : List FlowAnswer) → are_certified (examinations answers) ≡ are_right answers
 all_right [] = refl
-all_right (a ∷ as) = ap (λ b. is_certified a.examined && b) (all_right as)
+all_right (a ∷ answers) = ap (λ b. is_certified a.examined && b) (all_right answers)
 
-examined_of : (v : NotedValue) (o : AuditOptions) (as : List FlowAnswer) → AreAnswers v o as
-    → AreExamined v.domain (examinations as)
-examined_of v o as are = record {
-  count = length-map (λ (a : FlowAnswer). a.examined) as ∙ are.count;
+examined_of : (v : NotedValue) (o : AuditOptions) (answers : List FlowAnswer) → AreAnswers v o answers
+    → AreExamined v.domain (examinations answers)
+examined_of v o answers are = record {
+  count = length-map (λ (a : FlowAnswer). a.examined) answers ∙ are.count;
   each = λ flow x at.
-      let here = mapped-at (λ (a : FlowAnswer). a.examined) as flow x at in
+      let here = mapped-at (λ (a : FlowAnswer). a.examined) answers flow x at in
       subst (λ (y : Examined). IsExamined v.domain flow y) here.2
       (are.each flow here.0 here.1).checked.examined;
 }
@@ -102,10 +102,10 @@ audit_keeps v o all written a is =
 
 -- ---- the lines of each flow
 
-lines_all : (as : List FlowAnswer)
-    → flat_map (λ a. a.lines) as ≡ flat_map (λ ls. ls) (map (λ a. a.lines) as)
+lines_all : (answers : List FlowAnswer)
+    → flat_map (λ a. a.lines) answers ≡ flat_map (λ ls. ls) (map (λ a. a.lines) answers)
 lines_all [] = refl
-lines_all (a ∷ as) = ap (λ more. a.lines ++ more) (lines_all as)
+lines_all (a ∷ answers) = ap (λ more. a.lines ++ more) (lines_all answers)
 
 -- the lines, what stands behind them, and last whether all flows are right
 lines_spelled : (v : NotedValue) (o : AuditOptions) (all : Bool) (written : List ℕ)
@@ -120,12 +120,12 @@ lines_spelled v o all written a =
 
 -- what holds of each flow's answer holds of the lines at its place
 told_each : (P : ℕ → Flow → List ℕ → Type 0) (v : NotedValue) (o : AuditOptions)
-    (as : List FlowAnswer) → AreAnswers v o as
+    (answers : List FlowAnswer) → AreAnswers v o answers
     → ((flow : ℕ) (a : FlowAnswer) (is : IsAnswer v o flow a) → P flow is.listed a.lines)
     → (flow : ℕ) (f : Flow) (ls : List ℕ) → slice_get v.domain.topology.flows flow ≡ Some f
-    → slice_get (map (λ a. a.lines) as) flow ≡ Some ls → P flow f ls
-told_each P v o as are holds flow f ls listed told =
-    let here = mapped-at (λ (a : FlowAnswer). a.lines) as flow ls told in
+    → slice_get (map (λ a. a.lines) answers) flow ≡ Some ls → P flow f ls
+told_each P v o answers are holds flow f ls listed told =
+    let here = mapped-at (λ (a : FlowAnswer). a.lines) answers flow ls told in
     let is = are.each flow here.0 here.1 in
     let stands = is.stands in
     let same : is.listed ≡ f = cc in
@@ -158,21 +158,21 @@ pub audit_right : (v : NotedValue) (o : AuditOptions) (all : Bool) (written : Li
     → IsAudited v o all written → TellsWhichAreRight v.domain o all written
 audit_right v o all written a =
     let d = v.domain in
-    let as = a.answers in
+    let answers = a.answers in
     let are = a.are_answers in
     record {
-      lines = map (λ b. b.lines) as;
-      end = end_lines o d.topology v.notes as;
-      count = length-map (λ (b : FlowAnswer). b.lines) as ∙ are.count;
+      lines = map (λ b. b.lines) answers;
+      end = end_lines o d.topology v.notes answers;
+      count = length-map (λ (b : FlowAnswer). b.lines) answers ∙ are.count;
       each = told_each (λ flow f ls.
-          SaysFlowRight o d.topology f (net_of d flow) (wanting (facts d) flow) ls) v o as are
+          SaysFlowRight o d.topology f (net_of d flow) (wanting (facts d) flow) ls) v o answers are
           (λ flow b is. subst (λ (w : List ℕ).
           SaysFlowRight o d.topology is.listed (net_of d flow) w b.lines) is.wanted
           (line_right o d v.notes flow is.listed b.examined is.explanation b.wanted b.lines
           is.checked.examined.right is.spelled));
       spelled = lines_spelled v o all written a;
-      answer = subst (AreRight d) (all_right as ∙ sym a.answer)
-          (certified_right d (examinations as) (examined_of v o as are));
+      answer = subst (AreRight d) (all_right answers ∙ sym a.answer)
+          (certified_right d (examinations answers) (examined_of v o answers are));
     }
 
 -- ---- what each flow's lines say
@@ -211,13 +211,13 @@ line_so v o flow f (Found ttl travel) flown e wanted lines flies checked explain
 pub audit_each : (v : NotedValue) (o : AuditOptions) (all : Bool) (written : List ℕ)
     → IsAudited v o all written → TellsOfEach v o all written
 audit_each v o all written a =
-    let as = a.answers in
+    let answers = a.answers in
     let are = a.are_answers in
     record {
-      lines = map (λ b. b.lines) as;
-      end = end_lines o v.domain.topology v.notes as;
-      count = length-map (λ (b : FlowAnswer). b.lines) as ∙ are.count;
-      each = told_each (λ flow f ls. SaysYesOf v o flow f ls ⊎ SaysWhatIsFound v o flow f ls) v o as
+      lines = map (λ b. b.lines) answers;
+      end = end_lines o v.domain.topology v.notes answers;
+      count = length-map (λ (b : FlowAnswer). b.lines) answers ∙ are.count;
+      each = told_each (λ flow f ls. SaysYesOf v o flow f ls ⊎ SaysWhatIsFound v o flow f ls) v o answers
           are (λ flow b is. line_so v o flow is.listed b.examined is.flown is.explanation b.wanted
           b.lines is.flies is.checked is.explained is.wanted is.spelled);
       spelled = lines_spelled v o all written a;

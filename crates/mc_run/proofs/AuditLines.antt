@@ -4,7 +4,6 @@ use Rattle.std.proofs.Common.{◌≡◌, ℕ, suc, eqb, Bool, true, false, List,
 use Rattle.std.proofs.Common.{cond, length, Option, Some, None, refl, sym, ap, subst, ◌∙◌, append_assoc}
 use Rattle.std.proofs.Common.{append-nil}
 use Rattle.std.specs.Prelude.{◌==◌, ◌&&◌, not, codes, slice_index, slice_get, decimal, flat_map}
-use Rattle.std.specs.List.{AllByRecursion}
 use Rattle.std.proofs.lemmas.Bool.{eq-eqb, false≢true}
 use Rattle.mc_text.proofs.BundleWords.{Without}
 use Rattle.mc_topology.specs.declared.flow.Flow.{Flow}
@@ -23,16 +22,17 @@ use Rattle.mc_maker.specs.declared.examination.Examined.TheVariants.{Certified, 
 use Rattle.mc_tables.specs.Notes.{NotesText}
 use Rattle.mc_forward.specs.ListedTables.{DomainFacts, facts}
 use Rattle.mc_explain.specs.ExplanationText.{told_lines}
-use Rattle.mc_explain.specs.Indented.{AreIndented}
+use Rattle.mc_explain.specs.Indented.{AreIndented, IsFeedless, indented}
+use Rattle.mc_theory.specs.Lists.{In}
 use Rattle.mc_explain.specs.UnlistedText.{unlisted_text}
 use Rattle.mc_explain.specs.WantedText.{missed_too_text, wanted_text}
 use Rattle.mc_explain.specs.declared.searching.LanSearch.{LanSearch}
-use Rattle.mc_explain.proofs.IndentedLemmas.{told_indented, wanted_indented, missed_too_indented}
+use Rattle.mc_explain.proofs.ExplanationLemmas.{missed-by, told-lines, wanted-by}
 use Rattle.mc_run.specs.AuditEnd.{FlowAnswer, are_right, count, end_lines, is_right, is_unwanted}
 use Rattle.mc_run.specs.AuditEnd.{is_wrong, strict_lines, summary_by, summary_line}
 use Rattle.mc_run.specs.AuditRun.{AreAnswers, IsAnswer, NotedValue}
 use Rattle.mc_run.specs.AuditText.{Explanation, answer_lines, events_told, explanation_lines}
-use Rattle.mc_run.specs.AuditText.{right_lines, searched_lines}
+use Rattle.mc_run.specs.AuditText.{is_left_out, right_lines, searched_lines}
 use Rattle.mc_run.specs.declared.audit_options.AuditOptions.{AuditOptions}
 use Rattle.mc_run.specs.CheckRun.{IsLineStart}
 use Rattle.mc_run.specs.MakeRun.{found_line, found_lines, no_certificate_line}
@@ -183,41 +183,41 @@ shown_other true t travel ok = events_other t travel.events.items ok
 shown_other false t travel ok = none_other
 
 -- lines that begin with two spaces
-indented_lines : (ls : List (List ℕ)) → AllByRecursion (λ l. Without 10 l) ls
-    → AreOther (flat_map (λ l. codes "  " ++ (l ++ codes "\n")) ls)
-indented_lines [] none = none_other
-indented_lines (l ∷ ls) none =
-    both_other (codes "  " ++ (l ++ codes "\n")) _
-    (line_other (codes "  " ++ (l ++ codes "\n")) (codes "  " ++ l)
-    (words (codes "  ") l (plain (codes "  ") refl) none.0)
+indented_lines : (ls : List (List ℕ)) → ((l : List ℕ) → In l ls → IsFeedless l)
+    → AreOther (flat_map indented ls)
+indented_lines [] feedless = none_other
+indented_lines (l ∷ ls) feedless =
+    both_other (indented l) (flat_map indented ls)
+    (line_other (indented l) (codes "  " ++ l)
+    (words (codes "  ") l (plain (codes "  ") refl) (plain l (feedless l (inl refl))))
     (λ tail rest same. apart 32 _ _ refl same)
     (λ more. ap (λ xs. codes "  " ++ xs) (append_assoc l (codes "\n") more)))
-    (indented_lines ls none.1)
+    (indented_lines ls (λ m h. feedless m (inr h)))
 
 indented_other : (text : List ℕ) → AreIndented text → AreOther text
 indented_other text is =
-    subst AreOther (sym is.spelled) (indented_lines is.lines is.each)
+    subst AreOther (sym is.spelled) (indented_lines is.lines is.feedless)
 
 -- ---- a flow
 
 right_other : (faults : Bool) (t : TopologyValue) (f : Flow) (copies : ℕ) (wanted : List ℕ)
     → IsTopology t → AreOther (right_lines faults t f copies wanted)
-right_other true t f copies (lan ∷ wanted) ok = none_other
-right_other true t f copies [] ok =
-    both_other (flow_line t f (Yes copies)) (wanted_text t []) (verdict_other t f (Yes copies) ok)
-    (indented_other (wanted_text t []) (wanted_indented t [] ok))
-right_other false t f copies wanted ok =
-    both_other (flow_line t f (Yes copies)) (wanted_text t wanted)
-    (verdict_other t f (Yes copies) ok)
-    (indented_other (wanted_text t wanted) (wanted_indented t wanted ok))
+right_other faults t f copies wanted ok = by (is_left_out faults wanted)
+  where
+    by : (b : Bool)
+        → AreOther (cond b [] (flow_line t f (Yes copies) ++ wanted_text t wanted))
+    by true = none_other
+    by false = both_other (flow_line t f (Yes copies)) (wanted_text t wanted)
+        (verdict_other t f (Yes copies) ok)
+        (indented_other (wanted_text t wanted) (wanted-by t wanted ok))
 
 explained_other : (d : DomainFacts) (notes : List NotesText) (number : ℕ) (f : Flow)
     (x : Explanation) → IsTopology d.topology → AreOther (explanation_lines d notes number f x)
 explained_other d notes number f x ok =
     both_other (told_lines d notes number f x.told) _
-    (indented_other _ (told_indented d notes number f x.told ok))
+    (indented_other _ (told-lines d notes number f x.told ok))
     (both_other (searched_lines d notes number f x.search) (missed_too_text d.topology x.also)
-    (searched x.search) (indented_other _ (missed_too_indented d.topology x.also ok)))
+    (searched x.search) (indented_other _ (missed-by d.topology x.also ok)))
   where
     searched : (s : Option LanSearch) → AreOther (searched_lines d notes number f s)
     searched None = none_other
@@ -236,17 +236,17 @@ answer_other o d notes number f (Found ttl travel) e wanted ok =
     (both_other (explanation_lines d notes number f e) (events_told o.travels t travel)
     (explained_other d notes number f e ok) (shown_other o.travels t travel ok))
 
-flows_other : (v : NotedValue) (o : AuditOptions) (as : List FlowAnswer)
-    → ((flow : ℕ) (a : FlowAnswer) → slice_get as flow ≡ Some a
+flows_other : (v : NotedValue) (o : AuditOptions) (answers : List FlowAnswer)
+    → ((flow : ℕ) (a : FlowAnswer) → slice_get answers flow ≡ Some a
     → (number : ℕ) × IsAnswer v o number a) → IsTopology v.domain.topology
-    → AreOther (flat_map (λ a. a.lines) as)
+    → AreOther (flat_map (λ a. a.lines) answers)
 flows_other v o [] each ok = none_other
-flows_other v o (a ∷ as) each ok =
+flows_other v o (a ∷ answers) each ok =
     let is = (each 0 a refl).1 in
-    both_other a.lines (flat_map (λ b. b.lines) as)
+    both_other a.lines (flat_map (λ b. b.lines) answers)
     (subst AreOther (sym is.spelled) (answer_other o (facts v.domain) v.notes (each 0 a refl).0
     is.listed a.examined is.explanation a.wanted ok))
-    (flows_other v o as (λ flow b at. each (suc flow) b at) ok)
+    (flows_other v o answers (λ flow b at. each (suc flow) b at) ok)
 
 -- ---- what stands behind the flows
 
@@ -279,8 +279,8 @@ summary_other flows right wrong unwanted =
     (λ tail rest same. apart 115 _ _ refl same)
     (summary_ends flows right wrong unwanted)
 
-strict_other : (strict yes : Bool) (unwanted : ℕ) → AreOther (strict_lines strict yes unwanted)
-strict_other strict yes unwanted = by (strict && (yes && not (unwanted == 0)))
+strict_other : (strict all : Bool) (unwanted : ℕ) → AreOther (strict_lines strict all unwanted)
+strict_other strict all unwanted = by (strict && (all && not (unwanted == 0)))
   where
     told : List ℕ
     told = codes "  strict: " ++ (decimal unwanted ++ codes " flows that nobody wants, status 1\n")
@@ -299,31 +299,31 @@ strict_other strict yes unwanted = by (strict && (yes && not (unwanted == 0)))
     by true = line
     by false = none_other
 
-end_other : (o : AuditOptions) (t : TopologyValue) (notes : List NotesText) (as : List FlowAnswer)
-    → IsTopology t → AreOther (end_lines o t notes as)
-end_other o t notes as ok =
+end_other : (o : AuditOptions) (t : TopologyValue) (notes : List NotesText) (answers : List FlowAnswer)
+    → IsTopology t → AreOther (end_lines o t notes answers)
+end_other o t notes answers ok =
     both_other (unlisted_text t notes) _ (unlisted_other t notes ok)
-    (both_other (summary_line as) _
-    (summary_other (length as) (count is_right as) (count is_wrong as) (count is_unwanted as))
-    (strict_other o.strict (are_right as) (count is_unwanted as)))
+    (both_other (summary_line answers) _
+    (summary_other (length answers) (count is_right answers) (count is_wrong answers) (count is_unwanted answers))
+    (strict_other o.strict (are_right answers) (count is_unwanted answers)))
 
 -- `verdict yes` stands at a line's start only where all flows are right, and then last
-pub audit_says : (v : NotedValue) (o : AuditOptions) (as : List FlowAnswer) (all : Bool)
-    (front rest : List ℕ) → AreAnswers v o as → IsTopology v.domain.topology → IsLineStart front
-    → flat_map (λ a. a.lines) as ++ (end_lines o v.domain.topology v.notes as ++ last_line all)
+pub audit_says : (v : NotedValue) (o : AuditOptions) (answers : List FlowAnswer) (all : Bool)
+    (front rest : List ℕ) → AreAnswers v o answers → IsTopology v.domain.topology → IsLineStart front
+    → flat_map (λ a. a.lines) answers ++ (end_lines o v.domain.topology v.notes answers ++ last_line all)
     ≡ front ++ (codes "verdict yes" ++ rest)
     → (all ≡ true) × (rest ≡ codes "\n")
-audit_says v o as all front rest are ok starts same =
-    let end = end_lines o v.domain.topology v.notes as in
-    let l = flows_other v o as (λ flow a at. (flow, are.each flow a at)) ok front rest
+audit_says v o answers all front rest are ok starts same =
+    let end = end_lines o v.domain.topology v.notes answers in
+    let l = flows_other v o answers (λ flow a at. (flow, are.each flow a at)) ok front rest
     (end ++ last_line all) starts same in
-    let m = end_other o v.domain.topology v.notes as ok l.front rest (last_line all) l.starts l.is in
+    let m = end_other o v.domain.topology v.notes answers ok l.front rest (last_line all) l.starts l.is in
     last_says all m.front rest m.starts m.is
 
 -- ---- a line begins after them
 
-strict_starts : (strict yes : Bool) (unwanted : ℕ) → IsLineStart (strict_lines strict yes unwanted)
-strict_starts strict yes unwanted = by (strict && (yes && not (unwanted == 0)))
+strict_starts : (strict all : Bool) (unwanted : ℕ) → IsLineStart (strict_lines strict all unwanted)
+strict_starts strict all unwanted = by (strict && (all && not (unwanted == 0)))
   where
     by : (b : Bool) → IsLineStart (cond b
         (codes "  strict: " ++ (decimal unwanted ++ codes " flows that nobody wants, status 1\n")) [])
@@ -335,18 +335,18 @@ strict_starts strict yes unwanted = by (strict && (yes && not (unwanted == 0)))
     by false = inl refl
 
 pub end_starts : (o : AuditOptions) (t : TopologyValue) (notes : List NotesText)
-    (as : List FlowAnswer) (lines : List ℕ) → IsLineStart (lines ++ end_lines o t notes as)
-end_starts o t notes as lines =
+    (answers : List FlowAnswer) (lines : List ℕ) → IsLineStart (lines ++ end_lines o t notes answers)
+end_starts o t notes answers lines =
     let unlisted = unlisted_text t notes in
-    let summary = summary_line as in
-    let strict = strict_lines o.strict (are_right as) (count is_unwanted as) in
-    let before = summary_body (length as) (count is_right as) (count is_wrong as)
-    (count is_unwanted as) in
+    let summary = summary_line answers in
+    let strict = strict_lines o.strict (are_right answers) (count is_unwanted answers) in
+    let before = summary_body (length answers) (count is_right answers) (count is_wrong answers)
+    (count is_unwanted answers) in
     let ends : (lines ++ unlisted) ++ summary ≡ ((lines ++ unlisted) ++ before) ++ codes "\n" =
-    ap (λ xs. (lines ++ unlisted) ++ xs) (sym (append-nil summary) ∙ summary_ends (length as)
-    (count is_right as) (count is_wrong as) (count is_unwanted as) [])
+    ap (λ xs. (lines ++ unlisted) ++ xs) (sym (append-nil summary) ∙ summary_ends (length answers)
+    (count is_right answers) (count is_wrong answers) (count is_unwanted answers) [])
     ∙ sym (append_assoc (lines ++ unlisted) before (codes "\n")) in
     subst IsLineStart (append_assoc (lines ++ unlisted) summary strict
     ∙ append_assoc lines unlisted (summary ++ strict))
     (behind ((lines ++ unlisted) ++ summary) strict ((lines ++ unlisted) ++ before) ends
-    (strict_starts o.strict (are_right as) (count is_unwanted as)))
+    (strict_starts o.strict (are_right answers) (count is_unwanted answers)))

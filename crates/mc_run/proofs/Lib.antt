@@ -1,3 +1,4 @@
+pub mod AuditAll
 pub mod AuditFlows
 pub mod AuditLemmas
 pub mod AuditLines
@@ -7,6 +8,7 @@ pub mod LookLemmas
 pub mod MakeLemmas
 pub mod MissedLemmas
 pub mod PackingLemmas
+pub mod ReasonLemmas
 pub mod ReplayLemmas
 pub mod RunLemmas
 pub mod SameLemmas

@@ -291,11 +291,11 @@ same_answer {whole = whole} {d = d} same notes o flow a is = record {
 
 -- and of each flow,
 same_answers : {whole d : DomainValue} → SaysTheSame whole d → (notes : List NotesText)
-    (o : AuditOptions) (as : List FlowAnswer)
-    → AreAnswers (record { domain = d; notes = notes }) o as
-    → AreAnswers (record { domain = whole; notes = notes }) o as
-same_answers same notes o as are = record {
-  count = over (λ t n. length as ≡ length t.flows) same are.count;
+    (o : AuditOptions) (answers : List FlowAnswer)
+    → AreAnswers (record { domain = d; notes = notes }) o answers
+    → AreAnswers (record { domain = whole; notes = notes }) o answers
+same_answers same notes o answers are = record {
+  count = over (λ t n. length answers ≡ length t.flows) same are.count;
   each = λ flow a at. same_answer same notes o flow a (are.each flow a at);
 }
 

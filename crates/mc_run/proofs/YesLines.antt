@@ -63,10 +63,10 @@ pub audit_yes : (files : List FileText) (o : AuditOptions) (written old : List �
     → IsAuditText o files true written → WroteYes (Some old) (Some (old ++ written))
 audit_yes files o written old a =
     let v = a.domain in
-    let as = a.holds.answers in
-    let lines = flat_map (λ b. b.lines) as in
-    let end = end_lines o v.domain.topology v.notes as in
-    written_yes old (lines ++ end) written (end_starts o v.domain.topology v.notes as lines)
+    let answers = a.holds.answers in
+    let lines = flat_map (λ b. b.lines) answers in
+    let end = end_lines o v.domain.topology v.notes answers in
+    written_yes old (lines ++ end) written (end_starts o v.domain.topology v.notes answers lines)
     (a.holds.spelled ∙ ap (λ all. lines ++ (end ++ last_line all)) (sym a.holds.answer)
     ∙ sym (append_assoc lines end (last_line true)))
 

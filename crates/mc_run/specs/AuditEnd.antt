@@ -21,7 +21,7 @@ pub record FlowAnswer : Type 0 where
 
 -- whether every flow is right
 abbrev pub are_right : List FlowAnswer → Bool
-are_right as = list_all (λ a. is_certified a.examined) as
+are_right answers = list_all (λ a. is_certified a.examined) answers
 
 -- ---- how many are
 
@@ -43,7 +43,7 @@ abbrev pub is_unwanted : FlowAnswer → Bool
 is_unwanted a = is_certified a.examined && (length a.wanted == 0)
 
 abbrev pub count : (FlowAnswer → Bool) → List FlowAnswer → ℕ
-count p as = length (filter p as)
+count p answers = length (filter p answers)
 
 abbrev pub summary_by : (flows right wrong unwanted : ℕ) → List ℕ
 summary_by flows right wrong unwanted =
@@ -53,17 +53,17 @@ summary_by flows right wrong unwanted =
     ++ (codes " unwanted " ++ (decimal unwanted ++ codes "\n")))))))
 
 abbrev pub summary_line : List FlowAnswer → List ℕ
-summary_line as = summary_by (length as) (count is_right as) (count is_wrong as) (count is_unwanted as)
+summary_line answers = summary_by (length answers) (count is_right answers) (count is_wrong answers) (count is_unwanted answers)
 
 -- where a yes isn't enough if a flow is wanted by nobody
-abbrev pub strict_lines : (strict yes : Bool) → (unwanted : ℕ) → List ℕ
-strict_lines strict yes unwanted =
-    if strict && (yes && not (unwanted == 0))
+abbrev pub strict_lines : (strict all : Bool) → (unwanted : ℕ) → List ℕ
+strict_lines strict all unwanted =
+    if strict && (all && not (unwanted == 0))
     then codes "  strict: " ++ (decimal unwanted ++ codes " flows that nobody wants, status 1\n")
     else []
 
 -- what stands before the last line
 abbrev pub end_lines : AuditOptions → TopologyValue → List NotesText → List FlowAnswer → List ℕ
-end_lines o t notes as =
+end_lines o t notes answers =
     unlisted_text t notes
-    ++ (summary_line as ++ strict_lines o.strict (are_right as) (count is_unwanted as))
+    ++ (summary_line answers ++ strict_lines o.strict (are_right answers) (count is_unwanted answers))

@@ -58,9 +58,9 @@ pub record IsAnswer (v : NotedValue) (o : AuditOptions) (flow : ℕ) (a : FlowAn
       ≡ answer_lines o (facts v.domain) v.notes flow listed a.examined explanation a.wanted
 
 -- one for each flow of the domain's topology, in order
-pub record AreAnswers (v : NotedValue) (o : AuditOptions) (as : List FlowAnswer) : Type 0 where
-  pub count : length as ≡ length v.domain.topology.flows
-  pub each : (flow : ℕ) (a : FlowAnswer) → slice_get as flow ≡ Some a → IsAnswer v o flow a
+pub record AreAnswers (v : NotedValue) (o : AuditOptions) (answers : List FlowAnswer) : Type 0 where
+  pub count : length answers ≡ length v.domain.topology.flows
+  pub each : (flow : ℕ) (a : FlowAnswer) → slice_get answers flow ≡ Some a → IsAnswer v o flow a
 
 -- What is written of all flows and behind that, and whether all are right.
 pub record IsAudited (v : NotedValue) (o : AuditOptions) (all : Bool) (written : List ℕ)

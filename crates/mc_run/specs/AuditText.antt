@@ -1,6 +1,7 @@
 -- What `mcaudit audit` writes of a flow: that it is right and which LANs want it, or what is found,
 -- what explains that, and where that is asked for the travel that shows it.
-use Rattle.std.specs.Prelude.{ℕ, Bool, true, false, List, [], ◌∷◌, ◌++◌, Option, Some, None, length}
+use Rattle.std.specs.Prelude.{ℕ, ◌==◌, ◌&&◌, not, Bool, true, false, List, [], ◌∷◌, ◌++◌, Option}
+use Rattle.std.specs.Prelude.{Some, None, if◌then◌else◌, length}
 use Rattle.mc_tables.specs.Notes.{NotesText}
 use Rattle.mc_topology.specs.declared.flow.Flow.{Flow}
 use Rattle.mc_topology.specs.Topology.{TopologyValue}
@@ -23,12 +24,18 @@ use Rattle.mc_run.specs.declared.standing.Standing.TheVariants.{Wanted, Unwanted
 
 -- ---- a flow that is right
 
--- the checker's yes with so many copies, and the LANs that want the flow; where faults alone are
--- asked for, a flow that is wanted is left out
+-- where faults alone are asked for, a flow that is wanted is left out
+abbrev pub is_left_out : (faults : Bool) → (wanted : List ℕ) → Bool
+is_left_out faults wanted = faults && not (length wanted == 0)
+
+abbrev pub unless_left_out : (faults : Bool) → (wanted : List ℕ) → (lines : List ℕ) → List ℕ
+unless_left_out faults wanted lines = if is_left_out faults wanted then [] else lines
+
+-- else the checker's yes with so many copies, and the LANs that want the flow
 abbrev pub right_lines : (faults : Bool) → TopologyValue → Flow → (copies : ℕ) → (wanted : List ℕ)
     → List ℕ
-right_lines true t f copies (lan ∷ wanted) = []
-right_lines _ t f copies wanted = flow_line t f (Yes copies) ++ wanted_text t wanted
+right_lines faults t f copies wanted =
+    unless_left_out faults wanted (flow_line t f (Yes copies) ++ wanted_text t wanted)
 
 -- ---- a flow that isn't
 

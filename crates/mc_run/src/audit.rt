@@ -39,12 +39,12 @@ struct FlowLines {
 /// What is written of each flow of a domain, in order.
 fn flow_lines(
     alloc: Global,
-    audited: AuditedDomain<'_>,
+    audited: &AuditedDomain<'_>,
     options: AuditOptions,
 ) -> Result<FlowLines, NoMemory>
-    requires { HasInterfaces audited }
-    ensures { IfOk result (λ lines. AreFlowsPushed (noted audited) options
-        (length (noted audited).domain.topology.flows) lines.standings (string_bytes lines.text)) }
+    requires { HasInterfaces audited.now }
+    ensures { IfOk result (λ lines. AreFlowsPushed (noted audited.now) options
+        (length (noted audited.now).domain.topology.flows) lines.standings (string_bytes lines.text)) }
 {
     let mut text = String::new(alloc);
     let mut standings = Standings::none();
@@ -57,13 +57,13 @@ fn flow_lines(
 /// What is written of a domain: its flows, what stands in the caches besides, and the verdict.
 fn audit_all(
     alloc: Global,
-    audited: AuditedDomain<'_>,
+    audited: &AuditedDomain<'_>,
     options: AuditOptions,
 ) -> Result<AuditSaid, NoMemory>
-    requires { HasInterfaces audited }
-    ensures text { IfOk result (λ audit. IsAudited (noted audited) options audit.said.yes
+    requires { HasInterfaces audited.now }
+    ensures text { IfOk result (λ audit. IsAudited (noted audited.now) options audit.said.yes
         (string_bytes audit.said.text)) }
-    ensures unwanted { IfOk result (λ audit. HasUnwanted (noted audited) options audit.unwanted) }
+    ensures unwanted { IfOk result (λ audit. HasUnwanted (noted audited.now) options audit.unwanted) }
 {
     let topology = audited.domain.topology();
     let FlowLines {
@@ -102,7 +102,7 @@ fn audit_read(
         notes: &read.notes,
         interfaces: &interfaces,
     };
-    audit_all(alloc, audited, options)
+    audit_all(alloc, &audited, options)
 }
 
 /// What is written of the domain that a folder's files tell.

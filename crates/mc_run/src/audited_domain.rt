@@ -6,7 +6,7 @@ use mc_tables::CacheNotes;
 
 /// A domain, what is noted of each router's cache, the first router's first, and the interfaces that
 /// the topology has on each LAN.
-#[derive(Clone, Copy)]
+#[derive(Drop)]
 pub(crate) struct AuditedDomain<'d> {
     pub(crate) domain: &'d Domain,
     pub(crate) notes: &'d [CacheNotes],

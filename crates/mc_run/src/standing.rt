@@ -1,6 +1,6 @@
 //! How flows stand, and how many stand so.
 
-ghost use Rattle.std.specs.Prelude.{◌≡◌, ◌<◌, ◌+◌};
+ghost use Rattle.std.specs.Prelude.{◌≡◌, ◌<◌, ◌==◌};
 ghost use Rattle.mc_run.specs.AuditEnd.{with_standing};
 
 /// How a flow stands.

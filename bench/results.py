@@ -12,10 +12,11 @@ MIB = 2**20
 LEAST = 0.01  # seconds of the smallest size below which growth says nothing
 LEAST_BYTES = 10**6  # of an input below which the start of the process is most of what is measured
 MEMORY_OF = ("check", "audit")  # with the input
-BOUNDS = {"reading": 1 / 7, "growth": 1.1}
+BOUNDS = {"reading": 1 / 7, "growth": 1.1, "explaining": 2}
 MEANING = {
     "reading": "a certificate as written, of what it takes with one space before it: a check's time without a replay's",
     "growth": "growth of processor time with the input, as an exponent, up to four times the size",
+    "explaining": "an audit of 4,096 flows with a fault each, of what it took the program before",
 }
 
 
@@ -133,11 +134,32 @@ def reading_table(taken, programs):
     return table(["the certificate", "MB", *head], rows) if rows else "Not measured.\n"
 
 
+def faulty_table(taken, programs):
+    """What an audit took that explains a fault of each flow."""
+    rows = []
+    for name in shapes.FAULTY:
+        for size in taken.get(name, {}).get("audit", []):
+            took = [milliseconds(seconds) for seconds in reversed(size.seconds)]
+            memory = [f"{kib / 1024:,.0f}" for kib in reversed(size.kib)]
+            rows.append([f"{name}, `audit`", f"{size.size / 1e6:.1f}", *took, *memory])
+    head = ["ms", "MiB"] if programs == 1 else ["ms before", "ms", "MiB before", "MiB"]
+    return table(["", "MB", *head], rows) if rows else "Not measured.\n"
+
+
+def explaining_quotient(taken):
+    """The time of an audit that explains faults, by that of the program before."""
+    sizes = [size for name in shapes.FAULTY for size in taken.get(name, {}).get("audit", [])]
+    return sizes[0].seconds[0] / sizes[0].seconds[1] if sizes and len(sizes[0].seconds) > 1 else None
+
+
 def values_of(taken):
     """Whatever has a bound: its name, what it is of, and its value."""
     quotient = reading_quotient(taken)
     if quotient is not None:
         yield "reading", "certificate, check", quotient
+    explaining = explaining_quotient(taken)
+    if explaining is not None:
+        yield "explaining", "faulty, audit", explaining
     for name in [*shapes.SHAPES, *shapes.UNKIND]:
         for command, sizes in taken.get(name, {}).items():
             exponent = growth(sizes, time_of, 2)
@@ -232,6 +254,8 @@ def page_of(taken, commits, runs, floor):
         "## Reading a certificate\n",
         reading_table(taken, programs),
         f"As written, of what it takes with one space before it: {shown(quotient, '.3f')}\n",
+        "## Explaining faults\n",
+        faulty_table(taken, programs),
         "## Bounds\n",
         "`bench/run.py PROGRAM --bounds NAMES` fails where one of those named is missed.\n",
         bounds_table(taken),

@@ -10,10 +10,10 @@ best of N runs (3, if not given, and some more of short ones) in processor time,
 memory of any.
 
 --only    the names of shapes, with commas between; `unkind` means all tables of unkind rows, and `reading` the reading
-          of a certificate by its two ways
+          of a certificate by its two ways; `faulty` has faults, which audit explains
 --write   writes the tables into this file too, as bench/RESULTS.md has them
 --bounds  ends with status 1 where something misses one of these bounds, or nothing was measured that has it: `growth`,
-          `reading`, or both with a comma between (results.py, BOUNDS)
+          `reading`, `explaining` (which needs BEFORE), or some with commas between (results.py, BOUNDS)
 """
 import argparse
 import json
@@ -41,12 +41,14 @@ MORE = 5
 
 
 class Case(NamedTuple):
-    """The words of a command, the file or folder that it reads, the file of what it must write, and its status."""
+    """The words of a command, the file or folder that it reads, the file of what it must write, and its status; and where
+    earlier builds wrote less, the file of that."""
 
     words: list
     path: str
     wanted: str
     status: int
+    before: str = ""
 
 
 class Unexpected(Exception):
@@ -78,6 +80,11 @@ def size_of(path):
     return os.stat(path).st_size
 
 
+def audit_of(folder, status):
+    """The case of audit; builds before explanations wrote verdicts alone."""
+    return Case(["audit", f"{folder}/files"], f"{folder}/files", f"{folder}/audited", status, f"{folder}/verdicts")
+
+
 def cases_of(folder):
     """The case of each command."""
     with open(f"{folder}/facts", encoding="ascii") as file:
@@ -89,16 +96,17 @@ def cases_of(folder):
         "check": Case(["check"], f"{folder}/certified", f"{folder}/verdicts", 0),
         "make": Case(["make"], f"{folder}/bundle", f"{folder}/certificate", 0),
         "replay": Case(["replay", "1", str(facts["ttl"])], f"{folder}/bundle", f"{folder}/travel", 0),
-        "audit": Case(["audit", f"{folder}/files"], f"{folder}/files", f"{folder}/verdicts", 0),
+        "audit": audit_of(folder, 0),
         "wants": Case(["wants", *facts["words"]], f"{folder}/files/{facts['list']}", f"{folder}/answer", unwanted),
     }
 
 
-def run_once(program, case, folder):
-    """What one run took, if it answered as it must."""
+def run_once(program, case, folder, wanted):
+    """What one run took, if it answered as it must: what one of these files has."""
     source = "/dev/null" if os.path.isdir(case.path) else case.path
     status, seconds, kib = spawn([program, *case.words], source, folder)
-    difference = first_difference(f"{folder}/stdout", case.wanted)
+    differences = [first_difference(f"{folder}/stdout", file) for file in wanted]
+    difference = all(differences) and differences[0]
     if status != case.status or difference:
         with open(f"{folder}/stderr", encoding="utf-8", errors="replace") as file:
             said = file.read(400)
@@ -136,8 +144,9 @@ class Taken:
         path = self.case.path
         files = sorted(entry.path for entry in os.scandir(path)) if os.path.isdir(path) else [path]
         self.lines.append(spawn(["wc", "-l", *files], "/dev/null", self.folder)[1])
-        for program, runs in zip(self.programs, self.runs):
-            runs.append(run_once(program, self.case, self.folder))
+        for number, (program, runs) in enumerate(zip(self.programs, self.runs)):
+            wanted = [self.case.wanted] + ([self.case.before] if number and self.case.before else [])
+            runs.append(run_once(program, self.case, self.folder, wanted))
 
     def best(self):
         """The least time and the most memory."""
@@ -183,12 +192,29 @@ def measure_reading(programs, runs):
     return {name: {each: [one[each]] for each in commands} for name, one in zip(shapes.READING, taken)}
 
 
+def measure_faulty(programs, name, runs):
+    """The measure of an audit that finds a fault in each flow."""
+    place = MEMORY if os.path.isdir(MEMORY) else None
+    with tempfile.TemporaryDirectory(dir=place) as folder:
+        room = f"{folder}/0"
+        make_domain(name, 1, room)
+        taken = Taken(audit_of(room, 1), room, programs)
+        try:
+            while not taken.is_enough(runs):
+                taken.run()
+        except Unexpected as fault:
+            sys.exit(f"run.py: {name}: {fault}")
+        return {name: {"audit": [taken.best()]}}
+
+
 def measure_all(programs, only, runs):
     """The measures of all that is asked for, by the names of shapes."""
     taken = {}
     for name in asked_for(only):
         if name == "reading":
             measured = measure_reading(programs, runs)
+        elif name in shapes.FAULTY:
+            measured = measure_faulty(programs, name, runs)
         elif name in shapes.UNKIND:
             measured = {name: measure_shape(programs, name, UNKIND_SIZES, runs)}
         else:
@@ -201,7 +227,7 @@ def measure_all(programs, only, runs):
 
 def asked_for(only):
     """The names of what is measured."""
-    known = [*shapes.SHAPES, *shapes.UNKIND, "reading"]
+    known = [*shapes.SHAPES, *shapes.UNKIND, "reading", *shapes.FAULTY]
     groups = {"unkind": list(shapes.UNKIND)}
     names = [name for word in only.split(",") for name in groups.get(word, [word])] if only else known
     for name in names:

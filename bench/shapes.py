@@ -17,15 +17,21 @@ Each takes a share of its whole size, and scales what it is large in: rows, flow
 Then come tables whose rows may be unkind to how they are kept, all of 4 routers with 65,536 rows and 4,096 listed
 flows: unordered, as a measure for the others; equal beginnings; ascending; descending; one group; one source.
 
-And last the shape `certificate` twice, once with the certificate as make writes it, and once with one space before it,
-so that it is read as any other JSON text.
+Then the shape `certificate` twice, once with the certificate as make writes it, and once with one space before it, so
+that it is read as any other JSON text.
+
+And last `faulty`, the shape `chain` with the rows beside each source sending to nobody: each of the 4,096 flows misses
+LANs, and the search for the first of them goes along some 120 routers.
 
 usage: shapes.py SHAPE SHARE FOLDER      writes the texts of the domain and the answers into the folder (texts.py)
 """
+import os
 import random
 import sys
 
 sys.dont_write_bytecode = True
+sys.path.append(os.path.join(os.path.dirname(os.path.abspath(__file__)), "..", "tests", "audited"))
+import answers
 import texts
 from domains import EXCLUDE, INCLUDE, Domain, Flow, Plan, Reports, joins, older_report, report
 
@@ -297,10 +303,34 @@ UNKIND = {
 READING = {"as-written": certificate, "one-space-before": certificate}
 
 
+def faulty(rng, share):
+    """The chain, with no vif in the rows of the routers on the source's LAN."""
+    domain = chain(rng, share)
+    for flow, tree in zip(domain.flows, domain.tree_of):
+        rows = domain.trees[tree].rows
+        for router, _ in domain.hearers[flow.lan]:
+            rows[router] = (rows[router][0], [])
+    return domain
+
+
+FAULTY = {"faulty": faulty}
+
+
+def write_faulty_answers(folder):
+    """Writes what audit has to say of the folder's files, as tests/audited/answers.py works it out, and what it says
+    without explanations."""
+    answer = answers.audit([f"{folder}/files"]).output()
+    said = answer.splitlines(keepends=True)
+    texts.write_text(f"{folder}/audited", answer)
+    texts.write_text(f"{folder}/verdicts", "".join(line for line in said if line.startswith(("flow", "found", "verdict"))))
+
+
 def main():
     name, share, folder = sys.argv[1:]
-    domain = (SHAPES | UNKIND | READING)[name](random.Random(SEED), float(share))
+    domain = (SHAPES | UNKIND | READING | FAULTY)[name](random.Random(SEED), float(share))
     texts.write(domain, folder, " " if name == "one-space-before" else "")
+    if name in FAULTY:
+        write_faulty_answers(folder)
 
 
 if __name__ == "__main__":

@@ -4,7 +4,8 @@ bundle          without a certificate, for make and replay
 certified       with the certificate, for check
 files/          the files of the domain, for audit
 certificate     what make has to write
-verdicts        what check and audit have to write
+verdicts        what check has to write, and audit without what explains it
+audited         what audit has to write
 travel          what replay has to write of the first flow
 facts           in JSON: the number of flows and of bytes, the time to live of the first flow, and for wants the list, a
                 group, a source, and the answer
@@ -108,12 +109,43 @@ def certificate_of(domain):
 
 
 def verdicts_of(domain):
-    """What check and audit write of a domain whose flows are all right."""
+    """What check writes of a domain whose flows are all right."""
     lines = []
     for (group, source, _, ttl), tree in zip(domain.flows, domain.tree_of):
         copies = len(domain.trees[tree].entries)
         lines.append(f"flow {dotted(source)} {dotted(group)} ttl {ttl} yes copies {copies}\n")
     return "".join(lines) + "verdict yes\n"
+
+
+def some(names):
+    """A list of names as audit shows it."""
+    return " ".join(names[:8]) + (f" and {len(names) - 8} more" if len(names) > 8 else "")
+
+
+def wanted_of(domain, flow):
+    """The line of the LANs that want a flow."""
+    lans = [f"lan-{lan}" for lan, reports in enumerate(domain.reports) if reports.admits(flow.source, flow.group)]
+    return f"  wanted {len(lans)}: " + (some(lans) if lans else "no report asks for it") + "\n"
+
+
+def unlisted_of(domain):
+    """The lines of the rows that are of no flow and have a source: each is in the tables of the first routers."""
+    pairs = sorted((group, source) for group, source in domain.others if source)
+    routers = [f"router-{router}" for router in range(min(domain.full, len(domain.plan.routers)))]
+    for group, source in pairs[:20]:
+        yield f"unlisted {dotted(source)} {dotted(group)} routers {len(routers)}: {some(routers)}\n"
+    if len(pairs) > 20:
+        yield f"unlisted and {(len(pairs) - 20) * len(routers)} further rows\n"
+
+
+def audited_of(domain):
+    """What audit writes of a domain whose flows are all right."""
+    wanted = [wanted_of(domain, flow) for flow in domain.flows]
+    *verdicts, last = verdicts_of(domain).splitlines(keepends=True)
+    lines = [line for both in zip(verdicts, wanted) for line in both]
+    flows, unwanted = len(wanted), sum(line.startswith("  wanted 0:") for line in wanted)
+    summary = f"summary flows {flows} right {flows} wrong 0 unwanted {unwanted}\n"
+    return "".join([*lines, *unlisted_of(domain), summary, last])
 
 
 def travel_of(domain):
@@ -167,6 +199,7 @@ def write(domain, folder, before=""):
         bundle.write("end\n")
     write_text(f"{folder}/certificate", certificate)
     write_text(f"{folder}/verdicts", verdicts_of(domain))
+    write_text(f"{folder}/audited", audited_of(domain))
     write_text(f"{folder}/travel", travel_of(domain))
     write_text(f"{folder}/facts", json.dumps(facts_of(domain)))
 

@@ -1,167 +1,229 @@
 -- What is written of the flows of a domain, one after the other.
-use Rattle.std.proofs.Common.{◌≡◌, ℕ, zero, suc, ◌+◌, ◌<◌, ◌⊎◌, inl, inr, Bool, true, false}
+use Rattle.std.proofs.Common.{◌≡◌, ℕ, zero, suc, ◌+◌, ◌≤◌, ◌<◌, ◌⊎◌, inl, inr, Bool, true, false}
 use Rattle.std.proofs.Common.{List, [], ◌∷◌, ◌++◌}
-use Rattle.std.proofs.Common.{Global, Vec, length, Some, Result, Ok, Err, refl, sym, ap, subst, ◌∙◌}
-use Rattle.std.proofs.Common.{arith}
+use Rattle.std.proofs.Common.{Global, Vec, length, Option, Some, None, Result, Ok, Err, refl, sym, ap}
+use Rattle.std.proofs.Common.{subst, ◌∙◌, arith}
 use Rattle.std.proofs.Common.{append_assoc, append-nil, length-append}
-use Rattle.std.specs.Prelude.{◌↔◌, ◌&&◌, IfOk, IsTrue, slice_get}
-use Rattle.std.specs.Result.{IsOkAnd}
-use Rattle.std.proofs.lemmas.Bool.{false≢true}
+use Rattle.std.specs.Prelude.{◌&&◌, ◌==◌, not, cond, filter, flat_map, IfOk, OnOk, slice_get, unwrap_or, option_map}
 use Rattle.mc_topology.specs.declared.flow.Flow.{Flow}
-use Rattle.mc_topology.specs.Topology.{TopologyValue}
-use Rattle.mc_theory.specs.Certificates.{IsAccepted}
+use Rattle.std.specs.Result.{IsOkAnd}
+use Rattle.std.proofs.lemmas.Bool.{false≢true, ne_eqb}
+use Rattle.mc_theory.specs.Certificates.{Entry, IsAccepted}
 use Rattle.mc_theory.specs.Headline.{HeadlineHolds}
-use Rattle.mc_forward.specs.Domains.{DomainValue, net_of}
+use Rattle.mc_theory.specs.Nets.{Net}
+use Rattle.mc_check.specs.Verdicts.{HasCopies, IsExact}
+use Rattle.mc_check.specs.declared.verdict.Verdict.{Verdict}
+use Rattle.mc_check.specs.declared.verdict.Verdict.TheVariants.{Yes, No}
+use Rattle.mc_forward.specs.Domains.{DomainValue, net_of, ttl_of}
+use Rattle.mc_topology.specs.Topology.{TopologyValue}
+use Rattle.mc_forward.specs.ListedTables.{facts}
 use Rattle.mc_forward.proofs.EachLemmas.{some-at}
 use Rattle.mc_cert.specs.declared.reached.Reached.{Reached}
 use Rattle.mc_cert.specs.Certificate.{Tree}
-use Rattle.mc_check.specs.Verdicts.{HasCopies, is_yes}
-use Rattle.mc_check.specs.declared.verdict.Verdict.{Verdict}
-use Rattle.mc_check.specs.declared.verdict.Verdict.TheVariants.{Yes, No}
-use Rattle.mc_replay.specs.declared.travel.Travel.{Travel}
-use Rattle.mc_maker.specs.Examined.{is_certified}
+use Rattle.mc_maker.specs.Examined.{IfFound, IsTravelOfFirst, is_certified}
+use Rattle.mc_maker.specs.Flown.{IsFlown, examined_by}
+use Rattle.mc_maker.specs.declared.flown.Flown.{Flown}
+use Rattle.mc_maker.specs.declared.flown.Flown.TheVariants.{Certified, AtGreatest, AtLeast}
 use Rattle.mc_maker.specs.declared.examination.Examined.{Examined}
-use Rattle.mc_maker.specs.declared.examination.Examined.TheVariants.{Certified, Found}
-use Rattle.mc_run.specs.AuditRun.{IsChecked, IsFlowAudited}
-use Rattle.mc_run.specs.AuditRun.{events_told, flow_told, flows_told}
-use Rattle.mc_run.specs.MakeRun.{IsExamined, are_certified, found_lines}
-use Rattle.mc_run.specs.VerdictText.{flow_line}
+use Rattle.mc_maker.specs.declared.examination.Examined.TheVariants as examined
+use Rattle.mc_replay.specs.declared.travel.Travel.{Travel}
+use Rattle.mc_explain.specs.WantedText.{wanting}
+use Rattle.mc_run.specs.AuditEnd.{FlowAnswer, are_right, count, is_right, is_unwanted, is_wrong}
+use Rattle.mc_run.specs.AuditEnd.{with_standing}
+use Rattle.mc_run.specs.AuditPieces.{AreFlowsPushed, IsExplanationPushed, IsFlowPushed}
+use Rattle.mc_run.specs.AuditReasons.{IsExplanation}
+use Rattle.mc_run.specs.AuditRun.{IsAnswer, NotedValue}
+use Rattle.mc_run.specs.AuditText.{Explanation, answer_lines, events_told, explanation_lines}
+use Rattle.mc_run.specs.AuditText.{right_lines, standing_of, standing_of_right}
+use Rattle.mc_run.specs.MakeRun.{IsExamined, found_lines}
+use Rattle.mc_run.specs.declared.audit_options.AuditOptions.{AuditOptions}
+use Rattle.mc_run.specs.declared.standing.Standing.{Standing}
+use Rattle.mc_run.specs.declared.standing.Standing.TheVariants.{Wanted, Unwanted, Wrong}
+use Rattle.mc_run.specs.declared.standing.Standings.{Standings}
 
 -- ---- one flow
 
--- what is written of a list, where the checker says yes
-abbrev pub IsYesWritten : {X : Type 0} → DomainValue → (flow : ℕ) → Tree → Result Bool X
-    → (old new : List ℕ) → Type 0
-IsYesWritten d flow es r old new =
-    IfOk r (λ certified. IsTrue certified → (listed : Flow)
-    → slice_get d.topology.flows flow ≡ Some listed
-    → new ≡ old ++ flow_line d.topology listed (Yes (length es)))
+-- the checker says yes to a list that is accepted, with the number of its entries
+pub yes_written : {X Y : Type 0} (n : Net) (es : List Entry) (answer : Result Verdict X)
+    (r : Result Standing Y) (P : Verdict → Type 0) → IfOk answer (IsExact n es)
+    → IfOk answer (HasCopies n es) → IsAccepted n es → OnOk r (IsOkAnd answer P)
+    → OnOk r (P (Yes (length es)))
+yes_written n es answer (Err e) P exact copies accepted is = tt
+yes_written n es (Err e) (Ok s) P exact copies accepted is = absurd is
+yes_written n es (Ok (No reason)) (Ok s) P exact copies accepted is =
+    absurd (false≢true (exact.1 accepted))
+yes_written n es (Ok (Yes count)) (Ok s) P exact copies accepted is =
+    subst (λ (k : ℕ). P (Yes k)) copies is
 
--- the answer is whether the verdict is yes, and its line was written
-abbrev pub IsAnswerWritten : {X Y : Type 0} → TopologyValue → Flow → Result Verdict X
-    → Result Bool Y → (old new : List ℕ) → Type 0
-IsAnswerWritten t f answer r old new =
-    IfOk r (λ certified. IsOkAnd answer (λ verdict. (certified ≡ is_yes verdict)
-    × (new ≡ old ++ flow_line t f verdict)))
+-- what is found is found by the travel that was flown
+pub travel_flown : (d : DomainValue) (flow : ℕ) (x : Flown) → IsFlown d flow x
+    → IfFound (IsTravelOfFirst d flow) (examined_by d flow x)
+travel_flown d flow (Certified entries) is = tt
+travel_flown d flow (AtGreatest ended) is = (ended.flight.flight, is.run)
+travel_flown d flow (AtLeast greatest least) is = (least.flight.flight, is.2.run)
 
--- the checker's yes, as it is written of a list
-pub verdict_written : {X Y : Type 0} (d : DomainValue) (t : TopologyValue) (flow : ℕ) (f : Flow)
-    (es : Tree) (answer : Result Verdict X) (r : Result Bool Y) (old new : List ℕ)
-    → t ≡ d.topology → slice_get t.flows flow ≡ Some f
-    → IfOk answer (HasCopies (net_of d flow) es) → IsAnswerWritten t f answer r old new
-    → IsYesWritten d flow es r old new
-verdict_written d t flow f es answer (Err e) old new same here copies is = tt
-verdict_written d t flow f es (Err e) (Ok certified) old new same here copies is = absurd is
-verdict_written d t flow f es (Ok (No reason)) (Ok certified) old new same here copies is =
-    λ true listed at. absurd (false≢true (sym is.0 ∙ true))
-verdict_written d t flow f es (Ok (Yes count)) (Ok certified) old new same here copies is =
-    λ true listed at.
-    let there = subst (λ (s : TopologyValue). slice_get s.flows flow ≡ Some f) same here in
-    let one : f ≡ listed = cc in
-    is.1 ∙ ap (λ s. old ++ flow_line s f (Yes count)) same
-    ∙ ap (λ g. old ++ flow_line d.topology g (Yes count)) one
-    ∙ ap (λ n. old ++ flow_line d.topology listed (Yes n)) copies
+-- nothing is explained of a flow that is right
+abbrev no_explanation : Explanation
+no_explanation = record { told = []; search = None; also = [] }
 
 -- the flow's list was accepted,
-pub flow_certified : {X : Type 0} (d : DomainValue) (flow : ℕ) (travels : Bool) (r : Result Bool X)
-    (x : Examined) (entries : Vec Reached Global) (seen : Tree) (old new : List ℕ)
-    → flow < length d.topology.flows → IsExamined d flow x → x ≡ Certified entries
+pub flow_right : {X : Type 0} (v : NotedValue) (o : AuditOptions) (flow : ℕ) (r : Result Standing X)
+    (x : Flown) (entries : Vec Reached Global) (seen : Tree) (old new : List ℕ)
+    → flow < length v.domain.topology.flows → IsFlown v.domain flow x
+    → IsExamined v.domain flow (examined_by v.domain flow x) → x ≡ Certified entries
     → seen ≡ entries.items
-    → IfOk r (λ certified. IsTrue certified ↔ IsAccepted (net_of d flow) seen)
-    → IfOk r (λ certified. IsTrue certified → HeadlineHolds (net_of d flow) (length seen))
-    → IsYesWritten d flow seen r old new
-    → IfOk r (λ certified. IsFlowAudited d flow travels certified old new)
-flow_certified d flow travels (Err e) x entries seen old new lt is same list accepted keeps puts =
-    tt
-flow_certified d flow travels (Ok certified) x entries seen old new lt is same list accepted keeps
-    puts =
-    let n = net_of d flow in
-    let here = subst (λ (y : Examined). IsExamined d flow y) same is in
-    let right : certified ≡ true =
-    accepted.1 (subst (λ (es : Tree). IsAccepted n es) (sym list) here.accepted) in
-    let f = some-at d.topology.flows flow lt in
+    → OnOk r (HeadlineHolds (net_of v.domain flow) (length seen))
+    → IfOk r (λ s. s ≡ standing_of_right (wanting (facts v.domain) flow))
+    → OnOk r ((f : Flow) → slice_get v.domain.topology.flows flow ≡ Some f
+    → new ≡ old ++ right_lines o.faults v.domain.topology f (length seen)
+    (wanting (facts v.domain) flow))
+    → IfOk r (λ s. IsFlowPushed v o flow s old new)
+flow_right v o flow (Err e) x entries seen old new lt flies is same list holds stands puts = tt
+flow_right v o flow (Ok s) x entries seen old new lt flies is same list holds stands puts =
+    let n = net_of v.domain flow in
+    let wanted = wanting (facts v.domain) flow in
+    let f = some-at v.domain.topology.flows flow lt in
+    let certified : Examined = examined.Certified entries in
+    let so : examined_by v.domain flow x ≡ certified = ap (examined_by v.domain flow) same in
+    let lines = right_lines o.faults v.domain.topology f.0 (length entries.items) wanted in
     record {
-      listed = f.0;
-      examined = Certified entries;
-      stands = f.1;
-      checked = record {
-        examined = here;
-        headline = subst (λ (es : Tree). HeadlineHolds n (length es)) list (keeps right);
+      told = record { examined = certified; wanted = wanted; lines = lines };
+      is = record {
+        listed = f.0;
+        flown = x;
+        explanation = no_explanation;
+        stands = f.1;
+        flies = flies;
+        examined = sym so;
+        checked = record {
+          examined = subst (λ (y : Examined). IsExamined v.domain flow y) so is;
+          headline = subst (λ (es : Tree). HeadlineHolds n (length es)) list holds;
+        };
+        explained = subst (λ (y : Flown). IsExplanation v.domain v.notes flow y no_explanation)
+            (sym same) (record { told = refl; search = refl; also = refl });
+        wanted = refl;
+        spelled = refl;
       };
-      answer = right;
-      spelled = puts right f.0 f.1
-          ∙ ap (λ (es : Tree). old ++ flow_line d.topology f.0 (Yes (length es))) list;
+      stands = stands;
+      spelled = puts f.0 f.1
+          ∙ ap (λ (es : Tree). old ++ right_lines o.faults v.domain.topology f.0 (length es) wanted)
+          list;
     }
 
 -- or something was found
-pub flow_found : (d : DomainValue) (t : TopologyValue) (flow : ℕ) (travels : Bool) (x : Examined)
-    (f : Flow) (ttl : ℕ) (travel : Travel) (old new : List ℕ) → t ≡ d.topology
-    → slice_get t.flows flow ≡ Some f → IsExamined d flow x → x ≡ Found ttl travel
-    → new ≡ old ++ (found_lines t f ttl travel.finding ++ events_told travels t travel)
-    → IsFlowAudited d flow travels false old new
-flow_found d t flow travels x f ttl travel old new same here is found written = record {
-  listed = f;
-  examined = Found ttl travel;
-  stands = subst (λ (s : TopologyValue). slice_get s.flows flow ≡ Some f) same here;
-  checked = record {
-    examined = subst (λ (y : Examined). IsExamined d flow y) found is;
-    headline = tt;
-  };
-  answer = refl;
-  spelled = written ∙ ap (λ s. old ++ flow_told travels s f (Found ttl travel)) same;
-}
+pub flow_wrong : (v : NotedValue) (o : AuditOptions) (flow : ℕ) (x : Flown) (f : Flow) (ttl : ℕ)
+    (travel : Travel) (old found new_reasons new : List ℕ)
+    → slice_get v.domain.topology.flows flow ≡ Some f → IsFlown v.domain flow x
+    → IsExamined v.domain flow (examined_by v.domain flow x)
+    → examined_by v.domain flow x ≡ examined.Found ttl travel
+    → found ≡ old ++ found_lines v.domain.topology f ttl travel.finding
+    → IsExplanationPushed v flow f x found new_reasons
+    → new ≡ new_reasons ++ events_told o.travels v.domain.topology travel
+    → IsFlowPushed v o flow Wrong old new
+flow_wrong v o flow x f ttl travel old found reasons new here flies is so begun explains ends =
+    let t = v.domain.topology in
+    let wanted = wanting (facts v.domain) flow in
+    let is_found : Examined = examined.Found ttl travel in
+    let first = found_lines t f ttl travel.finding in
+    let why = explanation_lines (facts v.domain) v.notes flow f explains.explanation in
+    let events = events_told o.travels t travel in
+    record {
+      told = record {
+        examined = is_found;
+        wanted = wanted;
+        lines = first ++ (why ++ events);
+      };
+      is = record {
+        listed = f;
+        flown = x;
+        explanation = explains.explanation;
+        stands = here;
+        flies = flies;
+        examined = sym so;
+        checked = record {
+          examined = subst (λ (y : Examined). IsExamined v.domain flow y) so is;
+          headline = tt;
+        };
+        explained = explains.explained;
+        wanted = refl;
+        spelled = refl;
+      };
+      stands = refl;
+      spelled = ends ∙ ap (λ xs. xs ++ events) explains.spelled
+          ∙ ap (λ xs. (xs ++ why) ++ events) begun
+          ∙ append_assoc (old ++ first) why events
+          ∙ append_assoc old first (why ++ events);
+    }
+
+-- as it is found in the topology that was asked
+pub wrong_pushed : (v : NotedValue) (o : AuditOptions) (flow : ℕ) (x : Flown) (t : TopologyValue)
+    (f : Flow) (ttl : ℕ) (travel : Travel) (old found reasons new : List ℕ) → t ≡ v.domain.topology
+    → slice_get t.flows flow ≡ Some f → IsFlown v.domain flow x
+    → IsExamined v.domain flow (examined_by v.domain flow x)
+    → (slice_get v.domain.topology.flows flow ≡ Some f
+    → examined_by v.domain flow x ≡ examined.Found ttl travel)
+    → found ≡ old ++ found_lines t f ttl travel.finding
+    → ((g : Flow) → slice_get v.domain.topology.flows flow ≡ Some g
+    → IsExplanationPushed v flow g x found reasons)
+    → new ≡ reasons ++ events_told o.travels t travel → IsFlowPushed v o flow Wrong old new
+wrong_pushed v o flow x t f ttl travel old found reasons new same here flies is so begun explains
+    ends =
+    let there = subst (λ (s : TopologyValue). slice_get s.flows flow ≡ Some f) same here in
+    flow_wrong v o flow x f ttl travel old found reasons new there flies is (so there)
+    (begun ∙ ap (λ (s : TopologyValue). old ++ found_lines s f ttl travel.finding) same)
+    (explains f there)
+    (ends ∙ ap (λ (s : TopologyValue). reasons ++ events_told o.travels s travel) same)
+
+-- the flow's TTL, as the topology lists it
+pub ttl_listed : (d : DomainValue) (flow : ℕ) (f : Flow) (travel : Travel)
+    → slice_get d.topology.flows flow ≡ Some f
+    → (let x : Examined = examined.Found (ttl_of d flow) travel in x) ≡ examined.Found f.ttl travel
+ttl_listed d flow f travel here =
+    ap (λ (o : Option Flow). (let x : Examined =
+    examined.Found (unwrap_or (option_map (λ g. g.ttl) o) 0) travel in x)) here
 
 -- ---- flow by flow
 
--- what is written of the first flows, and whether all of them are certified
-pub record AreAuditedTo (d : DomainValue) (k : ℕ) (travels all : Bool) (text : List ℕ)
-    : Type 0 where
-  pub examined : List Examined
-  pub count : length examined ≡ k
-  pub each : (flow : ℕ) (x : Examined) → slice_get examined flow ≡ Some x → IsChecked d flow x
-  pub answer : all ≡ are_certified examined
-  pub spelled : text ≡ flows_told travels d.topology d.topology.flows examined
-
-flows_none : (travels : Bool) (t : TopologyValue) (fs : List Flow) → flows_told travels t fs [] ≡ []
-flows_none travels t [] = refl
-flows_none travels t (f ∷ fs) = refl
-
-pub audit_start : (d : DomainValue) (travels : Bool) → AreAuditedTo d 0 travels true []
-audit_start d travels = record {
-  examined = [];
-  count = refl;
-  each = λ flow x at. absurd cc;
-  answer = refl;
-  spelled = sym (flows_none travels d.topology d.topology.flows);
+pub flows_start : (v : NotedValue) (o : AuditOptions) (s : Standings) → s.right ≡ 0 → s.wrong ≡ 0
+    → s.unwanted ≡ 0 → AreFlowsPushed v o 0 s []
+flows_start v o s right wrong unwanted = record {
+  answers = [];
+  count_is = refl;
+  each = λ flow a at. absurd cc;
+  right = right;
+  wrong = wrong;
+  unwanted = unwanted;
+  spelled = refl;
 }
 
-flows_push : (travels : Bool) (t : TopologyValue) (fs : List Flow) (xs : List Examined) (f : Flow)
-    (x : Examined) → slice_get fs (length xs) ≡ Some f
-    → flows_told travels t fs (xs ++ x ∷ []) ≡ flows_told travels t fs xs ++ flow_told travels t f x
-flows_push travels t [] xs f x at = absurd cc
-flows_push travels t (g ∷ fs) [] f x at =
-    let same : g ≡ f = cc in
-    ap (λ more. flow_told travels t g x ++ more) (flows_none travels t fs)
-    ∙ append-nil (flow_told travels t g x) ∙ ap (λ (h : Flow). flow_told travels t h x) same
-flows_push travels t (g ∷ fs) (y ∷ xs) f x at =
-    ap (λ more. flow_told travels t g y ++ more) (flows_push travels t fs xs f x at)
-    ∙ sym (append_assoc (flow_told travels t g y) (flows_told travels t fs xs)
-    (flow_told travels t f x))
+lines_push : (answers : List FlowAnswer) (a : FlowAnswer)
+    → flat_map (λ b. b.lines) (answers ++ a ∷ []) ≡ flat_map (λ b. b.lines) answers ++ a.lines
+lines_push [] a = append-nil a.lines
+lines_push (b ∷ answers) a =
+    ap (λ xs. b.lines ++ xs) (lines_push answers a)
+    ∙ sym (append_assoc b.lines (flat_map (λ c. c.lines) answers) a.lines)
 
-and_all : (b : Bool) → (b && true) ≡ (true && b)
-and_all true = refl
-and_all false = refl
+-- how many more there are with one item more
+abbrev one_if : Bool → ℕ
+one_if true = 1
+one_if false = 0
 
-and_next : (a b c : Bool) → (a && (b && c)) ≡ ((a && b) && c)
-and_next true b c = refl
-and_next false b c = refl
+count_first : (b : Bool) (x : FlowAnswer) (more less : List FlowAnswer) (n : ℕ)
+    → length more ≡ length less + n
+    → length (cond b (x ∷ more) more) ≡ length (cond b (x ∷ less) less) + n
+count_first true x more less n same = omega (arith, same)
+count_first false x more less n same = same
 
-certified_push : (xs : List Examined) (x : Examined)
-    → are_certified (xs ++ x ∷ []) ≡ (are_certified xs && is_certified x)
-certified_push [] x = and_all (is_certified x)
-certified_push (y ∷ xs) x =
-    ap (λ b. is_certified y && b) (certified_push xs x)
-    ∙ and_next (is_certified y) (are_certified xs) (is_certified x)
+count_last : (b : Bool) (a : FlowAnswer) → length (cond b (a ∷ []) []) ≡ 0 + one_if b
+count_last true a = refl
+count_last false a = refl
+
+count_push : (p : FlowAnswer → Bool) (answers : List FlowAnswer) (a : FlowAnswer)
+    → count p (answers ++ a ∷ []) ≡ count p answers + one_if (p a)
+count_push p [] a = count_last (p a) a
+count_push p (x ∷ answers) a =
+    count_first (p x) x (filter p (answers ++ a ∷ [])) (filter p answers) (one_if (p a))
+    (count_push p answers a)
 
 -- what stands in a list that has grown by one item stood there, or is that item
 grown : {A : Type 0} (xs : List A) (x : A) (i : ℕ) (y : A) → slice_get (xs ++ x ∷ []) i ≡ Some y
@@ -172,26 +234,103 @@ grown (z ∷ xs) x zero y at = inl at
 grown (z ∷ xs) x (suc i) y at =
     elim (grown xs x i y at) [ inl h ↦ inl h | inr h ↦ inr (ap suc h.0, h.1) ]
 
--- one flow more was audited
-pub audit_next : (d : DomainValue) (k : ℕ) (travels all certified : Bool) (old new : List ℕ)
-    → AreAuditedTo d k travels all old → IsFlowAudited d k travels certified old new
-    → AreAuditedTo d (k + 1) travels (all && certified) new
-audit_next d k travels all certified old new to is =
-    let x = is.examined in
-    let here =
-    subst (λ (n : ℕ). slice_get d.topology.flows n ≡ Some is.listed) (sym to.count) is.stands in
+-- the counts of a flow that stands so
+right_by : (x : Examined) (wanted lines : List ℕ) (s : Standings)
+    → (with_standing s (standing_of x wanted)).right
+    ≡ s.right + one_if (is_right (record { examined = x; wanted = wanted; lines = lines }))
+right_by (examined.Certified entries) [] lines s = refl
+right_by (examined.Certified entries) (lan ∷ wanted) lines s = refl
+right_by (examined.Found ttl travel) wanted lines s = omega arith
+
+wrong_by : (x : Examined) (wanted lines : List ℕ) (s : Standings)
+    → (with_standing s (standing_of x wanted)).wrong
+    ≡ s.wrong + one_if (is_wrong (record { examined = x; wanted = wanted; lines = lines }))
+wrong_by (examined.Certified entries) [] lines s = omega arith
+wrong_by (examined.Certified entries) (lan ∷ wanted) lines s = omega arith
+wrong_by (examined.Found ttl travel) wanted lines s = refl
+
+unwanted_by : (x : Examined) (wanted lines : List ℕ) (s : Standings)
+    → (with_standing s (standing_of x wanted)).unwanted
+    ≡ s.unwanted + one_if (is_unwanted (record { examined = x; wanted = wanted; lines = lines }))
+unwanted_by (examined.Certified entries) [] lines s = refl
+unwanted_by (examined.Certified entries) (lan ∷ wanted) lines s =
+    rw (ne_eqb (length (lan ∷ wanted)) 0 (λ e. omega (arith, e))) (omega arith)
+unwanted_by (examined.Found ttl travel) wanted lines s = omega arith
+
+-- one flow more was written
+pub flows_next : (v : NotedValue) (o : AuditOptions) (k : ℕ) (s : Standings) (standing : Standing)
+    (new_standings : Standings) (old new : List ℕ) → AreFlowsPushed v o k s old
+    → IsFlowPushed v o k standing old new → new_standings ≡ with_standing s standing
+    → AreFlowsPushed v o (k + 1) new_standings new
+flows_next v o k s standing more old new to is same =
+    let a = is.told in
+    let now : more ≡ with_standing s (standing_of a.examined a.wanted) =
+    same ∙ ap (with_standing s) is.stands in
     record {
-      examined = to.examined ++ x ∷ [];
-      count = length-append to.examined (x ∷ []) ∙ (let h = to.count in omega (arith, h));
-      each = λ flow y found. elim (grown to.examined x flow y found) [
-        | inl h ↦ to.each flow y h
-        | inr h ↦ subst (λ (z : Examined). IsChecked d flow z) h.1
-            (subst (λ (n : ℕ). IsChecked d n x) (sym (h.0 ∙ to.count)) is.checked)
+      answers = to.answers ++ a ∷ [];
+      count_is = length-append to.answers (a ∷ []) ∙ (let h = to.count_is in omega (arith, h));
+      each = λ flow b at. elim (grown to.answers a flow b at) [
+        | inl h ↦ to.each flow b h
+        | inr h ↦ subst (λ (c : FlowAnswer). IsAnswer v o flow c) h.1
+            (subst (λ (n : ℕ). IsAnswer v o n a) (sym (h.0 ∙ to.count_is)) is.is)
       ];
-      answer = ap (λ b. b && certified) to.answer
-          ∙ ap (λ b. are_certified to.examined && b) is.answer
-          ∙ sym (certified_push to.examined x);
-      spelled = is.spelled
-          ∙ ap (λ ls. ls ++ flow_told travels d.topology is.listed x) to.spelled
-          ∙ sym (flows_push travels d.topology d.topology.flows to.examined is.listed x here);
+      right = ap (λ (t : Standings). t.right) now ∙ right_by a.examined a.wanted a.lines s
+          ∙ ap (λ (n : ℕ). n + one_if (is_right a)) to.right
+          ∙ sym (count_push is_right to.answers a);
+      wrong = ap (λ (t : Standings). t.wrong) now ∙ wrong_by a.examined a.wanted a.lines s
+          ∙ ap (λ (n : ℕ). n + one_if (is_wrong a)) to.wrong
+          ∙ sym (count_push is_wrong to.answers a);
+      unwanted = ap (λ (t : Standings). t.unwanted) now ∙ unwanted_by a.examined a.wanted a.lines s
+          ∙ ap (λ (n : ℕ). n + one_if (is_unwanted a)) to.unwanted
+          ∙ sym (count_push is_unwanted to.answers a);
+      spelled = is.spelled ∙ ap (λ xs. xs ++ a.lines) to.spelled ∙ sym (lines_push to.answers a);
     }
+
+-- there are at most as many as flows
+count_step : (b : Bool) (x : FlowAnswer) (some all : List FlowAnswer) → length some ≤ length all
+    → length (cond b (x ∷ some) some) ≤ suc (length all)
+count_step true x some all le = omega (arith, le)
+count_step false x some all le = omega (arith, le)
+
+count_within : (p : FlowAnswer → Bool) (answers : List FlowAnswer)
+    → count p answers ≤ length answers
+count_within p [] = omega arith
+count_within p (x ∷ answers) =
+    count_step (p x) x (filter p answers) answers (count_within p answers)
+
+pub right_within : (v : NotedValue) (o : AuditOptions) (k : ℕ) (s : Standings) (text : List ℕ)
+    → AreFlowsPushed v o k s text → s.right ≤ k
+right_within v o k s text to =
+    let h = count_within is_right to.answers in
+    let n = to.count_is in
+    let r = to.right in
+    omega (arith, h, n, r)
+
+pub wrong_within : (v : NotedValue) (o : AuditOptions) (k : ℕ) (s : Standings) (text : List ℕ)
+    → AreFlowsPushed v o k s text → s.wrong ≤ k
+wrong_within v o k s text to =
+    let h = count_within is_wrong to.answers in
+    let n = to.count_is in
+    let r = to.wrong in
+    omega (arith, h, n, r)
+
+pub unwanted_within : (v : NotedValue) (o : AuditOptions) (k : ℕ) (s : Standings) (text : List ℕ)
+    → AreFlowsPushed v o k s text → s.unwanted ≤ k
+unwanted_within v o k s text to =
+    let h = count_within is_unwanted to.answers in
+    let n = to.count_is in
+    let r = to.unwanted in
+    omega (arith, h, n, r)
+
+-- all flows are right where none is wrong
+right_first : (x : Examined) (a : FlowAnswer) (answers : List FlowAnswer)
+    → (count is_wrong answers == 0) ≡ are_right answers
+    → (length (cond (not (is_certified x)) (a ∷ filter is_wrong answers) (filter is_wrong answers))
+    == 0) ≡ (is_certified x && are_right answers)
+right_first (examined.Certified entries) a answers same = same
+right_first (examined.Found ttl travel) a answers same =
+    ne_eqb (length (a ∷ filter is_wrong answers)) 0 (λ e. omega (arith, e))
+
+pub none_wrong : (answers : List FlowAnswer) → (count is_wrong answers == 0) ≡ are_right answers
+none_wrong [] = refl
+none_wrong (a ∷ answers) = right_first a.examined a answers (none_wrong answers)

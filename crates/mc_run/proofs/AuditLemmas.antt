@@ -2,28 +2,40 @@
 use Rattle.std.proofs.Common.{◌≡◌, ℕ, zero, suc, inl, inr, Bool, true, List, [], ◌∷◌, ◌++◌, length}
 use Rattle.std.proofs.Common.{Option, Some, None, Result, Ok, Err, refl, sym, ap, subst, ◌∙◌, arith}
 use Rattle.std.proofs.Common.{append_assoc}
-use Rattle.std.specs.Prelude.{◌↔◌, ◌⊎◌, IfOk, IfSome, IsTrue, flat_map, slice_get}
+use Rattle.std.specs.Prelude.{◌&&◌, ◌↔◌, ◌⊎◌, IfOk, IfSome, IsTrue, flat_map, map, slice_get}
 use Rattle.std.specs.String.{string_bytes}
 use Rattle.std.proofs.lemmas.Bool.{false≢true}
+use Rattle.std.proofs.lemmas.List.{length-map}
 use Rattle.mc_layout.specs.Files.{FileText}
 use Rattle.mc_topology.specs.declared.flow.Flow.{Flow}
-use Rattle.mc_topology.specs.Topology.{TopologyValue}
 use Rattle.mc_theory.specs.Certificates.{IsRight}
 use Rattle.mc_theory.specs.Headline.{HeadlineHolds}
 use Rattle.mc_forward.specs.Domains.{DomainValue, net_of}
+use Rattle.mc_forward.specs.ListedTables.{facts}
 use Rattle.mc_forward.proofs.EachLemmas.{some-at}
 use Rattle.mc_cert.specs.Certificate.{Tree, tree_at}
+use Rattle.mc_explain.specs.WantedText.{wanting}
 use Rattle.mc_maker.specs.Examined.{IfCertified, is_certified}
 use Rattle.mc_maker.specs.declared.examination.Examined.{Examined}
 use Rattle.mc_maker.specs.declared.examination.Examined.TheVariants.{Certified, Found}
-use Rattle.mc_run.specs.AuditRun.{AreChecked, HeadlineOf, IsAudited, IsAuditText, IsChecked}
-use Rattle.mc_run.specs.AuditRun.{KeepsByLists, SaysFlowRight, SaysOfEach, SaysWhatIsFound}
-use Rattle.mc_run.specs.AuditRun.{SaysWhichAreRight, SaysYesOf, TellsOfEach}
-use Rattle.mc_run.specs.AuditRun.{TellsWhichAreRight, events_told, flow_told, flows_told}
-use Rattle.mc_domain.specs.Meaning.{MeansFiles}
-use Rattle.mc_run.specs.MakeRun.{AreExamined, AreRight, are_certified, found_line, lists_of}
-use Rattle.mc_run.specs.MakeRun.{no_certificate_line}
+use Rattle.mc_run.specs.AuditEnd.{FlowAnswer, are_right, end_lines}
+use Rattle.mc_run.specs.AuditPieces.{said_of}
+use Rattle.mc_run.specs.AuditRun.{AreAnswers, HeadlineOf, IsAnswer, IsAudited, IsAuditText, IsChecked}
+use Rattle.mc_run.specs.AuditRun.{KeepsByLists, MeansNoted, NotedValue, SaysFlowRight, SaysOfEach}
+use Rattle.mc_run.specs.AuditRun.{SaysWhatIsFound, SaysWhichAreRight, SaysYesOf, TellsOfEach}
+use Rattle.mc_run.specs.AuditRun.{TellsWhichAreRight}
+use Rattle.mc_run.specs.AuditText.{Explanation, answer_lines, events_told, explanation_lines}
+use Rattle.mc_run.specs.AuditText.{right_lines}
+use Rattle.mc_run.specs.AuditReasons.{IsExplanation}
+use Rattle.mc_tables.specs.Notes.{NotesText}
+use Rattle.mc_maker.specs.Flown.{IsFlown}
+use Rattle.mc_maker.specs.declared.flown.Flown.{Flown}
+use Rattle.mc_domain.specs.Meaning.{MeansFiles, OfDomain}
+use Rattle.mc_run.specs.MakeRun.{AreExamined, AreRight, IsExamined, are_certified, found_line}
+use Rattle.mc_run.specs.MakeRun.{lists_of, no_certificate_line}
 use Rattle.mc_run.specs.VerdictText.{last_line}
+use Rattle.mc_run.specs.declared.audit_options.AuditOptions.{AuditOptions}
+use Rattle.mc_run.specs.declared.audit_said.AuditSaid.{AuditSaid}
 use Rattle.mc_run.specs.declared.fault.RunFault.{RunFault}
 use Rattle.mc_run.specs.declared.said.Said.{Said}
 use Rattle.mc_run.proofs.MakeLemmas.{certified_right}
@@ -31,10 +43,29 @@ use Rattle.mc_run.proofs.RunLemmas.{AreSaid, more_meant, said_so}
 
 -- ---- what was said
 
-examined_of : (d : DomainValue) (xs : List Examined) → AreChecked d xs → AreExamined d xs
-examined_of d xs are = record {
-  count = are.count;
-  each = λ flow x at. (are.each flow x at).examined;
+-- the examinations of all flows
+examinations : List FlowAnswer → List Examined
+examinations answers = map (λ a. a.examined) answers
+
+-- what stands in a mapped list is what an item of the list gives
+mapped-at : {A B : Type 0} (f : A → B) (xs : List A) (k : ℕ) (y : B) → slice_get (map f xs) k ≡ Some y
+    → (x : A) × (slice_get xs k ≡ Some x) × (f x ≡ y)
+mapped-at f [] k y at = absurd cc
+mapped-at f (x ∷ xs) zero y at = (x, refl, cc)
+mapped-at f (x ∷ xs) (suc k) y at = mapped-at f xs k y at
+
+all_right : (answers : List FlowAnswer) → are_certified (examinations answers) ≡ are_right answers
+all_right [] = refl
+all_right (a ∷ answers) = ap (λ b. is_certified a.examined && b) (all_right answers)
+
+examined_of : (v : NotedValue) (o : AuditOptions) (answers : List FlowAnswer) → AreAnswers v o answers
+    → AreExamined v.domain (examinations answers)
+examined_of v o answers are = record {
+  count = length-map (λ (a : FlowAnswer). a.examined) answers ∙ are.count;
+  each = λ flow x at.
+      let here = mapped-at (λ (a : FlowAnswer). a.examined) answers flow x at in
+      subst (λ (y : Examined). IsExamined v.domain flow y) here.2
+      (are.each flow here.0 here.1).checked.examined;
 }
 
 -- the lists of certified flows, by the flows
@@ -48,163 +79,193 @@ listed_at (Certified entries ∷ xs) zero x all at P holds =
 listed_at (Certified entries ∷ xs) (suc k) x all at P holds = listed_at xs k x all at P holds
 
 -- where all flows are certified, the headline holds of each
-pub audit_keeps : (d : DomainValue) (travels all : Bool) (written : List ℕ)
-    → IsAudited d travels all written → all ≡ true → KeepsByLists d
-audit_keeps d travels all written a is = record {
-  examined = a.examined;
-  are_examined = examined_of d a.examined a.are_checked;
-  keeps = λ flow lt.
-      let size = a.are_checked.count in
-      let x = some-at a.examined flow (omega (arith, lt, size)) in
-      listed_at a.examined flow x.0 (sym a.answer ∙ is) x.1
-      (λ es. HeadlineHolds (net_of d flow) (length es)) (a.are_checked.each flow x.0 x.1).headline;
-}
+pub audit_keeps : (v : NotedValue) (o : AuditOptions) (all : Bool) (written : List ℕ)
+    → IsAudited v o all written → all ≡ true → KeepsByLists v.domain
+audit_keeps v o all written a is =
+    let xs = examinations a.answers in
+    let are = a.are_answers in
+    let size = are.count in
+    record {
+      examined = xs;
+      are_examined = examined_of v o a.answers are;
+      keeps = λ flow lt.
+          let given = some-at a.answers flow (omega (arith, lt, size)) in
+          let x = some-at xs flow
+          (omega (arith, lt, length-map (λ (b : FlowAnswer). b.examined) a.answers ∙ size)) in
+          let there = mapped-at (λ (b : FlowAnswer). b.examined) a.answers flow x.0 x.1 in
+          listed_at xs flow x.0 (all_right a.answers ∙ sym a.answer ∙ is) x.1
+          (λ es. HeadlineHolds (net_of v.domain flow) (length es))
+          (subst (λ (y : Examined). IfCertified
+          (λ es. HeadlineHolds (net_of v.domain flow) (length es)) y) there.2
+          (are.each flow there.0 there.1).checked.headline);
+    }
 
 -- ---- the lines of each flow
 
-lines_each : (travels : Bool) (t : TopologyValue) → List Flow → List Examined → List (List ℕ)
-lines_each travels t (f ∷ fs) (x ∷ xs) = flow_told travels t f x ∷ lines_each travels t fs xs
-lines_each travels t _ _ = []
+lines_all : (answers : List FlowAnswer)
+    → flat_map (λ a. a.lines) answers ≡ flat_map (λ ls. ls) (map (λ a. a.lines) answers)
+lines_all [] = refl
+lines_all (a ∷ answers) = ap (λ more. a.lines ++ more) (lines_all answers)
 
-lines_count : (travels : Bool) (t : TopologyValue) (fs : List Flow) (xs : List Examined)
-    → length xs ≡ length fs → length (lines_each travels t fs xs) ≡ length fs
-unfolding lines_each
-lines_count travels t [] xs size = refl
-lines_count travels t (f ∷ fs) [] size = absurd (omega (arith, size))
-lines_count travels t (f ∷ fs) (x ∷ xs) size =
-    ap suc (lines_count travels t fs xs (omega (arith, size)))
-
-lines_all : (travels : Bool) (t : TopologyValue) (fs : List Flow) (xs : List Examined)
-    → flows_told travels t fs xs ≡ flat_map (λ ls. ls) (lines_each travels t fs xs)
-unfolding lines_each
-lines_all travels t [] xs = refl
-lines_all travels t (f ∷ fs) [] = refl
-lines_all travels t (f ∷ fs) (x ∷ xs) =
-    ap (λ more. flow_told travels t f x ++ more) (lines_all travels t fs xs)
-
--- the lines, and last whether all flows are certified
-lines_spelled : (d : DomainValue) (travels all : Bool) (written : List ℕ)
-    (a : IsAudited d travels all written) → written
-    ≡ flat_map (λ ls. ls) (lines_each travels d.topology d.topology.flows a.examined)
-    ++ last_line all
-lines_spelled d travels all written a =
-    let t = d.topology in
+-- the lines, what stands behind them, and last whether all flows are right
+lines_spelled : (v : NotedValue) (o : AuditOptions) (all : Bool) (written : List ℕ)
+    (a : IsAudited v o all written) → written ≡ flat_map (λ ls. ls) (map (λ b. b.lines) a.answers)
+    ++ (end_lines o v.domain.topology v.notes a.answers ++ last_line all)
+lines_spelled v o all written a =
+    let end = end_lines o v.domain.topology v.notes a.answers in
     a.spelled
-    ∙ ap (λ ls. ls ++ last_line (are_certified a.examined)) (lines_all travels t t.flows a.examined)
-    ∙ ap (λ b. flat_map (λ ls. ls) (lines_each travels t t.flows a.examined) ++ last_line b)
+    ∙ ap (λ ls. ls ++ (end ++ last_line (are_right a.answers))) (lines_all a.answers)
+    ∙ ap (λ b. flat_map (λ ls. ls) (map (λ c. c.lines) a.answers) ++ (end ++ last_line b))
     (sym a.answer)
 
--- what holds of each flow's examination by its lines holds of the lines at its place
-told_each : (P : ℕ → Flow → List ℕ → Type 0) (travels : Bool) (t : TopologyValue) (fs : List Flow)
-    (xs : List Examined) → ((flow : ℕ) (f : Flow) (x : Examined) → slice_get xs flow ≡ Some x
-    → P flow f (flow_told travels t f x))
-    → (flow : ℕ) (f : Flow) (ls : List ℕ) → slice_get fs flow ≡ Some f
-    → slice_get (lines_each travels t fs xs) flow ≡ Some ls → P flow f ls
-unfolding lines_each
-told_each P travels t [] xs holds flow f ls listed told = absurd cc
-told_each P travels t (g ∷ fs) [] holds flow f ls listed told = absurd cc
-told_each P travels t (g ∷ fs) (x ∷ xs) holds zero f ls listed told =
-    let same : g ≡ f = cc in
-    let here : flow_told travels t g x ≡ ls = cc in
-    subst (P 0 f) here (subst (λ (h : Flow). P 0 f (flow_told travels t h x)) (sym same)
-    (holds 0 f x refl))
-told_each P travels t (g ∷ fs) (x ∷ xs) holds (suc flow) f ls listed told =
-    told_each (λ k. P (suc k)) travels t fs xs (λ k h y at. holds (suc k) h y at) flow f ls listed
-    told
+-- what holds of each flow's answer holds of the lines at its place
+told_each : (P : ℕ → Flow → List ℕ → Type 0) (v : NotedValue) (o : AuditOptions)
+    (answers : List FlowAnswer) → AreAnswers v o answers
+    → ((flow : ℕ) (a : FlowAnswer) (is : IsAnswer v o flow a) → P flow is.listed a.lines)
+    → (flow : ℕ) (f : Flow) (ls : List ℕ) → slice_get v.domain.topology.flows flow ≡ Some f
+    → slice_get (map (λ a. a.lines) answers) flow ≡ Some ls → P flow f ls
+told_each P v o answers are holds flow f ls listed told =
+    let here = mapped-at (λ (a : FlowAnswer). a.lines) answers flow ls told in
+    let is = are.each flow here.0 here.1 in
+    let stands = is.stands in
+    let same : is.listed ≡ f = cc in
+    subst (λ (g : Flow). P flow g ls) same
+    (subst (λ (xs : List ℕ). P flow is.listed xs) here.2 (holds flow here.0 is))
 
-line_right : (d : DomainValue) (flow : ℕ) (travels : Bool) (f : Flow) (x : Examined)
+line_right : (o : AuditOptions) (d : DomainValue) (notes : List NotesText) (flow : ℕ) (f : Flow)
+    (x : Examined) (e : Explanation) (wanted lines : List ℕ)
     → (IsTrue (is_certified x) ↔ IsRight (net_of d flow))
-    → SaysFlowRight d.topology f (net_of d flow) (flow_told travels d.topology f x)
-line_right d flow travels f (Certified entries) right = record {
-  right = λ _. (length entries.items, refl);
+    → lines ≡ answer_lines o (facts d) notes flow f x e wanted
+    → SaysFlowRight o d.topology f (net_of d flow) wanted lines
+line_right o d notes flow f (Certified entries) e wanted lines right is = record {
+  right = λ _. (length entries.items, is);
   wrong = λ not. absurd (not (right.0 refl));
 }
-line_right d flow travels f (Found ttl travel) right = record {
-  right = λ is. absurd (false≢true (right.1 is));
-  wrong = λ _. (
-    found_line d.topology ttl travel.finding ++ events_told travels d.topology travel,
-    append_assoc (no_certificate_line f) (found_line d.topology ttl travel.finding)
-        (events_told travels d.topology travel),
-  );
-}
+line_right o d notes flow f (Found ttl travel) e wanted lines right is =
+    let why = explanation_lines (facts d) notes flow f e in
+    let events = events_told o.travels d.topology travel in
+    record {
+      right = λ so. absurd (false≢true (right.1 so));
+      wrong = λ _. (
+        found_line d.topology ttl travel.finding ++ (why ++ events),
+        is ∙ append_assoc (no_certificate_line f) (found_line d.topology ttl travel.finding)
+            (why ++ events),
+      );
+    }
 
 -- each flow's lines say whether it is right, and the answer whether all are
-pub audit_right : (d : DomainValue) (travels all : Bool) (written : List ℕ)
-    → IsAudited d travels all written → TellsWhichAreRight d all written
-audit_right d travels all written a =
-    let t = d.topology in
-    let xs = a.examined in
-    let are = a.are_checked in
+pub audit_right : (v : NotedValue) (o : AuditOptions) (all : Bool) (written : List ℕ)
+    → IsAudited v o all written → TellsWhichAreRight v.domain o all written
+audit_right v o all written a =
+    let d = v.domain in
+    let answers = a.answers in
+    let are = a.are_answers in
     record {
-      lines = lines_each travels t t.flows xs;
-      count = lines_count travels t t.flows xs are.count;
-      each = told_each (λ flow f ls. SaysFlowRight t f (net_of d flow) ls) travels t t.flows xs
-          (λ flow f x at. line_right d flow travels f x (are.each flow x at).examined.right);
-      spelled = lines_spelled d travels all written a;
-      answer = subst (AreRight d) (sym a.answer) (certified_right d xs (examined_of d xs are));
+      lines = map (λ b. b.lines) answers;
+      end = end_lines o d.topology v.notes answers;
+      count = length-map (λ (b : FlowAnswer). b.lines) answers ∙ are.count;
+      each = told_each (λ flow f ls.
+          SaysFlowRight o d.topology f (net_of d flow) (wanting (facts d) flow) ls) v o answers are
+          (λ flow b is. subst (λ (w : List ℕ).
+          SaysFlowRight o d.topology is.listed (net_of d flow) w b.lines) is.wanted
+          (line_right o d v.notes flow is.listed b.examined is.explanation b.wanted b.lines
+          is.checked.examined.right is.spelled));
+      spelled = lines_spelled v o all written a;
+      answer = subst (AreRight d) (all_right answers ∙ sym a.answer)
+          (certified_right d (examinations answers) (examined_of v o answers are));
     }
 
 -- ---- what each flow's lines say
 
-line_so : (d : DomainValue) (flow : ℕ) (travels : Bool) (f : Flow) (x : Examined)
-    → IsChecked d flow x → SaysYesOf d flow f (flow_told travels d.topology f x)
-    ⊎ SaysWhatIsFound d flow f travels (flow_told travels d.topology f x)
-line_so d flow travels f (Certified entries) checked = inl (record {
-  list = entries.items;
-  right = checked.examined.right.0 refl;
-  accepted = checked.examined.accepted;
-  headline = checked.headline;
-  spelled = refl;
-})
-line_so d flow travels f (Found ttl travel) checked = inr (record {
-  ttl = ttl;
-  travel = travel;
-  wrong = λ is. false≢true (checked.examined.right.1 is);
-  runs = checked.examined.travel;
-  fault = checked.examined.fault;
-  ttl_told = checked.examined.ttl;
-  spelled = refl;
-})
+line_so : (v : NotedValue) (o : AuditOptions) (flow : ℕ) (f : Flow) (x : Examined) (flown : Flown)
+    (e : Explanation) (wanted lines : List ℕ) → IsFlown v.domain flow flown
+    → IsChecked v.domain flow x → IsExplanation v.domain v.notes flow flown e
+    → wanted ≡ wanting (facts v.domain) flow
+    → lines ≡ answer_lines o (facts v.domain) v.notes flow f x e wanted
+    → SaysYesOf v o flow f lines ⊎ SaysWhatIsFound v o flow f lines
+line_so v o flow f (Certified entries) flown e wanted lines flies checked explained wants is =
+    inl (record {
+      list = entries.items;
+      right = checked.examined.right.0 refl;
+      accepted = checked.examined.accepted;
+      headline = checked.headline;
+      spelled = is
+          ∙ ap (λ w. right_lines o.faults v.domain.topology f (length entries.items) w) wants;
+    })
+line_so v o flow f (Found ttl travel) flown e wanted lines flies checked explained wants is =
+    inr (record {
+      ttl = ttl;
+      travel = travel;
+      flown = flown;
+      explanation = e;
+      wrong = λ so. false≢true (checked.examined.right.1 so);
+      runs = checked.examined.travel;
+      fault = checked.examined.fault;
+      ttl_told = checked.examined.ttl;
+      flies = flies;
+      explained = explained;
+      spelled = is;
+    })
 
 -- a yes for which the headline holds, or what a run of its net finds
-pub audit_each : (d : DomainValue) (travels all : Bool) (written : List ℕ)
-    → IsAudited d travels all written → TellsOfEach d travels all written
-audit_each d travels all written a =
-    let t = d.topology in
-    let xs = a.examined in
-    let are = a.are_checked in
+pub audit_each : (v : NotedValue) (o : AuditOptions) (all : Bool) (written : List ℕ)
+    → IsAudited v o all written → TellsOfEach v o all written
+audit_each v o all written a =
+    let answers = a.answers in
+    let are = a.are_answers in
     record {
-      lines = lines_each travels t t.flows xs;
-      count = lines_count travels t t.flows xs are.count;
-      each = told_each
-          (λ flow f ls. SaysYesOf d flow f ls ⊎ SaysWhatIsFound d flow f travels ls)
-          travels t t.flows xs (λ flow f x at. line_so d flow travels f x (are.each flow x at));
-      spelled = lines_spelled d travels all written a;
+      lines = map (λ b. b.lines) answers;
+      end = end_lines o v.domain.topology v.notes answers;
+      count = length-map (λ (b : FlowAnswer). b.lines) answers ∙ are.count;
+      each = told_each (λ flow f ls. SaysYesOf v o flow f ls ⊎ SaysWhatIsFound v o flow f ls) v o answers
+          are (λ flow b is. line_so v o flow is.listed b.examined is.flown is.explanation b.wanted
+          b.lines is.flies is.checked is.explained is.wanted is.spelled);
+      spelled = lines_spelled v o all written a;
     }
 
 -- ---- so it is of what the run has to say
 
-pub right_said : (told : Option (List FileText)) (travels : Bool) (s : Result Said RunFault)
-    → AreSaid told (IsAuditText travels) s → AreSaid told SaysWhichAreRight s
-right_said told travels s =
-    said_so told (IsAuditText travels) SaysWhichAreRight s (λ files all written.
-    more_meant MeansFiles (λ d. IsAudited d travels all written)
-    (λ d. TellsWhichAreRight d all written) (λ d. audit_right d travels all written) files)
-
-pub each_said : (told : Option (List FileText)) (travels : Bool) (s : Result Said RunFault)
-    → AreSaid told (IsAuditText travels) s → AreSaid told (SaysOfEach travels) s
-each_said told travels s =
-    said_so told (IsAuditText travels) (SaysOfEach travels) s (λ files all written.
-    more_meant MeansFiles (λ d. IsAudited d travels all written)
-    (λ d. TellsOfEach d travels all written) (λ d. audit_each d travels all written) files)
-
-pub headline_kept : (told : Option (List FileText)) (travels : Bool) (s : Result Said RunFault)
-    → AreSaid told (IsAuditText travels) s
-    → IfOk s (λ said. IsTrue said.yes → IfSome told HeadlineOf)
-headline_kept told travels (Err fault) says = tt
-headline_kept None travels (Ok said) says = λ yes. tt
-headline_kept (Some files) travels (Ok said) says = λ yes. record {
-  domain = says.domain;
-  means = says.means;
-  holds = audit_keeps says.domain travels said.yes (string_bytes said.text) says.holds yes;
+-- what follows of a domain with its notes follows of the files
+noted_meant : (Holds : NotedValue → Type 0) (More : DomainValue → Type 0)
+    → ((v : NotedValue) → Holds v → More v.domain) → (files : List FileText)
+    → OfDomain MeansNoted Holds files → OfDomain MeansFiles More files
+noted_meant Holds More follows files is = record {
+  domain = is.domain.domain;
+  means = is.means.0;
+  holds = follows is.domain is.holds;
 }
+
+pub right_said : (told : Option (List FileText)) (o : AuditOptions) (s : Result Said RunFault)
+    → AreSaid told (IsAuditText o) s → AreSaid told (SaysWhichAreRight o) s
+right_said told o s =
+    said_so told (IsAuditText o) (SaysWhichAreRight o) s (λ files all written.
+    noted_meant (λ v. IsAudited v o all written) (λ d. TellsWhichAreRight d o all written)
+    (λ v. audit_right v o all written) files)
+
+pub each_said : (told : Option (List FileText)) (o : AuditOptions) (s : Result Said RunFault)
+    → AreSaid told (IsAuditText o) s → AreSaid told (SaysOfEach o) s
+each_said told o s =
+    said_so told (IsAuditText o) (SaysOfEach o) s (λ files all written.
+    more_meant MeansNoted (λ v. IsAudited v o all written) (λ v. TellsOfEach v o all written)
+    (λ v. audit_each v o all written) files)
+
+pub headline_kept : (told : Option (List FileText)) (o : AuditOptions) (s : Result Said RunFault)
+    → AreSaid told (IsAuditText o) s
+    → IfOk s (λ said. IsTrue said.yes → IfSome told HeadlineOf)
+headline_kept told o (Err fault) says = tt
+headline_kept None o (Ok said) says = λ yes. tt
+headline_kept (Some files) o (Ok said) says = λ yes. record {
+  domain = says.domain.domain;
+  means = says.means.0;
+  holds = audit_keeps says.domain o said.yes (string_bytes said.text) says.holds yes;
+}
+
+-- ---- the text, and the number beside it
+
+-- what is to be said is right of what was handed
+pub said_alone : (told : Option (List FileText)) (o : AuditOptions) (r : Result AuditSaid RunFault)
+    → IfOk r (λ audit. IfSome told (λ files.
+    IsAuditText o files audit.said.yes (string_bytes audit.said.text)))
+    → AreSaid told (IsAuditText o) (said_of r)
+said_alone told o (Ok audit) says = says
+said_alone told o (Err fault) says = tt

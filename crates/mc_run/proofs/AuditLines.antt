@@ -1,8 +1,9 @@
 -- The lines of an audit: `verdict yes` begins none but the last, and that only where every flow is
 -- certified.
-use Rattle.std.proofs.Common.{◌≡◌, ℕ, eqb, Bool, true, false, List, [], ◌∷◌, ◌++◌, inl, inr}
-use Rattle.std.proofs.Common.{length, refl, sym, ap, ◌∙◌, append_assoc}
-use Rattle.std.specs.Prelude.{codes, slice_index, decimal}
+use Rattle.std.proofs.Common.{◌≡◌, ℕ, suc, eqb, Bool, true, false, List, [], ◌∷◌, ◌++◌, inl, inr}
+use Rattle.std.proofs.Common.{cond, length, Option, Some, None, refl, sym, ap, subst, ◌∙◌, append_assoc}
+use Rattle.std.proofs.Common.{append-nil}
+use Rattle.std.specs.Prelude.{◌==◌, ◌&&◌, not, codes, slice_index, slice_get, decimal, flat_map}
 use Rattle.std.proofs.lemmas.Bool.{eq-eqb, false≢true}
 use Rattle.mc_text.proofs.BundleWords.{Without}
 use Rattle.mc_topology.specs.declared.flow.Flow.{Flow}
@@ -18,12 +19,26 @@ use Rattle.mc_replay.specs.declared.finding.Finding.TheVariants.{Missed}
 use Rattle.mc_replay.specs.declared.travel.Travel.{Travel}
 use Rattle.mc_maker.specs.declared.examination.Examined.{Examined}
 use Rattle.mc_maker.specs.declared.examination.Examined.TheVariants.{Certified, Found}
-use Rattle.mc_run.specs.AuditRun.{events_told, flow_told, flows_told}
+use Rattle.mc_tables.specs.Notes.{NotesText}
+use Rattle.mc_forward.specs.ListedTables.{DomainFacts, facts}
+use Rattle.mc_explain.specs.ExplanationText.{told_lines}
+use Rattle.mc_explain.specs.Indented.{AreIndented, IsFeedless, indented}
+use Rattle.mc_theory.specs.Lists.{In}
+use Rattle.mc_explain.specs.UnlistedText.{unlisted_text}
+use Rattle.mc_explain.specs.WantedText.{missed_too_text, wanted_text}
+use Rattle.mc_explain.specs.declared.searching.LanSearch.{LanSearch}
+use Rattle.mc_explain.proofs.ExplanationLemmas.{missed-by, told-lines, wanted-by}
+use Rattle.mc_run.specs.AuditEnd.{FlowAnswer, are_right, count, end_lines, is_right, is_unwanted}
+use Rattle.mc_run.specs.AuditEnd.{is_wrong, strict_lines, summary_by, summary_line}
+use Rattle.mc_run.specs.AuditRun.{AreAnswers, IsAnswer, NotedValue}
+use Rattle.mc_run.specs.AuditText.{Explanation, answer_lines, events_told, explanation_lines}
+use Rattle.mc_run.specs.AuditText.{is_left_out, right_lines, searched_lines}
+use Rattle.mc_run.specs.declared.audit_options.AuditOptions.{AuditOptions}
 use Rattle.mc_run.specs.CheckRun.{IsLineStart}
 use Rattle.mc_run.specs.MakeRun.{found_line, found_lines, no_certificate_line}
 use Rattle.mc_run.specs.ReplayRun.{event_line, event_lines}
 use Rattle.mc_run.specs.VerdictText.{flow_line, flow_words, last_line}
-use Rattle.mc_run.proofs.VerdictLines.{address, body, first_feed, flow_body, last_says, line-body}
+use Rattle.mc_run.proofs.VerdictLines.{address, behind, body, first_feed, flow_body, last_says, line-body}
 use Rattle.mc_run.proofs.VerdictLines.{named_lan, named_vif, number, plain, router_by, words}
 
 -- ---- lines that begin otherwise
@@ -167,27 +182,171 @@ shown_other : (travels : Bool) (t : TopologyValue) (travel : Travel) → IsTopol
 shown_other true t travel ok = events_other t travel.events.items ok
 shown_other false t travel ok = none_other
 
-flow_other : (travels : Bool) (t : TopologyValue) (f : Flow) (x : Examined) → IsTopology t
-    → AreOther (flow_told travels t f x)
-flow_other travels t f (Certified entries) ok = verdict_other t f (Yes (length entries.items)) ok
-flow_other travels t f (Found ttl travel) ok =
-    both_other (found_lines t f ttl travel.finding) (events_told travels t travel)
+-- lines that begin with two spaces
+indented_lines : (ls : List (List ℕ)) → ((l : List ℕ) → In l ls → IsFeedless l)
+    → AreOther (flat_map indented ls)
+indented_lines [] feedless = none_other
+indented_lines (l ∷ ls) feedless =
+    both_other (indented l) (flat_map indented ls)
+    (line_other (indented l) (codes "  " ++ l)
+    (words (codes "  ") l (plain (codes "  ") refl) (plain l (feedless l (inl refl))))
+    (λ tail rest same. apart 32 _ _ refl same)
+    (λ more. ap (λ xs. codes "  " ++ xs) (append_assoc l (codes "\n") more)))
+    (indented_lines ls (λ m h. feedless m (inr h)))
+
+indented_other : (text : List ℕ) → AreIndented text → AreOther text
+indented_other text is =
+    subst AreOther (sym is.spelled) (indented_lines is.lines is.feedless)
+
+-- ---- a flow
+
+right_other : (faults : Bool) (t : TopologyValue) (f : Flow) (copies : ℕ) (wanted : List ℕ)
+    → IsTopology t → AreOther (right_lines faults t f copies wanted)
+right_other faults t f copies wanted ok = by (is_left_out faults wanted)
+  where
+    by : (b : Bool)
+        → AreOther (cond b [] (flow_line t f (Yes copies) ++ wanted_text t wanted))
+    by true = none_other
+    by false = both_other (flow_line t f (Yes copies)) (wanted_text t wanted)
+        (verdict_other t f (Yes copies) ok)
+        (indented_other (wanted_text t wanted) (wanted-by t wanted ok))
+
+explained_other : (d : DomainFacts) (notes : List NotesText) (number : ℕ) (f : Flow)
+    (x : Explanation) → IsTopology d.topology → AreOther (explanation_lines d notes number f x)
+explained_other d notes number f x ok =
+    both_other (told_lines d notes number f x.told) _
+    (indented_other _ (told-lines d notes number f x.told ok))
+    (both_other (searched_lines d notes number f x.search) (missed_too_text d.topology x.also)
+    (searched x.search) (indented_other _ (missed-by d.topology x.also ok)))
+  where
+    searched : (s : Option LanSearch) → AreOther (searched_lines d notes number f s)
+    searched None = none_other
+    searched (Some found) = indented_other _ (search_indented d notes number f found ok)
+
+answer_other : (o : AuditOptions) (d : DomainFacts) (notes : List NotesText) (number : ℕ)
+    (f : Flow) (x : Examined) (e : Explanation) (wanted : List ℕ) → IsTopology d.topology
+    → AreOther (answer_lines o d notes number f x e wanted)
+answer_other o d notes number f (Certified entries) e wanted ok =
+    right_other o.faults d.topology f (length entries.items) wanted ok
+answer_other o d notes number f (Found ttl travel) e wanted ok =
+    let t = d.topology in
+    both_other (found_lines t f ttl travel.finding) _
     (both_other (no_certificate_line f) (found_line t ttl travel.finding) (none_line f)
-    (found_other t ttl travel.finding ok)) (shown_other travels t travel ok)
+    (found_other t ttl travel.finding ok))
+    (both_other (explanation_lines d notes number f e) (events_told o.travels t travel)
+    (explained_other d notes number f e ok) (shown_other o.travels t travel ok))
 
-flows_other : (travels : Bool) (t : TopologyValue) (fs : List Flow) (xs : List Examined)
-    → IsTopology t → AreOther (flows_told travels t fs xs)
-flows_other travels t [] xs ok = none_other
-flows_other travels t (f ∷ fs) [] ok = none_other
-flows_other travels t (f ∷ fs) (x ∷ xs) ok =
-    both_other (flow_told travels t f x) (flows_told travels t fs xs) (flow_other travels t f x ok)
-    (flows_other travels t fs xs ok)
+flows_other : (v : NotedValue) (o : AuditOptions) (answers : List FlowAnswer)
+    → ((flow : ℕ) (a : FlowAnswer) → slice_get answers flow ≡ Some a
+    → (number : ℕ) × IsAnswer v o number a) → IsTopology v.domain.topology
+    → AreOther (flat_map (λ a. a.lines) answers)
+flows_other v o [] each ok = none_other
+flows_other v o (a ∷ answers) each ok =
+    let is = (each 0 a refl).1 in
+    both_other a.lines (flat_map (λ b. b.lines) answers)
+    (subst AreOther (sym is.spelled) (answer_other o (facts v.domain) v.notes (each 0 a refl).0
+    is.listed a.examined is.explanation a.wanted ok))
+    (flows_other v o answers (λ flow b at. each (suc flow) b at) ok)
 
--- `verdict yes` stands at a line's start only where all flows are certified, and then last
-pub audit_says : (travels : Bool) (t : TopologyValue) (xs : List Examined) (all : Bool)
-    (front rest : List ℕ) → IsTopology t → IsLineStart front
-    → flows_told travels t t.flows xs ++ last_line all ≡ front ++ (codes "verdict yes" ++ rest)
+-- ---- what stands behind the flows
+
+-- the summary's bytes before its line feed
+summary_body : (flows right wrong unwanted : ℕ) → List ℕ
+summary_body flows right wrong unwanted =
+    codes "summary flows " ++ (decimal flows
+    ++ (codes " right " ++ (decimal right
+    ++ (codes " wrong " ++ (decimal wrong ++ (codes " unwanted " ++ decimal unwanted))))))
+
+summary_ends : (flows right wrong unwanted : ℕ) (more : List ℕ)
+    → summary_by flows right wrong unwanted ++ more
+    ≡ summary_body flows right wrong unwanted ++ (10 ∷ more)
+unfolding summary_body
+summary_ends flows right wrong unwanted more =
+    rw (append_assoc, append_assoc, append_assoc, append_assoc) refl
+
+summary_other : (flows right wrong unwanted : ℕ) → AreOther (summary_by flows right wrong unwanted)
+unfolding summary_body
+summary_other flows right wrong unwanted =
+    let last = words (codes " unwanted ") (decimal unwanted) (plain (codes " unwanted ") refl)
+    (number unwanted) in
+    let third = words (decimal wrong) _ (number wrong) last in
+    let second = words (decimal right) _ (number right)
+    (words (codes " wrong ") _ (plain (codes " wrong ") refl) third) in
+    let first = words (decimal flows) _ (number flows)
+    (words (codes " right ") _ (plain (codes " right ") refl) second) in
+    line_other (summary_by flows right wrong unwanted) (summary_body flows right wrong unwanted)
+    (words (codes "summary flows ") _ (plain (codes "summary flows ") refl) first)
+    (λ tail rest same. apart 115 _ _ refl same)
+    (summary_ends flows right wrong unwanted)
+
+strict_other : (strict all : Bool) (unwanted : ℕ) → AreOther (strict_lines strict all unwanted)
+strict_other strict all unwanted = by (strict && (all && not (unwanted == 0)))
+  where
+    told : List ℕ
+    told = codes "  strict: " ++ (decimal unwanted ++ codes " flows that nobody wants, status 1\n")
+    line : AreOther told
+    line = line_other told
+        (codes "  strict: " ++ (decimal unwanted ++ codes " flows that nobody wants, status 1"))
+        (words (codes "  strict: ") _ (plain (codes "  strict: ") refl)
+        (words (decimal unwanted) _ (number unwanted)
+        (plain (codes " flows that nobody wants, status 1") refl)))
+        (λ tail rest same. apart 32 _ _ refl same)
+        (λ more. ap (λ xs. codes "  strict: " ++ xs)
+        (append_assoc (decimal unwanted) (codes " flows that nobody wants, status 1\n") more
+        ∙ sym (append_assoc (decimal unwanted) (codes " flows that nobody wants, status 1")
+        (10 ∷ more))))
+    by : (b : Bool) → AreOther (cond b told [])
+    by true = line
+    by false = none_other
+
+end_other : (o : AuditOptions) (t : TopologyValue) (notes : List NotesText) (answers : List FlowAnswer)
+    → IsTopology t → AreOther (end_lines o t notes answers)
+end_other o t notes answers ok =
+    both_other (unlisted_text t notes) _ (unlisted_other t notes ok)
+    (both_other (summary_line answers) _
+    (summary_other (length answers) (count is_right answers) (count is_wrong answers) (count is_unwanted answers))
+    (strict_other o.strict (are_right answers) (count is_unwanted answers)))
+
+-- `verdict yes` stands at a line's start only where all flows are right, and then last
+pub audit_says : (v : NotedValue) (o : AuditOptions) (answers : List FlowAnswer) (all : Bool)
+    (front rest : List ℕ) → AreAnswers v o answers → IsTopology v.domain.topology → IsLineStart front
+    → flat_map (λ a. a.lines) answers ++ (end_lines o v.domain.topology v.notes answers ++ last_line all)
+    ≡ front ++ (codes "verdict yes" ++ rest)
     → (all ≡ true) × (rest ≡ codes "\n")
-audit_says travels t xs all front rest ok starts same =
-    let l = flows_other travels t t.flows xs ok front rest (last_line all) starts same in
-    last_says all l.front rest l.starts l.is
+audit_says v o answers all front rest are ok starts same =
+    let end = end_lines o v.domain.topology v.notes answers in
+    let l = flows_other v o answers (λ flow a at. (flow, are.each flow a at)) ok front rest
+    (end ++ last_line all) starts same in
+    let m = end_other o v.domain.topology v.notes answers ok l.front rest (last_line all) l.starts l.is in
+    last_says all m.front rest m.starts m.is
+
+-- ---- a line begins after them
+
+strict_starts : (strict all : Bool) (unwanted : ℕ) → IsLineStart (strict_lines strict all unwanted)
+strict_starts strict all unwanted = by (strict && (all && not (unwanted == 0)))
+  where
+    by : (b : Bool) → IsLineStart (cond b
+        (codes "  strict: " ++ (decimal unwanted ++ codes " flows that nobody wants, status 1\n")) [])
+    by true = inr (codes "  strict: "
+        ++ (decimal unwanted ++ codes " flows that nobody wants, status 1"),
+        ap (λ xs. codes "  strict: " ++ xs)
+        (sym (append_assoc (decimal unwanted) (codes " flows that nobody wants, status 1")
+        (codes "\n"))))
+    by false = inl refl
+
+pub end_starts : (o : AuditOptions) (t : TopologyValue) (notes : List NotesText)
+    (answers : List FlowAnswer) (lines : List ℕ) → IsLineStart (lines ++ end_lines o t notes answers)
+end_starts o t notes answers lines =
+    let unlisted = unlisted_text t notes in
+    let summary = summary_line answers in
+    let strict = strict_lines o.strict (are_right answers) (count is_unwanted answers) in
+    let before = summary_body (length answers) (count is_right answers) (count is_wrong answers)
+    (count is_unwanted answers) in
+    let ends : (lines ++ unlisted) ++ summary ≡ ((lines ++ unlisted) ++ before) ++ codes "\n" =
+    ap (λ xs. (lines ++ unlisted) ++ xs) (sym (append-nil summary) ∙ summary_ends (length answers)
+    (count is_right answers) (count is_wrong answers) (count is_unwanted answers) [])
+    ∙ sym (append_assoc (lines ++ unlisted) before (codes "\n")) in
+    subst IsLineStart (append_assoc (lines ++ unlisted) summary strict
+    ∙ append_assoc lines unlisted (summary ++ strict))
+    (behind ((lines ++ unlisted) ++ summary) strict ((lines ++ unlisted) ++ before) ends
+    (strict_starts o.strict (are_right answers) (count is_unwanted answers)))

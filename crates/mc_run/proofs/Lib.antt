@@ -1,3 +1,4 @@
+pub mod AuditAll
 pub mod AuditFlows
 pub mod AuditLemmas
 pub mod AuditLines
@@ -5,7 +6,9 @@ pub mod CertifiedLemmas
 pub mod CheckLemmas
 pub mod LookLemmas
 pub mod MakeLemmas
+pub mod MissedLemmas
 pub mod PackingLemmas
+pub mod ReasonLemmas
 pub mod ReplayLemmas
 pub mod RunLemmas
 pub mod SameLemmas

@@ -1,15 +1,17 @@
 -- What a run says of one domain holds of another one that says the same of each flow.
-use Rattle.std.proofs.Common.{◌≡◌, ℕ, ◌<◌, Bool, List, length, Some, sym}
-use Rattle.std.proofs.Common.{subst₂}
-use Rattle.std.specs.Prelude.{◌↔◌, ◌⊎◌, All, IsTrue, slice_get}
+use Rattle.std.proofs.Common.{◌≡◌, ℕ, ◌<◌, Bool, List, ◌++◌, length, Option, Some, ap, refl, sym}
+use Rattle.std.proofs.Common.{subst, subst₂, ◌∙◌}
+use Rattle.std.specs.Prelude.{◌↔◌, ◌⊎◌, All, IsTrue, flat_map, slice_get}
+use Rattle.mc_tables.specs.Notes.{NotesText}
 use Rattle.mc_topology.specs.Topology.{TopologyValue}
 use Rattle.mc_theory.specs.Nets.{Net}
 use Rattle.mc_theory.specs.Certificates.{Entry, IsAccepted, IsReordering, IsRight}
 use Rattle.mc_theory.specs.Findings.{Choices}
 use Rattle.mc_theory.specs.Headline.{HeadlineHolds}
 use Rattle.mc_theory.specs.Made.{entries_of}
-use Rattle.mc_forward.specs.Domains.{DomainValue, net_of}
-use Rattle.mc_forward.specs.ListedTables.{SaysTheSame}
+use Rattle.mc_forward.specs.Domains.{DomainValue, net_of, ttl_of}
+use Rattle.mc_forward.specs.ListedTables.{DomainFacts, SaysTheSame, facts}
+use Rattle.mc_forward.proofs.SameLemmas.{same_facts}
 use Rattle.mc_cert.specs.Certificate.{Tree, tree_at, IsEntryOf}
 use Rattle.mc_check.specs.declared.verdict.Verdict.{Verdict}
 use Rattle.mc_replay.specs.Travels.{IsRunOfChoices, IsRunTo, Replay}
@@ -18,12 +20,25 @@ use Rattle.mc_maker.specs.Examined.{FindsFault, FindsNothing, IfCertified, IfFou
 use Rattle.mc_maker.specs.Examined.{IsTtlOfFault, first_choices, is_certified}
 use Rattle.mc_maker.specs.declared.examination.Examined.{Examined}
 use Rattle.mc_maker.specs.declared.examination.Examined.TheVariants.{Certified, Found}
-use Rattle.mc_run.specs.AuditRun.{AreChecked, IsAudited, IsChecked, audit_text}
+use Rattle.mc_replay.specs.FindingValues.{finding_value}
+use Rattle.mc_replay.specs.declared.travel.Ended.{Ended}
+use Rattle.mc_maker.specs.Flown.{HasEnded, IsFlown, examined_by}
+use Rattle.mc_maker.specs.declared.flown.Flown.{Flown}
+use Rattle.mc_maker.specs.declared.flown.Flown.TheVariants as flown
+use Rattle.mc_explain.specs.Explained.{ExplainsAtLeast, ExplainsFinding, IsExplained}
+use Rattle.mc_explain.specs.WantedText.{wanting}
+use Rattle.mc_explain.specs.declared.searching.LanSearch.{LanSearch}
+use Rattle.mc_explain.specs.declared.told.Told.{Told}
+use Rattle.mc_run.specs.AuditEnd.{FlowAnswer, are_right, end_lines}
+use Rattle.mc_run.specs.AuditReasons.{IsExplanation, IsSearchFor, also_missed}
+use Rattle.mc_run.specs.AuditRun.{AreAnswers, HasUnwanted, IsAnswer, IsAudited, IsChecked}
+use Rattle.mc_run.specs.AuditText.{Explanation, answer_lines}
 use Rattle.mc_run.specs.CheckRun.{IsTextOfVerdicts, KeepsHeadline}
 use Rattle.mc_run.specs.MakeRun.{AreExamined, IsExamined, IsTextOfMade}
 use Rattle.mc_run.specs.MakeRun.{made_text}
 use Rattle.mc_run.specs.ReplayRun.{IsTextOfTravel, replay_text}
-use Rattle.mc_run.specs.VerdictText.{AreVerdicts, IsVerdict, check_text}
+use Rattle.mc_run.specs.VerdictText.{AreVerdicts, IsVerdict, check_text, last_line}
+use Rattle.mc_run.specs.declared.audit_options.AuditOptions.{AuditOptions}
 
 -- what holds of a domain by its topology and its flows' nets alone holds of one that says the same
 over : (P : TopologyValue → (ℕ → Net) → Type 0) {whole d : DomainValue} → SaysTheSame whole d
@@ -170,20 +185,140 @@ same_checked same flow x is = record {
   headline = over (λ t n. IfCertified (λ es. HeadlineHolds (n flow) (length es)) x) same is.headline;
 }
 
--- so it is of each flow,
-pub same_are_checked : {whole d : DomainValue} → SaysTheSame whole d → (xs : List Examined)
-    → AreChecked d xs → AreChecked whole xs
-same_are_checked same xs are = record {
-  count = over (λ t n. length xs ≡ length t.flows) same are.count;
-  each = λ flow x at. same_checked same flow x (are.each flow x at);
+-- what is so of a domain's facts is so of those of one that says the same
+by_facts : (P : DomainFacts → Type 0) {whole d : DomainValue} → SaysTheSame whole d
+    → P (facts d) → P (facts whole)
+by_facts P same = subst P (sym (same_facts same))
+
+-- a flight of the one is one of the other,
+ended_in : DomainValue → Ended → Ended
+ended_in d ended = record {
+  travel = ended.travel;
+  flight = record {
+    domain = d;
+    flow = ended.flight.flow;
+    flight = ended.flight.flight;
+  };
 }
 
--- and what is written of all is the same
-pub same_audited : {whole d : DomainValue} → SaysTheSame whole d → (travels all : Bool)
-    (written : List ℕ) → IsAudited d travels all written → IsAudited whole travels all written
-same_audited same travels all written is = record {
-  examined = is.examined;
-  are_checked = same_are_checked same is.examined is.are_checked;
+pub flown_in : DomainValue → Flown → Flown
+flown_in d (flown.Certified entries) = flown.Certified entries
+flown_in d (flown.AtGreatest ended) = flown.AtGreatest (ended_in d ended)
+flown_in d (flown.AtLeast greatest least) = flown.AtLeast (ended_in d greatest) (ended_in d least)
+
+same_ended : {whole d : DomainValue} → SaysTheSame whole d → (flow ttl : ℕ) (ended : Ended)
+    → HasEnded d flow ttl ended → HasEnded whole flow ttl (ended_in whole ended)
+same_ended same flow ttl ended is = record {
+  domain = refl;
+  flow_flown = is.flow_flown;
+  run = over (λ t n. IsRunTo (replay_in t n flow ttl first_choices) ended.travel
+      ended.flight.flight) same is.run;
+}
+
+same_flown : {whole d : DomainValue} → SaysTheSame whole d → (flow : ℕ) (x : Flown)
+    → IsFlown d flow x → IsFlown whole flow (flown_in whole x)
+same_flown same flow (flown.Certified entries) is = tt
+same_flown same flow (flown.AtGreatest ended) is = same_ended same flow 255 ended is
+same_flown {whole = whole} {d = d} same flow (flown.AtLeast greatest least) is = (
+  same_ended same flow 255 greatest is.0,
+  is.1,
+  subst (λ (n : ℕ). HasEnded whole flow n (ended_in whole least))
+      (ap (λ (n : Net). n.ttl) (sym (same.nets flow)))
+      (same_ended same flow (ttl_of d flow) least is.2),
+)
+
+-- which show the same,
+same_examined_by : {whole d : DomainValue} → SaysTheSame whole d → (flow : ℕ) (x : Flown)
+    → examined_by whole flow (flown_in whole x) ≡ examined_by d flow x
+same_examined_by same flow (flown.Certified entries) = refl
+same_examined_by same flow (flown.AtGreatest ended) = refl
+same_examined_by same flow (flown.AtLeast greatest least) =
+    ap (λ (n : Net). (let x : Examined = Found n.ttl least.travel in x)) (same.nets flow)
+
+-- of which the same is told,
+same_told : {whole d : DomainValue} → SaysTheSame whole d → (flow : ℕ) (x : Flown)
+    (told : List Told) → IsExplained d flow x told → IsExplained whole flow (flown_in whole x) told
+same_told same flow (flown.Certified entries) told is = is
+same_told same flow (flown.AtGreatest ended) told is =
+    over (λ t n. ExplainsFinding (n flow) ended.flight.flight (finding_value ended.travel.finding)
+    told) same is
+same_told same flow (flown.AtLeast greatest least) told is =
+    over (λ t n. ExplainsAtLeast (n flow) greatest.flight.flight least.flight.flight
+    (finding_value least.travel.finding) told) same is
+
+same_search : (whole : DomainValue) (f : DomainFacts) (notes : List NotesText) (flow : ℕ)
+    (x : Flown) (search : Option LanSearch) → IsSearchFor f notes flow x search
+    → IsSearchFor f notes flow (flown_in whole x) search
+same_search whole f notes flow (flown.Certified entries) search is = is
+same_search whole f notes flow (flown.AtGreatest ended) search is = is
+same_search whole f notes flow (flown.AtLeast greatest least) search is = is
+
+same_also : (whole : DomainValue) (f : DomainFacts) (flow : ℕ) (x : Flown)
+    → also_missed f flow (flown_in whole x) ≡ also_missed f flow x
+same_also whole f flow (flown.Certified entries) = refl
+same_also whole f flow (flown.AtGreatest ended) = refl
+same_also whole f flow (flown.AtLeast greatest least) = refl
+
+same_explanation : {whole d : DomainValue} → SaysTheSame whole d → (notes : List NotesText)
+    (flow : ℕ) (x : Flown) (e : Explanation) → IsExplanation d notes flow x e
+    → IsExplanation whole notes flow (flown_in whole x) e
+same_explanation {whole = whole} {d = d} same notes flow x e is = record {
+  told = same_told same flow x e.told is.told;
+  search = same_search whole (facts whole) notes flow x e.search
+      (by_facts (λ f. IsSearchFor f notes flow x e.search) same is.search);
+  also = by_facts (λ f. e.also ≡ also_missed f flow x) same is.also
+      ∙ sym (same_also whole (facts whole) flow x);
+}
+
+-- the same is answered of the flow,
+same_answer : {whole d : DomainValue} → SaysTheSame whole d → (notes : List NotesText)
+    (o : AuditOptions) (flow : ℕ) (a : FlowAnswer)
+    → IsAnswer (record { domain = d; notes = notes }) o flow a
+    → IsAnswer (record { domain = whole; notes = notes }) o flow a
+same_answer {whole = whole} {d = d} same notes o flow a is = record {
+  listed = is.listed;
+  flown = flown_in whole is.flown;
+  explanation = is.explanation;
+  stands = over (λ t n. slice_get t.flows flow ≡ Some is.listed) same is.stands;
+  flies = same_flown same flow is.flown is.flies;
+  examined = is.examined ∙ sym (same_examined_by same flow is.flown);
+  checked = same_checked same flow a.examined is.checked;
+  explained = same_explanation same notes flow is.flown is.explanation is.explained;
+  wanted = by_facts (λ f. a.wanted ≡ wanting f flow) same is.wanted;
+  spelled = by_facts (λ f. a.lines
+      ≡ answer_lines o f notes flow is.listed a.examined is.explanation a.wanted) same is.spelled;
+}
+
+-- and of each flow,
+same_answers : {whole d : DomainValue} → SaysTheSame whole d → (notes : List NotesText)
+    (o : AuditOptions) (answers : List FlowAnswer)
+    → AreAnswers (record { domain = d; notes = notes }) o answers
+    → AreAnswers (record { domain = whole; notes = notes }) o answers
+same_answers same notes o answers are = record {
+  count = over (λ t n. length answers ≡ length t.flows) same are.count;
+  each = λ flow a at. same_answer same notes o flow a (are.each flow a at);
+}
+
+-- and what is written of all is the same,
+pub same_audited : {whole d : DomainValue} → SaysTheSame whole d → (notes : List NotesText)
+    (o : AuditOptions) (all : Bool) (written : List ℕ)
+    → IsAudited (record { domain = d; notes = notes }) o all written
+    → IsAudited (record { domain = whole; notes = notes }) o all written
+same_audited same notes o all written is = record {
+  answers = is.answers;
+  are_answers = same_answers same notes o is.answers is.are_answers;
   answer = is.answer;
-  spelled = over (λ t n. written ≡ audit_text travels t is.examined) same is.spelled;
+  spelled = over (λ t n. written ≡ flat_map (λ a. a.lines) is.answers
+      ++ (end_lines o t notes is.answers ++ last_line (are_right is.answers))) same is.spelled;
+}
+
+-- and how many flows are right and unwanted
+pub same_unwanted : {whole d : DomainValue} → SaysTheSame whole d → (notes : List NotesText)
+    (o : AuditOptions) (unwanted : ℕ)
+    → HasUnwanted (record { domain = d; notes = notes }) o unwanted
+    → HasUnwanted (record { domain = whole; notes = notes }) o unwanted
+same_unwanted same notes o unwanted is = record {
+  answers = is.answers;
+  are_answers = same_answers same notes o is.answers is.are_answers;
+  counted = is.counted;
 }

@@ -230,3 +230,11 @@ lines_say t (f ∷ fs) (v ∷ vs) all front rest ok (inr (before, is)) same =
       | inr g ↦ lines_say t fs vs all (g.rest ++ (10 ∷ [])) rest ok (inr (g.rest, refl))
           (g.goes_on ∙ sym (append_assoc g.rest (10 ∷ []) more))
     ]
+
+-- after a line, and what a line begins after
+pub behind : (line rest xs : List ℕ) → line ≡ xs ++ codes "\n" → IsLineStart rest
+    → IsLineStart (line ++ rest)
+behind line rest xs is (inl none) =
+    inr (xs, ap (λ ys. line ++ ys) none ∙ append-nil line ∙ is)
+behind line rest xs is (inr (before, same)) =
+    inr (line ++ before, ap (λ ys. line ++ ys) same ∙ sym (append_assoc line before (codes "\n")))

@@ -1,4 +1,8 @@
+pub mod AuditEnd
+pub mod AuditPieces
+pub mod AuditReasons
 pub mod AuditRun
+pub mod AuditText
 pub mod CheckRun
 pub mod Failures
 pub mod InputMeaning

@@ -10,6 +10,7 @@ ghost use Rattle.mc_domain.specs.Input.{with_certificate};
 ghost use Rattle.mc_cert.specs.Certificate.{Tree};
 ghost use Rattle.mc_cert.specs.Reading.{reading_of};
 ghost use Rattle.mc_run.specs.AuditRun.{IsAuditText};
+ghost use Rattle.mc_run.specs.declared.audit_options.AuditOptions.{AuditOptions};
 ghost use Rattle.mc_domain.specs.Meaning.{MeansDomain, MeansFiles};
 ghost use Rattle.mc_run.specs.InputMeaning.{MeansCertified};
 ghost use Rattle.mc_run.specs.CheckRun.{IsLineStart, IsVerdictText, WroteYes};
@@ -64,11 +65,11 @@ pub fn the_line_that_says_yes()
         → written ≡ front ++ (codes "verdict yes" ++ rest)
         → (all ≡ true) × (rest ≡ codes "\n") }
     // The same holds of `audit`.
-    ensures audit_says { (files : List FileText) (travels : Bool) (written old : List ℕ)
-        → IsAuditText travels files true written → WroteYes (Some old) (Some (old ++ written)) }
-    ensures audit_last { (files : List FileText) (travels all : Bool)
+    ensures audit_says { (files : List FileText) (o : AuditOptions) (written old : List ℕ)
+        → IsAuditText o files true written → WroteYes (Some old) (Some (old ++ written)) }
+    ensures audit_last { (files : List FileText) (o : AuditOptions) (all : Bool)
         (written front rest : List ℕ)
-        → IsAuditText travels files all written → IsLineStart front
+        → IsAuditText o files all written → IsLineStart front
         → written ≡ front ++ (codes "verdict yes" ++ rest)
         → (all ≡ true) × (rest ≡ codes "\n") }
 {}

@@ -2,6 +2,11 @@
 #![tactic(auto)]
 
 mod audit;
+mod audit_end;
+mod audit_flow;
+mod audit_options;
+mod audit_said;
+mod audited_domain;
 mod check;
 mod domain_input;
 mod fault;
@@ -12,11 +17,14 @@ mod pack;
 mod refusal_text;
 mod replay;
 mod said;
+mod standing;
 mod travel_text;
 mod verdict_text;
 mod wants;
 
 pub use audit::run_audit;
+pub use audit_options::AuditOptions;
+pub use audit_said::AuditAnswer;
 pub use check::run_check;
 pub use fault::RunFault;
 pub use laws::{made_certificates_are_accepted, one_domain_at_most, the_line_that_says_yes};

@@ -2,9 +2,8 @@
 
 ghost use Rattle.std.specs.Prelude.{◌≡◌, ◌++◌, IfOk, OnOk, Some, length};
 ghost use Rattle.std.specs.String.{string_bytes};
-ghost use Rattle.mc_check.specs.Verdicts.{is_yes};
 ghost use Rattle.mc_run.specs.VerdictText.{are_yes as all_yes, check_text as text_of_check};
-ghost use Rattle.mc_run.specs.VerdictText.{flow_words, flow_line};
+ghost use Rattle.mc_run.specs.VerdictText.{flow_words, flow_line, last_line};
 
 use mc_check::Verdict;
 use mc_text::Memory as NoMemory;
@@ -38,7 +37,7 @@ pub(crate) fn are_yes(verdicts: &[Verdict]) -> bool
 }
 
 /// Writes the line of a flow and of its verdict.
-fn push_line(
+pub(crate) fn push_line(
     text: &mut String,
     topology: &Topology,
     flow: &Flow,
@@ -52,20 +51,12 @@ fn push_line(
     writeln!(text, "{words} {verdict}").map_err(|_| NoMemory)
 }
 
-/// Writes the line of a flow and of its verdict. It answers whether that is yes.
-pub(crate) fn push_verdict(
-    text: &mut String,
-    topology: &Topology,
-    flow: &Flow,
-    verdict: Verdict,
-) -> Result<bool, NoMemory>
-    ensures line { OnOk result (string_bytes text.new ≡
-        string_bytes text.old ++ flow_line topology.now flow.now verdict) }
-    ensures yes { IfOk result (λ yes. yes ≡ is_yes verdict) }
+/// Writes the last line.
+pub(crate) fn push_last(text: &mut String, yes: bool) -> Result<(), NoMemory>
+    ensures { OnOk result (string_bytes text.new ≡ string_bytes text.old ++ last_line yes) }
 {
-    let yes = matches!(verdict, Verdict::Yes { .. });
-    push_line(text, topology, flow, verdict)?;
-    Ok(yes)
+    let last = if yes { "verdict yes\n" } else { "verdict no\n" };
+    text.push_str(last).map_err(|_| NoMemory)
 }
 
 /// A line for each flow of the topology, and the verdict on all.
@@ -82,11 +73,6 @@ pub(crate) fn check_text(
         let verdict = verdicts[flow as usize];
         push_line(&mut text, topology, topology.flow(flow), verdict)?;
     }
-    let last = if are_yes(verdicts) {
-        "verdict yes\n"
-    } else {
-        "verdict no\n"
-    };
-    text.push_str(last).map_err(|_| NoMemory)?;
+    push_last(&mut text, are_yes(verdicts))?;
     Ok(text)
 }

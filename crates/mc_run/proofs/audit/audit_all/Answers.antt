@@ -1,10 +1,11 @@
-use Rattle.mc_run.proofs.AuditFlows.{audit_next, audit_start}
+use Rattle.mc_run.specs.AuditPieces.{noted}
+use Rattle.mc_run.proofs.AuditAll.{all_audited}
 use Rattle.mc_run.proofs.audit.audit_all.Goals as goal
 
-pub loop-flow-init : goal.loop-flow-init
-loop-flow-init c = rw (c.new-text.ensures.bytes) (audit_start c.args.domain.now c.args.travels)
-
-pub loop-flow-preserved : goal.loop-flow-preserved
-loop-flow-preserved c =
-    audit_next c.args.domain.now c.loop-flow.flow c.args.travels c.loop-flow.yes c.in_ok-yes.field-0
-    _ _ c.loop-flow.invariant c.in_ok-yes.ensures
+pub returns-clause-text : goal.returns-clause-text
+returns-clause-text c =
+    all_audited (noted c.args.audited.now) c.args.options c.in_ok-text.standings
+    c.topology-topology.result.now c.flows.result c.are_right-yes.result _ _ _ _ _
+    c.topology-topology.ensures.topology c.in_ok-text.ensures c.in_ok-push_unlisted.ensures
+    c.flows.ensures.count c.in_ok-push_summary.ensures c.in_ok-push_strict.ensures
+    c.are_right-yes.ensures c.in_ok-push_last.ensures

@@ -1,0 +1,10 @@
+use Rattle.mc_run.specs.AuditPieces.{noted}
+use Rattle.mc_run.proofs.AuditFlows.{flow_right}
+use Rattle.mc_run.proofs.audit_flow.push_flown.Goals as goal
+
+pub returns-in-Certified : goal.returns-in-Certified
+returns-in-Certified c =
+    flow_right (noted c.args.audited.now) c.args.options c.args.flow c.push_checked.result
+    c.args.flown.now c.in-Certified.entries c.deref.result.now _ _ c.requires.flow c.requires.flown
+    c.requires.examined c.in-Certified.is c.deref.ensures.value c.push_checked.ensures.headline
+    c.push_checked.ensures.standing c.push_checked.ensures.lines

@@ -1,0 +1,79 @@
+//! How flows stand, and how many stand so.
+
+ghost use Rattle.std.specs.Prelude.{◌≡◌, ◌<◌, ◌==◌};
+ghost use Rattle.mc_run.specs.AuditEnd.{with_standing};
+
+/// How a flow stands.
+#[derive(Clone, Copy, Debug, PartialEq, Eq)]
+pub(crate) enum Standing {
+    /// It is right, and wanted by a LAN.
+    Wanted,
+    /// It is right, and wanted by none.
+    Unwanted,
+    /// It isn't right.
+    Wrong,
+}
+
+/// How many flows stand how.
+#[derive(Clone, Copy, Debug)]
+pub(crate) struct Standings {
+    /// How many are right.
+    pub(crate) right: u32,
+    /// How many aren't.
+    pub(crate) wrong: u32,
+    /// How many are right and wanted by no LAN.
+    pub(crate) unwanted: u32,
+}
+
+impl Standings {
+    /// None.
+    pub(crate) fn none() -> Standings
+        ensures right { result.right ≡ 0 }
+        ensures wrong { result.wrong ≡ 0 }
+        ensures unwanted { result.unwanted ≡ 0 }
+    {
+        Standings {
+            right: 0,
+            wrong: 0,
+            unwanted: 0,
+        }
+    }
+
+    /// These, and a flow that stands so.
+    pub(crate) fn with(self, standing: Standing) -> Standings
+        requires right { self.right < u32.MAX }
+        requires wrong { self.wrong < u32.MAX }
+        requires unwanted { self.unwanted < u32.MAX }
+        ensures { result ≡ with_standing self standing }
+    {
+        let Standings {
+            right,
+            wrong,
+            unwanted,
+        } = self;
+        match standing {
+            Standing::Wanted => Standings {
+                right: right + 1,
+                wrong,
+                unwanted,
+            },
+            Standing::Unwanted => Standings {
+                right: right + 1,
+                wrong,
+                unwanted: unwanted + 1,
+            },
+            Standing::Wrong => Standings {
+                right,
+                wrong: wrong + 1,
+                unwanted,
+            },
+        }
+    }
+
+    /// Whether every flow is right.
+    pub(crate) fn are_right(self) -> bool
+        ensures { result ≡ (self.wrong == 0) }
+    {
+        self.wrong == 0
+    }
+}

@@ -145,7 +145,7 @@ told-lines d notes k f told ok =
 
 -- ---- lists of LANs
 
-more-plain : (more : ℕ) → Without 10 (more_text more)
+pub more-plain : (more : ℕ) → Without 10 (more_text more)
 more-plain more =
     either (more == 0) [] (codes " and " ++ (decimal more ++ codes " more")) tt
     (said (codes " and ") _ refl

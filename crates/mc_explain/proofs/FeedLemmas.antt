@@ -104,7 +104,7 @@ router-plain t router ok = router-by t.routers router ok.routers_named
 
 -- ---- devices
 
-byte-by : (b : ℕ) (shown : Bool) → is_plain b ≡ shown
+pub byte-by : (b : ℕ) (shown : Bool) → is_plain b ≡ shown
     → Without 10 (cond shown (b ∷ [])
     (codes "\\x" ++ (hex_digit_of (b / 16) ∷ hex_digit_of (b % 16) ∷ [])))
 byte-by b true is = (ne_eqb b 10 (λ e. false≢true (sym (ap is_plain e) ∙ is)), tt)

@@ -68,7 +68,7 @@ pub line-says : (front ys : List ℕ) → list_all (λ b. not (b == 10)) front �
     → GoesOn (front ++ ys)
 line-says front ys none g = line-more front ys (plain front none) g
 
-feedless-from : (xs : List ℕ) → Without 10 xs → IsFeedless xs
+pub feedless-from : (xs : List ℕ) → Without 10 xs → IsFeedless xs
 feedless-from [] none = refl
 feedless-from (x ∷ xs) none = rw (none.0, feedless-from xs none.1) refl
 

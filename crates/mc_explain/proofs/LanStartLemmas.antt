@@ -46,7 +46,7 @@ take-take-append (suc k) [] ys = refl
 take-take-append (suc k) (x ∷ xs) ys = ap (λ zs. x ∷ zs) (take-take-append k xs ys)
 
 -- one LAN more
-start-more : (s s' : LanStart) (xs : List ℕ) (x : ℕ) → IsStartOf s xs
+pub start-more : (s s' : LanStart) (xs : List ℕ) (x : ℕ) → IsStartOf s xs
     → s'.first ≡ take 8 (s.first ++ x ∷ []) → s'.count ≡ s.count + 1 → IsStartOf s' (xs ++ x ∷ [])
 start-more s s' xs x is first count = record {
   first = first ∙ ap (λ ys. take 8 (ys ++ x ∷ [])) is.first ∙ take-take-append 8 xs (x ∷ []);

@@ -19,3 +19,9 @@ pub mod SearchLemmas
 pub mod LeadLemmas
 pub mod MetLemmas
 pub mod ReachLemmas
+pub mod RouterLemmas
+pub mod SearchTextLemmas
+pub mod ShownLemmas
+pub mod UnlistedLemmas
+pub mod SearchLineLemmas
+pub mod RowLineLemmas

@@ -41,8 +41,9 @@ impl fmt::Display for ShownByte {
 
 /// A device's name, as `eth1`.
 #[derive(Clone, Copy, Drop)]
-struct ShownName<'n> {
-    name: &'n [u8],
+pub(crate) struct ShownName<'n> {
+    /// Its bytes.
+    pub(crate) name: &'n [u8],
 }
 
 impl<'n> fmt::Display for ShownName<'n> {

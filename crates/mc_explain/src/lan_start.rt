@@ -67,8 +67,9 @@ impl LanStart {
 
 /// How many more LANs there are, as ` and 3 more`, or nothing.
 #[derive(Clone, Copy, Drop)]
-struct ShownMore {
-    more: u32,
+pub(crate) struct ShownMore {
+    /// That number.
+    pub(crate) more: usize,
 }
 
 impl fmt::Display for ShownMore {
@@ -103,7 +104,7 @@ impl<'t> fmt::Display for ShownStart<'t> {
             write!(f, " {name}")?;
         }
         let more = ShownMore {
-            more: start.count.saturating_sub(8),
+            more: start.count.saturating_sub(8) as usize,
         };
         write!(f, "{more}")
     }

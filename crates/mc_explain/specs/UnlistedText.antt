@@ -1,0 +1,66 @@
+-- How the resolved rows are told whose source and group are no flow's.
+use Rattle.std.specs.Prelude.{ℕ, ◌-◌, ◌==◌, ◌&&◌, nat_le, Bool, false, List, [], ◌++◌, length, Option}
+use Rattle.std.specs.Prelude.{Some, None, if◌then◌else◌, codes, decimal, filter, flat_map, slice_get}
+use Rattle.std.specs.Prelude.{sum_by, take}
+use Rattle.mc_text.specs.Addr.{dotted, first_octet}
+use Rattle.mc_tables.specs.ListedRows.{is_listed}
+use Rattle.mc_tables.specs.Notes.{NotesText, in_order}
+use Rattle.mc_topology.specs.Topology.{TopologyValue}
+use Rattle.mc_theory.specs.Lists.{below}
+use Rattle.mc_explain.specs.RouterText.{routers_text}
+
+-- ---- the pairs of a group and a source
+
+-- the 20 lowest of all routers: each one's notes have its own 20 lowest
+abbrev pub lowest_of : List NotesText → List (ℕ × ℕ)
+lowest_of notes = take 20 (in_order (flat_map (λ own. own.lowest) notes))
+
+-- whether a router's notes have a pair
+abbrev pub has_pair : ℕ × ℕ → Option NotesText → Bool
+has_pair pair None = false
+has_pair pair (Some own) = is_listed (Some own.lowest) pair
+
+-- the routers whose notes have it, in order
+abbrev pub routers_with : TopologyValue → List NotesText → ℕ × ℕ → List ℕ
+routers_with t notes pair =
+    filter (λ router. has_pair pair (slice_get notes router)) (below (length t.routers))
+
+-- ---- a line for each
+
+abbrev pub is_multicast : ℕ → Bool
+is_multicast group = nat_le 224 (first_octet group) && nat_le (first_octet group) 239
+
+-- what is asked where the group can't be one
+abbrev pub byte_order_text : ℕ → List ℕ
+byte_order_text group =
+    if is_multicast group then []
+    else codes "  no multicast group: is the byte order of these routers right in the topology?\n"
+
+abbrev pub line_of_pair : TopologyValue → ℕ × ℕ → (routers : List ℕ) → List ℕ
+line_of_pair t pair routers =
+    codes "unlisted " ++ (dotted pair.1 ++ (codes " " ++ (dotted pair.0
+    ++ (codes " routers " ++ (decimal (length routers)
+    ++ (codes ":" ++ (routers_text t routers ++ (codes "\n" ++ byte_order_text pair.0))))))))
+
+abbrev pub pair_lines : TopologyValue → List NotesText → ℕ × ℕ → List ℕ
+pair_lines t notes pair = line_of_pair t pair (routers_with t notes pair)
+
+-- ---- how many more rows there are
+
+abbrev pub rows_of : List NotesText → ℕ
+rows_of notes = sum_by (λ own. own.unlisted) notes
+
+-- those of some pairs
+abbrev pub rows_told : TopologyValue → List NotesText → List (ℕ × ℕ) → ℕ
+rows_told t notes pairs = sum_by (λ pair. length (routers_with t notes pair)) pairs
+
+abbrev pub further_text : ℕ → List ℕ
+further_text more =
+    if more == 0 then [] else codes "unlisted and " ++ (decimal more ++ codes " further rows\n")
+
+-- ---- all lines
+
+abbrev pub unlisted_text : TopologyValue → List NotesText → List ℕ
+unlisted_text t notes =
+    flat_map (pair_lines t notes) (lowest_of notes)
+    ++ further_text (rows_of notes - rows_told t notes (lowest_of notes))

@@ -1,0 +1,564 @@
+//! A search for a missed LAN as it is written.
+
+ghost use Rattle.std.specs.Prelude.{◌≡◌, ◌<◌, ◌++◌, ◌==◌, ◌&&◌, ℕ, List, IfOk, OnOk, Some, codes, flat_map, length, slice_get, take};
+ghost use Rattle.std.specs.String.{string_bytes};
+ghost use Rattle.mc_topology.specs.declared.flow.Flow.{Flow};
+ghost use Rattle.mc_forward.specs.Journeys.{net_in};
+ghost use Rattle.mc_forward.specs.ListedTables.{facts};
+ghost use Rattle.mc_explain.specs.LanStart.{IsStartOf};
+ghost use Rattle.mc_explain.specs.SearchText.{carries_text, expected_text, from_no_lan_text};
+ghost use Rattle.mc_explain.specs.SearchText.{interface_text, line_text, lines_text, more_lines_text};
+ghost use Rattle.mc_explain.specs.SearchText.{no_lan_reason, of_lan, of_router, place_text, reach_text};
+ghost use Rattle.mc_explain.specs.SearchText.{routers_line, search_text, shown_text};
+ghost use Rattle.mc_explain.specs.ShownLines.{shown_lines};
+ghost use Rattle.mc_explain.specs.declared.searched.Searched.TheVariants.{DoesNotSend, FromUnplaced};
+ghost use Rattle.mc_explain.specs.declared.searched.Searched.TheVariants.{NotMulticast, NoVif};
+ghost use Rattle.mc_explain.specs.declared.searched.Searched.TheVariants.{EverySource, Stopped, WaitsFor};
+
+use crate::device_text::{NO_DEVICE, ShownDevice, ShownName};
+use crate::every_source_row::ShownEverySource;
+use crate::reach::Reach;
+use crate::router_start::{RouterStart, ShownRouters};
+use crate::row_text::{ShownIncoming, ShownRow};
+use crate::searched::Searched;
+use crate::searching::LanSearch;
+use crate::shown_line::{ShownLine, ShownLines};
+use mc_forward::{Domain, FlowView, RowFor};
+use mc_tables::{CacheNotes, Vif};
+use mc_text::Memory;
+use mc_topology::{Flow, LanNo, RouterNo, Topology};
+use std::alloc::AllocError;
+use std::fmt;
+
+/// How many lines are shown at most.
+const MOST: usize = 40;
+
+/// A LAN and a router on it, as `  l1: r1`.
+#[derive(Clone, Copy, Drop)]
+struct ShownPlace<'t> {
+    topology: &'t Topology,
+    lan: LanNo,
+    router: RouterNo,
+}
+
+impl<'t> fmt::Display for ShownPlace<'t> {
+    ghost output = { λ shown. Some (place_text shown.topology.now shown.lan shown.router) };
+
+    fn fmt<W: fmt::Write>(&self, f: &mut fmt::Formatter<W>) -> fmt::Result {
+        let lan = self.topology.lan_name_or_empty(self.lan);
+        let router = self.topology.router_name_or_empty(self.router);
+        write!(f, "  {lan}: {router}")
+    }
+}
+
+/// The device of an interface of the topology. Nothing is written of one that it hasn't.
+#[derive(Clone, Copy, Drop)]
+struct ShownInterface<'t> {
+    topology: &'t Topology,
+    interface: u32,
+}
+
+impl<'t> fmt::Display for ShownInterface<'t> {
+    ghost output = { λ shown. Some (interface_text shown.topology.now shown.interface) };
+
+    fn fmt<W: fmt::Write>(&self, f: &mut fmt::Formatter<W>) -> fmt::Result {
+        if self.interface >= self.topology.interfaces() {
+            return Ok(());
+        }
+        let interface = self.topology.interface(self.interface);
+        let name = ShownName {
+            name: interface.device,
+        };
+        write!(f, "{name}")
+    }
+}
+
+/// Why a vif of a table that a row takes from is placed on no LAN.
+fn no_lan_reason(vif: &Vif) -> &'static str
+    ensures { result.now ≡ no_lan_reason vif.now }
+{
+    if vif.register() {
+        "PIM's register vif"
+    } else if vif.tunnel() {
+        "a tunnel"
+    } else if vif.device() == NO_DEVICE {
+        "which has lost its device"
+    } else {
+        "which is on no listed LAN"
+    }
+}
+
+/// Why the vif that a router's row takes from is placed on no LAN, as `a tunnel`. Nothing is written
+/// where `ShownRow` writes nothing.
+#[derive(Clone, Copy, Drop)]
+struct ShownNoLan<'v> {
+    view: &'v FlowView<'v>,
+    router: RouterNo,
+}
+
+impl<'v> fmt::Display for ShownNoLan<'v> {
+    ghost output = { λ shown. Some (from_no_lan_text (facts shown.view.now.domain) shown.router
+        ((net_in shown.view.now).row shown.router)) };
+
+    fn fmt<W: fmt::Write>(&self, f: &mut fmt::Formatter<W>) -> fmt::Result {
+        match self.view.row(self.router) {
+            RowFor::Exact(entry) => match self.view.vif(self.router, entry.iif) {
+                Some(vif) => f.write_str(no_lan_reason(vif)),
+                None => {
+                    let router = self.view.topology().router_name_or_empty(self.router);
+                    write!(f, "which has no line in vif-{router}")
+                }
+            },
+            RowFor::Open | RowFor::NoRow => Ok(()),
+        }
+    }
+}
+
+/// How many more lines there are, as a line, or nothing.
+#[derive(Clone, Copy, Drop)]
+struct ShownMoreLines {
+    more: usize,
+}
+
+impl fmt::Display for ShownMoreLines {
+    ghost output = { λ shown. Some (more_lines_text shown.more) };
+
+    fn fmt<W: fmt::Write>(&self, f: &mut fmt::Formatter<W>) -> fmt::Result {
+        let more = self.more;
+        if more == 0 {
+            Ok(())
+        } else {
+            writeln!(f, "  and {more} more lines")
+        }
+    }
+}
+
+/// What lines are written by: a flow, the same as the topology has it, and what is noted of each router's
+/// cache.
+#[derive(Clone, Copy, Drop)]
+struct Writing<'v> {
+    view: &'v FlowView<'v>,
+    flow: &'v Flow,
+    notes: &'v [CacheNotes],
+}
+
+/// Writes a line of a LAN alone.
+fn push_of_lan(
+    text: &mut String,
+    topology: &Topology,
+    lan: LanNo,
+    what: &str,
+) -> Result<(), AllocError>
+    ensures { OnOk result (string_bytes text.new ≡ string_bytes text.old
+        ++ of_lan topology.now lan what.now) }
+{
+    let lan = topology.lan_name_or_empty(lan);
+    writeln!(text, "  {lan}: {what}")
+}
+
+/// Writes a line of a router alone.
+fn push_of_router(
+    text: &mut String,
+    topology: &Topology,
+    lan: LanNo,
+    router: RouterNo,
+    what: &str,
+) -> Result<(), AllocError>
+    ensures { OnOk result (string_bytes text.new ≡ string_bytes text.old
+        ++ of_router topology.now lan router what.now) }
+{
+    let place = ShownPlace {
+        topology,
+        lan,
+        router,
+    };
+    writeln!(text, "{place} {what}")
+}
+
+/// Writes of which device of the topology a router has no vif.
+fn push_no_vif(
+    text: &mut String,
+    topology: &Topology,
+    lan: LanNo,
+    router: RouterNo,
+    interface: u32,
+) -> Result<(), AllocError>
+    ensures { OnOk result (string_bytes text.new ≡ string_bytes text.old
+        ++ (place_text topology.now lan router ++ (codes " has no vif for "
+        ++ (interface_text topology.now interface ++ codes "\n")))) }
+{
+    let place = ShownPlace {
+        topology,
+        lan,
+        router,
+    };
+    let device = ShownInterface {
+        topology,
+        interface,
+    };
+    writeln!(text, "{place} has no vif for {device}")
+}
+
+/// Writes which device of the topology is no multicast vif.
+fn push_not_multicast(
+    text: &mut String,
+    topology: &Topology,
+    lan: LanNo,
+    router: RouterNo,
+    interface: u32,
+) -> Result<(), AllocError>
+    ensures { OnOk result (string_bytes text.new ≡ string_bytes text.old
+        ++ (place_text topology.now lan router ++ (codes " has "
+        ++ (interface_text topology.now interface ++ codes " as a tunnel or register vif\n")))) }
+{
+    let place = ShownPlace {
+        topology,
+        lan,
+        router,
+    };
+    let device = ShownInterface {
+        topology,
+        interface,
+    };
+    writeln!(text, "{place} has {device} as a tunnel or register vif")
+}
+
+/// Writes which row for every source a router has.
+fn push_every_source(
+    text: &mut String,
+    by: &Writing<'_>,
+    lan: LanNo,
+    router: RouterNo,
+) -> Result<(), AllocError>
+    ensures { OnOk result (string_bytes text.new ≡ string_bytes text.old
+        ++ line_text (facts by.now.view.now.domain) by.now.notes.now by.now.view.now.flow
+        by.now.flow.now (EverySource lan router)) }
+{
+    let view = by.view;
+    let place = ShownPlace {
+        topology: view.topology(),
+        lan,
+        router,
+    };
+    let row = ShownEverySource {
+        view,
+        notes: by.notes,
+        group: by.flow.group,
+        router,
+    };
+    writeln!(
+        text,
+        "{place} has only a row for every source, which is not judged: {row}"
+    )
+}
+
+/// Writes that a router's row takes from a vif that is placed on no LAN.
+fn push_from_unplaced(
+    text: &mut String,
+    by: &Writing<'_>,
+    lan: LanNo,
+    router: RouterNo,
+) -> Result<(), AllocError>
+    ensures { OnOk result (string_bytes text.new ≡ string_bytes text.old
+        ++ line_text (facts by.now.view.now.domain) by.now.notes.now by.now.view.now.flow by.now.flow.now
+        (FromUnplaced lan router)) }
+{
+    let (view, flow) = (by.view, by.flow);
+    let topology = view.topology();
+    let place = ShownPlace {
+        topology,
+        lan,
+        router,
+    };
+    let incoming = ShownIncoming { view, router };
+    let reason = ShownNoLan { view, router };
+    let row = ShownRow { view, flow, router };
+    writeln!(text, "{place} expects it from {incoming}, {reason}: {row}")
+}
+
+/// What is said of a LAN that carried a copy, or none.
+fn carries(carried: bool) -> &'static str
+    ensures { result.now ≡ carries_text carried }
+{
+    if carried { "it" } else { "none either" }
+}
+
+/// Writes that a router's row doesn't send by a vif.
+fn push_does_not_send(
+    text: &mut String,
+    by: &Writing<'_>,
+    lan: LanNo,
+    router: RouterNo,
+    vif: u8,
+    from: LanNo,
+    carried: bool,
+) -> Result<(), AllocError>
+    ensures { OnOk result (string_bytes text.new ≡ string_bytes text.old
+        ++ line_text (facts by.now.view.now.domain) by.now.notes.now by.now.view.now.flow by.now.flow.now
+        (DoesNotSend lan router vif from carried)) }
+{
+    let (view, flow) = (by.view, by.flow);
+    let topology = view.topology();
+    let place = ShownPlace {
+        topology,
+        lan,
+        router,
+    };
+    let device = ShownDevice { view, router, vif };
+    let row = ShownRow { view, flow, router };
+    let from = topology.lan_name_or_empty(from);
+    let carries = carries(carried);
+    writeln!(
+        text,
+        "{place} takes it from {from}, which carries {carries}, and does not send to {device}: {row}"
+    )
+}
+
+/// Writes by which threshold a copy is stopped.
+fn push_stopped(
+    text: &mut String,
+    by: &Writing<'_>,
+    lan: LanNo,
+    router: RouterNo,
+    vif: u8,
+    threshold: u8,
+    ttl: u8,
+) -> Result<(), AllocError>
+    ensures { OnOk result (string_bytes text.new ≡ string_bytes text.old
+        ++ line_text (facts by.now.view.now.domain) by.now.notes.now by.now.view.now.flow by.now.flow.now
+        (Stopped lan router vif threshold ttl)) }
+{
+    let view = by.view;
+    let place = ShownPlace {
+        topology: view.topology(),
+        lan,
+        router,
+    };
+    let device = ShownDevice { view, router, vif };
+    writeln!(
+        text,
+        "{place} is stopped at {device}: threshold {threshold}, the copy has ttl {ttl}"
+    )
+}
+
+/// Writes on which LAN a router waits for a copy.
+fn push_waits_for(
+    text: &mut String,
+    by: &Writing<'_>,
+    lan: LanNo,
+    router: RouterNo,
+    vif: u8,
+    from: LanNo,
+) -> Result<(), AllocError>
+    ensures { OnOk result (string_bytes text.new ≡ string_bytes text.old
+        ++ line_text (facts by.now.view.now.domain) by.now.notes.now by.now.view.now.flow by.now.flow.now
+        (WaitsFor lan router vif from)) }
+{
+    let (view, flow) = (by.view, by.flow);
+    let topology = view.topology();
+    let place = ShownPlace {
+        topology,
+        lan,
+        router,
+    };
+    let incoming = ShownIncoming { view, router };
+    let row = ShownRow { view, flow, router };
+    let from = topology.lan_name_or_empty(from);
+    writeln!(text, "{place} waits for it on {from} at {incoming}: {row}")
+}
+
+/// Writes which routers expect a copy from a LAN.
+fn push_expected(
+    text: &mut String,
+    topology: &Topology,
+    lan: LanNo,
+    start: &RouterStart,
+) -> Result<(), AllocError>
+    ensures { (routers : List ℕ) → IsStartOf start.now routers → OnOk result (string_bytes text.new ≡
+        string_bytes text.old ++ expected_text topology.now lan routers) }
+{
+    let lan = topology.lan_name_or_empty(lan);
+    let routers = ShownRouters { start, topology };
+    writeln!(text, "  {lan}: expected from this LAN by{routers}")
+}
+
+/// Writes a line of a search.
+fn push_line(text: &mut String, by: &Writing<'_>, line: Searched) -> Result<(), AllocError>
+    ensures { OnOk result (string_bytes text.new ≡ string_bytes text.old
+        ++ line_text (facts by.now.view.now.domain) by.now.notes.now by.now.view.now.flow by.now.flow.now line) }
+{
+    let topology = by.view.topology();
+    match line {
+        Searched::NoVif {
+            lan,
+            router,
+            interface,
+        } => push_no_vif(text, topology, lan, router, interface),
+        Searched::NotMulticast {
+            lan,
+            router,
+            interface,
+        } => push_not_multicast(text, topology, lan, router, interface),
+        Searched::NoRow { lan, router } => {
+            let what = "has no row of this source and group";
+            push_of_router(text, topology, lan, router, what)
+        }
+        Searched::Unresolved { lan, router } => {
+            let what = "has only an unresolved row (incoming interface -1): its routing daemon has \
+                 not answered yet";
+            push_of_router(text, topology, lan, router, what)
+        }
+        Searched::EverySource { lan, router } => push_every_source(text, by, lan, router),
+        Searched::FromUnplaced { lan, router } => push_from_unplaced(text, by, lan, router),
+        Searched::DoesNotSend {
+            lan,
+            router,
+            vif,
+            from,
+            carried,
+        } => push_does_not_send(text, by, lan, router, vif, from, carried),
+        Searched::Stopped {
+            lan,
+            router,
+            vif,
+            threshold,
+            ttl,
+        } => push_stopped(text, by, lan, router, vif, threshold, ttl),
+        Searched::WaitsFor {
+            lan,
+            router,
+            vif,
+            from,
+        } => push_waits_for(text, by, lan, router, vif, from),
+        Searched::ExpectedFromHere { lan, router } => {
+            push_expected(text, topology, lan, &RouterStart::of(&[router]))
+        }
+        Searched::NoRouter { lan } => push_of_lan(text, topology, lan, "no router is on it"),
+        Searched::NoSender { lan } => {
+            push_of_lan(text, topology, lan, "no row of this source sends onto it")
+        }
+    }
+}
+
+/// Writes a line of a search as it is shown.
+fn push_shown(text: &mut String, by: &Writing<'_>, line: &ShownLine<'_>) -> Result<(), AllocError>
+    ensures { OnOk result (string_bytes text.new ≡ string_bytes text.old
+        ++ shown_text (facts by.now.view.now.domain) by.now.notes.now by.now.view.now.flow by.now.flow.now
+        line.now) }
+{
+    match line {
+        ShownLine::One(line) => push_line(text, by, *line),
+        ShownLine::Expected { lan, routers } => {
+            push_expected(text, by.view.topology(), *lan, &routers.start())
+        }
+    }
+}
+
+/// Writes the first lines of a search. It answers how many lines there are.
+fn push_first(text: &mut String, by: &Writing<'_>, lines: &[Searched]) -> Result<usize, Memory>
+    ensures text { OnOk result (string_bytes text.new ≡ string_bytes text.old
+        ++ flat_map (shown_text (facts by.now.view.now.domain) by.now.notes.now by.now.view.now.flow by.now.flow.now)
+        (take 40 (shown_lines lines.now))) }
+    ensures count { IfOk result (λ count. count ≡ length (shown_lines lines.now)) }
+{
+    let mut count: usize = 0;
+    for line in ShownLines::new(lines) {
+        if count < MOST {
+            push_shown(text, by, &line)?;
+        }
+        count += 1;
+    }
+    Ok(count)
+}
+
+/// Writes the lines of a search.
+fn push_lines(text: &mut String, by: &Writing<'_>, lines: &[Searched]) -> Result<(), Memory>
+    ensures { OnOk result (string_bytes text.new ≡ string_bytes text.old
+        ++ lines_text (facts by.now.view.now.domain) by.now.notes.now by.now.view.now.flow by.now.flow.now
+        (shown_lines lines.now)) }
+{
+    let count = push_first(text, by, lines)?;
+    let more = ShownMoreLines {
+        more: count.saturating_sub(MOST),
+    };
+    write!(text, "{more}")?;
+    Ok(())
+}
+
+/// Writes a line of routers, if there are any.
+fn push_routers(
+    text: &mut String,
+    topology: &Topology,
+    what: &str,
+    routers: &[RouterNo],
+) -> Result<(), AllocError>
+    ensures { OnOk result (string_bytes text.new ≡ string_bytes text.old
+        ++ routers_line topology.now what.now routers.now) }
+{
+    if routers.is_empty() {
+        return Ok(());
+    }
+    let start = RouterStart::of(routers);
+    let routers = ShownRouters {
+        start: &start,
+        topology,
+    };
+    writeln!(text, "{what}{routers}")
+}
+
+/// Whether a search comes to no router.
+fn is_nowhere(reach: &Reach) -> bool
+    ensures { result ≡
+        ((length reach.now.sent_on.items == 0) && (length reach.now.took_none.items == 0)) }
+{
+    reach.sent_on.is_empty() && reach.took_none.is_empty()
+}
+
+/// Writes what a search comes to.
+fn push_reach(text: &mut String, topology: &Topology, reach: &Reach) -> Result<(), AllocError>
+    ensures { OnOk result (string_bytes text.new ≡ string_bytes text.old
+        ++ reach_text topology.now reach.now.sent_on.items reach.now.took_none.items) }
+{
+    if is_nowhere(reach) {
+        return text.push_str("  it comes to no router of this search whose tables are known\n");
+    }
+    push_routers(text, topology, "  it gets as far as:", &reach.sent_on)?;
+    push_routers(
+        text,
+        topology,
+        "  it comes to, and is not taken by:",
+        &reach.took_none,
+    )
+}
+
+/// Writes a search for a LAN that the packets of the flow with this number missed, by the names of the
+/// topology and of the vif tables and by what is noted of each router's cache, the first router's first:
+/// what it comes to, then its first 40 lines, and how many more there are. Routers that expect a copy
+/// from one LAN stand in one line.
+///
+/// # Errors
+///
+/// `Memory` where a growth was refused.
+pub fn push_search(
+    text: &mut String,
+    domain: &Domain,
+    notes: &[CacheNotes],
+    flow: u32,
+    search: &LanSearch,
+) -> Result<(), Memory>
+    requires flow { flow < length domain.now.topology.flows }
+    ensures lines { OnOk result ((listed : Flow) → slice_get domain.now.topology.flows flow ≡ Some listed
+        → string_bytes text.new ≡ string_bytes text.old
+        ++ search_text (facts domain.now) notes.now flow listed search.now.lines.items
+        search.now.reach.sent_on.items search.now.reach.took_none.items) }
+{
+    let view = FlowView::new(domain, flow);
+    let topology = domain.topology();
+    push_reach(text, topology, &search.reach)?;
+    let by = Writing {
+        view: &view,
+        flow: topology.flow(flow),
+        notes,
+    };
+    push_lines(text, &by, &search.lines)
+}

@@ -1,0 +1,129 @@
+//! The lines of a search as they are shown: those that tell side by side from which LAN routers expect
+//! a copy are one.
+
+ghost use Rattle.std.specs.Prelude.{◌≡◌};
+ghost use Rattle.mc_explain.specs.ExpectingRouters.{expects_from, run};
+ghost use Rattle.mc_explain.specs.LanStart.{IsStartOf};
+
+use crate::router_start::RouterStart;
+use crate::searched::Searched;
+use mc_topology::{LanNo, RouterNo};
+use std::marker::Model;
+
+/// The routers that some lines of a search tell to expect a copy. Its value in contracts is their list.
+#[derive(Debug, Drop)]
+pub struct ExpectingRouters<'s> {
+    lines: &'s [Searched],
+}
+
+impl<'s> Model for ExpectingRouters<'s> {
+    ghost use Rattle.std.specs.Prelude.{ℕ, List};
+    ghost use Rattle.mc_explain.specs.ExpectingRouters.{expecting};
+
+    ghost Value = { List ℕ };
+
+    ghost view = { λ s. expecting s.lines.now };
+}
+
+/// A line of a search as it is shown.
+#[derive(Debug, Drop)]
+pub enum ShownLine<'s> {
+    /// One that stands alone.
+    One(Searched),
+    /// Which routers have a row that takes from the LAN.
+    Expected {
+        /// The LAN.
+        lan: LanNo,
+        /// The routers, in order.
+        routers: ExpectingRouters<'s>,
+    },
+}
+
+/// The lines of a search as they are shown. Its value in contracts is the list of those that are left.
+#[derive(Debug, Drop)]
+pub struct ShownLines<'s> {
+    left: &'s [Searched],
+}
+
+impl<'s> Model for ShownLines<'s> {
+    ghost use Rattle.std.specs.Prelude.{List};
+    ghost use Rattle.mc_explain.specs.declared.shown_line.ShownLine.{ShownLine};
+    ghost use Rattle.mc_explain.specs.ShownLines.{shown_lines};
+
+    ghost Value = { List ShownLine };
+
+    ghost view = { λ s. shown_lines s.left.now };
+}
+
+/// Whether a line tells of a router that expects a copy from this LAN.
+fn expects_from(line: &Searched, lan: LanNo) -> bool
+    ensures { result ≡ expects_from lan line.now }
+{
+    match *line {
+        Searched::ExpectedFromHere { lan: own, .. } => own == lan,
+        _ => false,
+    }
+}
+
+/// How many lines from the front tell so.
+fn run(lines: &[Searched], lan: LanNo) -> usize
+    ensures { result ≡ run lan lines.now }
+{
+    for (index, line) in lines.iter().enumerate() {
+        if !expects_from(line, lan) {
+            return index;
+        }
+    }
+    lines.len()
+}
+
+impl<'s> ExpectingRouters<'s> {
+    /// The front of their list.
+    pub(crate) fn start(&self) -> RouterStart
+        ensures { IsStartOf result self.now }
+    {
+        let mut start = RouterStart::new();
+        for line in self.lines {
+            if let Searched::ExpectedFromHere { router, .. } = *line {
+                start.add(router);
+            }
+        }
+        start
+    }
+}
+
+impl<'s> ShownLines<'s> {
+    ghost use Rattle.mc_explain.specs.ShownLines.{shown_lines};
+
+    /// Those of all lines of a search.
+    pub fn new(lines: &'s [Searched]) -> ShownLines<'s>
+        ensures { result ≡ shown_lines lines.now }
+    {
+        ShownLines { left: lines }
+    }
+}
+
+impl<'s> Iterator for ShownLines<'s> {
+    type Item = ShownLine<'s>;
+
+    ghost use Rattle.std.specs.Iterator.{YieldsFirst, item_count};
+
+    ghost next_gives = { YieldsFirst (λ left. left) };
+
+    ghost remaining = { item_count (λ left. left) };
+
+    fn next(&mut self) -> Option<ShownLine<'s>> {
+        if self.left.is_empty() {
+            return None;
+        }
+        if let Searched::ExpectedFromHere { lan, .. } = self.left[0] {
+            let (lines, left) = self.left.split_at(run(self.left, lan));
+            self.left = left;
+            let routers = ExpectingRouters { lines };
+            return Some(ShownLine::Expected { lan, routers });
+        }
+        let line = self.left[0];
+        self.left = &self.left[1..];
+        Some(ShownLine::One(line))
+    }
+}

@@ -158,7 +158,7 @@ lans-plain t lans ok =
     (each-plain (behind_space t) (take 8 lans) (λ l. said (codes " ") _ refl (lan-plain t l ok)))
     (more-plain (length lans - 8))
 
-wanted-by : (t : TopologyValue) (lans : List ℕ) → IsTopology t → AreIndented (wanted_text t lans)
+pub wanted-by : (t : TopologyValue) (lans : List ℕ) → IsTopology t → AreIndented (wanted_text t lans)
 wanted-by t [] ok =
     line-begins _ (line-says (codes "wanted 0: no report asks for it") _ refl line-last)
 wanted-by t (lan ∷ lans) ok =
@@ -168,7 +168,7 @@ wanted-by t (lan ∷ lans) ok =
     (line-says (codes ":") _ refl
     (line-more (lans_text t (lan ∷ lans)) _ (lans-plain t (lan ∷ lans) ok) line-last))))
 
-missed-by : (t : TopologyValue) (lans : List ℕ) → IsTopology t
+pub missed-by : (t : TopologyValue) (lans : List ℕ) → IsTopology t
     → AreIndented (missed_too_text t lans)
 missed-by t [] ok = no-lines
 missed-by t (lan ∷ lans) ok =

@@ -50,4 +50,4 @@ pub use shown_line::{ExpectingRouters, ShownLine, ShownLines};
 pub use told::Told;
 pub use told_text::push_told;
 pub use unlisted_text::push_unlisted;
-pub use wanted_text::{push_also_missed, push_wanted};
+pub use wanted_text::{count_wanted, push_also_missed, push_wanted};

@@ -33,6 +33,15 @@ fn wanting(view: &FlowView<'_>) -> LanStart
     start
 }
 
+/// How many LANs want the flow with this number.
+pub fn count_wanted(domain: &Domain, flow: u32) -> u32
+    requires flow { flow < length domain.now.topology.flows }
+    ensures count { result ≡ length (wanting (facts domain.now) flow) }
+{
+    let view = FlowView::new(domain, flow);
+    wanting(&view).count()
+}
+
 /// Writes which LANs want the flow with this number, the first 8 of them by their names. It answers
 /// how many there are.
 ///

@@ -1,7 +1,7 @@
 -- What is written of all flows and behind them, and what it says of the files.
 use Rattle.std.proofs.Common.{◌≡◌, ℕ, Bool, List, ◌++◌, length, Option, Some, None, Result, Ok, Err}
 use Rattle.std.proofs.Common.{refl, sym, ap, subst, ◌∙◌, append_assoc}
-use Rattle.std.specs.Prelude.{◌==◌, IfErr, IfOk, IfSome, flat_map}
+use Rattle.std.specs.Prelude.{◌==◌, IfOk, IfSome, flat_map}
 use Rattle.mc_layout.specs.Files.{FileText}
 use Rattle.mc_tables.specs.Notes.{NotesText}
 use Rattle.mc_topology.specs.Topology.{TopologyValue}
@@ -10,15 +10,16 @@ use Rattle.mc_forward.specs.ListedTables.{SaysTheSame}
 use Rattle.mc_domain.specs.Meaning.{FilesMeanListed, OfDomain}
 use Rattle.mc_domain.specs.NotesOfFiles.{AreNotesOf}
 use Rattle.mc_explain.specs.UnlistedText.{unlisted_text}
-use Rattle.mc_text.specs.Device.{counted}
 use Rattle.mc_run.specs.AuditEnd.{are_right, count, end_lines, is_right, is_unwanted, is_wrong}
 use Rattle.mc_run.specs.AuditEnd.{strict_lines, summary_by, summary_line}
 use Rattle.mc_run.specs.AuditPieces.{AreFlowsPushed, yes_of}
 use Rattle.mc_run.specs.AuditRun.{IsAudited, MeansNoted, NotedValue}
+use Rattle.mc_run.specs.CheckRun.{SaysYes}
 use Rattle.mc_run.specs.VerdictText.{last_line}
 use Rattle.mc_run.specs.declared.audit_options.AuditOptions.{AuditOptions}
 use Rattle.mc_run.specs.declared.audit_said.AuditAnswer.{AuditAnswer}
 use Rattle.mc_run.specs.declared.fault.RunFault.{RunFault}
+use Rattle.mc_run.specs.declared.fault.RunFault.TheVariants.{Write}
 use Rattle.mc_run.specs.declared.standing.Standings.{Standings}
 use Rattle.mc_run.proofs.AuditFlows.{none_wrong}
 
@@ -30,14 +31,14 @@ four a b c l r =
     ∙ append_assoc a (b ++ (c ++ r)) l
 
 pub all_audited : (v : NotedValue) (o : AuditOptions) (s : Standings) (t : TopologyValue)
-    (flows : ℕ) (yes : Bool) (lines unlisted summary strict text : List ℕ)
+    (flows : ℕ) (every : Bool) (lines unlisted summary strict text : List ℕ)
     → t ≡ v.domain.topology
     → AreFlowsPushed v o (length v.domain.topology.flows) s lines
     → unlisted ≡ lines ++ unlisted_text t v.notes → flows ≡ length t.flows
     → summary ≡ unlisted ++ summary_by flows s.right s.wrong s.unwanted
-    → strict ≡ summary ++ strict_lines o.strict (s.wrong == 0) s.unwanted → yes ≡ (s.wrong == 0)
-    → text ≡ strict ++ last_line yes → IsAudited v o yes text
-all_audited v o s t flows yes lines unlisted summary strict text same to puts_unlisted size
+    → strict ≡ summary ++ strict_lines o.strict (s.wrong == 0) s.unwanted → every ≡ (s.wrong == 0)
+    → text ≡ strict ++ last_line every → IsAudited v o every text
+all_audited v o s t flows every lines unlisted summary strict text same to puts_unlisted size
     puts_summary puts_strict is_yes puts_last =
     let answers = to.answers in
     let all : (s.wrong == 0) ≡ are_right answers =
@@ -70,7 +71,7 @@ all_audited v o s t flows yes lines unlisted summary strict text same to puts_un
       answers = answers;
       are_answers = record { count = to.count_is; each = to.each };
       answer = is_yes ∙ all;
-      spelled = puts_last ∙ ap (λ xs. xs ++ last_line yes) third
+      spelled = puts_last ∙ ap (λ xs. xs ++ last_line every) third
           ∙ ap (λ (b : Bool). (((ours ++ told) ++ counts) ++ asked) ++ last_line b) (is_yes ∙ all)
           ∙ four ours told counts last asked;
     }
@@ -97,14 +98,17 @@ noted_same Holds (Some files) d notes moves means noted holds = record {
 
 -- ---- the answer, with the number beside it
 
--- what holds of each fault holds of it
-pub fault_so : (P : RunFault → Type 0) (r : Result AuditAnswer RunFault) (s : Result Bool RunFault)
-    → yes_of r ≡ s → IfErr s P → IfErr r P
-fault_so P (Ok answer) s same holds = tt
-fault_so P (Err fault) s same holds =
-    subst (λ (t : Result Bool RunFault). IfErr t P) (sym same) holds
+-- what follows of whether all are right follows of the answer
+pub answer_so : (P : Bool → Type 0) (r : Result AuditAnswer RunFault) (s : Result Bool RunFault)
+    → yes_of r ≡ s → IfOk s P → IfOk (yes_of r) P
+answer_so P r s same holds = subst (λ (t : Result Bool RunFault). IfOk t P) (sym same) holds
 
-pub counts_same : (p : RunFault → Bool) (r : Result AuditAnswer RunFault)
-    (s : Result Bool RunFault) (n : ℕ) → yes_of r ≡ s → counted p s n ≡ counted p r n
-counts_same p (Ok answer) s n same = ap (λ (t : Result Bool RunFault). counted p t n) (sym same)
-counts_same p (Err fault) s n same = ap (λ (t : Result Bool RunFault). counted p t n) (sym same)
+pub write_so : (Q : Type 0) (r : Result AuditAnswer RunFault) (s : Result Bool RunFault)
+    → yes_of r ≡ s → (s ≡ Err Write → Q) → r ≡ Err Write → Q
+write_so Q r s same follows fails = follows (sym same ∙ ap yes_of fails)
+
+pub yes_so : (Q : Type 0) (r : Result AuditAnswer RunFault) (s : Result Bool RunFault)
+    (old new : Option (List ℕ)) → yes_of r ≡ s → (SaysYes s old new → Q)
+    → SaysYes (yes_of r) old new → Q
+yes_so Q r s old new same follows says =
+    follows (subst (λ (t : Result Bool RunFault). SaysYes t old new) same says)

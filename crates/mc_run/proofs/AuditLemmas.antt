@@ -1,8 +1,10 @@
 -- What a run of `mcaudit audit` shows of the domain that it read.
-use Rattle.std.proofs.Common.{◌≡◌, ℕ, zero, suc, inl, inr, Bool, true, List, [], ◌∷◌, ◌++◌, length}
+use Rattle.std.proofs.Common.{◌≡◌, ℕ, zero, suc, inl, inr, Bool, true, false, List, [], ◌∷◌, ◌++◌}
+use Rattle.std.proofs.Common.{length}
 use Rattle.std.proofs.Common.{Option, Some, None, Result, Ok, Err, refl, sym, ap, subst, ◌∙◌, arith}
 use Rattle.std.proofs.Common.{append_assoc}
-use Rattle.std.specs.Prelude.{◌&&◌, ◌↔◌, ◌⊎◌, IfOk, IfSome, IsTrue, flat_map, map, slice_get}
+use Rattle.std.specs.Prelude.{◌&&◌, ◌↔◌, ◌⊎◌, IfErr, IfOk, IfSome, IsTrue, flat_map, map}
+use Rattle.std.specs.Prelude.{slice_get}
 use Rattle.std.specs.String.{string_bytes}
 use Rattle.std.proofs.lemmas.Bool.{false≢true}
 use Rattle.std.proofs.lemmas.List.{length-map}
@@ -20,6 +22,7 @@ use Rattle.mc_maker.specs.declared.examination.Examined.{Examined}
 use Rattle.mc_maker.specs.declared.examination.Examined.TheVariants.{Certified, Found}
 use Rattle.mc_run.specs.AuditEnd.{FlowAnswer, are_right, end_lines}
 use Rattle.mc_run.specs.AuditPieces.{said_of}
+use Rattle.mc_run.specs.Failures.{is_write}
 use Rattle.mc_run.specs.AuditRun.{AreAnswers, HeadlineOf, IsAnswer, IsAudited, IsAuditText, IsChecked}
 use Rattle.mc_run.specs.AuditRun.{KeepsByLists, MeansNoted, NotedValue, SaysFlowRight, SaysOfEach}
 use Rattle.mc_run.specs.AuditRun.{SaysWhatIsFound, SaysWhichAreRight, SaysYesOf, TellsOfEach}
@@ -269,3 +272,9 @@ pub said_alone : (told : Option (List FileText)) (o : AuditOptions) (r : Result 
     → AreSaid told (IsAuditText o) (said_of r)
 said_alone told o (Ok audit) says = says
 said_alone told o (Err fault) says = tt
+
+-- and is no fault of the output's
+pub no_write_said : (r : Result AuditSaid RunFault) → IfErr r (λ fault. is_write fault ≡ false)
+    → IfErr (said_of r) (λ fault. is_write fault ≡ false)
+no_write_said (Ok audit) none = tt
+no_write_said (Err fault) none = none

@@ -24,10 +24,13 @@ use Rattle.mc_forward.specs.ListedTables.{DomainFacts, facts}
 use Rattle.mc_explain.specs.ExplanationText.{told_lines}
 use Rattle.mc_explain.specs.Indented.{AreIndented, IsFeedless, indented}
 use Rattle.mc_theory.specs.Lists.{In}
+use Rattle.mc_explain.specs.UnlistedLines.{TellsOfRows, ended}
 use Rattle.mc_explain.specs.UnlistedText.{unlisted_text}
 use Rattle.mc_explain.specs.WantedText.{missed_too_text, wanted_text}
 use Rattle.mc_explain.specs.declared.searching.LanSearch.{LanSearch}
 use Rattle.mc_explain.proofs.ExplanationLemmas.{missed-by, told-lines, wanted-by}
+use Rattle.mc_explain.proofs.RowLineLemmas.{unlisted-of_rows}
+use Rattle.mc_explain.proofs.SearchLineLemmas.{search-lines}
 use Rattle.mc_run.specs.AuditEnd.{FlowAnswer, are_right, count, end_lines, is_right, is_unwanted}
 use Rattle.mc_run.specs.AuditEnd.{is_wrong, strict_lines, summary_by, summary_line}
 use Rattle.mc_run.specs.AuditRun.{AreAnswers, IsAnswer, NotedValue}
@@ -221,7 +224,8 @@ explained_other d notes number f x ok =
   where
     searched : (s : Option LanSearch) → AreOther (searched_lines d notes number f s)
     searched None = none_other
-    searched (Some found) = indented_other _ (search_indented d notes number f found ok)
+    searched (Some found) = indented_other _ (search-lines d notes number f found.lines.items
+        found.reach.sent_on.items found.reach.took_none.items ok)
 
 answer_other : (o : AuditOptions) (d : DomainFacts) (notes : List NotesText) (number : ℕ)
     (f : Flow) (x : Examined) (e : Explanation) (wanted : List ℕ) → IsTopology d.topology
@@ -249,6 +253,31 @@ flows_other v o (a ∷ answers) each ok =
     (flows_other v o answers (λ flow b at. each (suc flow) b at) ok)
 
 -- ---- what stands behind the flows
+
+-- lines that tell of rows that are no flow's
+row_other : (line : List ℕ) → TellsOfRows line → IsFeedless line → AreOther (ended line)
+row_other line (rest, inl begins) feedless =
+    line_other (ended line) line (plain line feedless)
+    (λ tail more same. apart 117 _ _ refl (ap (λ xs. xs ++ (10 ∷ tail)) (sym begins) ∙ same))
+    (λ more. append_assoc line (codes "\n") more)
+row_other line (rest, inr begins) feedless =
+    line_other (ended line) line (plain line feedless)
+    (λ tail more same. apart 32 _ _ refl (ap (λ xs. xs ++ (10 ∷ tail)) (sym begins) ∙ same))
+    (λ more. append_assoc line (codes "\n") more)
+
+rows_other : (ls : List (List ℕ)) → ((l : List ℕ) → In l ls → TellsOfRows l)
+    → ((l : List ℕ) → In l ls → IsFeedless l) → AreOther (flat_map ended ls)
+rows_other [] begins feedless = none_other
+rows_other (l ∷ ls) begins feedless =
+    both_other (ended l) (flat_map ended ls)
+    (row_other l (begins l (inl refl)) (feedless l (inl refl)))
+    (rows_other ls (λ m h. begins m (inr h)) (λ m h. feedless m (inr h)))
+
+unlisted_other : (t : TopologyValue) (notes : List NotesText) → IsTopology t
+    → AreOther (unlisted_text t notes)
+unlisted_other t notes ok =
+    let is = unlisted-of_rows t notes ok in
+    subst AreOther (sym is.spelled) (rows_other is.lines is.begins is.feedless)
 
 -- the summary's bytes before its line feed
 summary_body : (flows right wrong unwanted : ℕ) → List ℕ

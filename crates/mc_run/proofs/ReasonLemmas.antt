@@ -51,7 +51,8 @@ pub search_told : {A X : Type 0} (d : DomainFacts) (notes : List NotesText) (flo
     (flows : List Flow) (r : Result A X) (old new : List ℕ) → finding ≡ Missed lan
     → IsSearched (search_by d notes flow copies) events lan found
     → OnOk r ((f : Flow) → slice_get flows flow ≡ Some f
-    → new ≡ old ++ search_text d notes flow f found)
+    → new ≡ old ++ search_text d notes flow f found.lines.items found.reach.sent_on.items
+    found.reach.took_none.items)
     → OnOk r ((f : Flow) → slice_get flows flow ≡ Some f → (x : Option LanSearch)
     × IsSearchOn (search_by d notes flow copies) events finding x
     × (new ≡ old ++ searched_lines d notes flow f x))

@@ -191,7 +191,7 @@ by_facts : (P : DomainFacts → Type 0) {whole d : DomainValue} → SaysTheSame 
 by_facts P same = subst P (sym (same_facts same))
 
 -- a flight of the one is one of the other,
-ended_in : DomainValue → Ended → Ended
+abbrev ended_in : DomainValue → Ended → Ended
 ended_in d ended = record {
   travel = ended.travel;
   flight = record {
@@ -201,7 +201,7 @@ ended_in d ended = record {
   };
 }
 
-pub flown_in : DomainValue → Flown → Flown
+abbrev flown_in : DomainValue → Flown → Flown
 flown_in d (flown.Certified entries) = flown.Certified entries
 flown_in d (flown.AtGreatest ended) = flown.AtGreatest (ended_in d ended)
 flown_in d (flown.AtLeast greatest least) = flown.AtLeast (ended_in d greatest) (ended_in d least)

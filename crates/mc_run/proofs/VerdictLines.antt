@@ -2,7 +2,7 @@
 -- verdict is yes.
 use Rattle.std.proofs.Common.{◌≡◌, ℕ, zero, suc, ◌+◌, ◌/◌, ◌%◌, Bool, true, false}
 use Rattle.std.proofs.Common.{cond, eqb, List, [], ◌∷◌, ◌++◌, ◌⊎◌, inl, inr, Some}
-use Rattle.std.proofs.Common.{refl, sym, ap, subst, ◌∙◌, arith, append_assoc}
+use Rattle.std.proofs.Common.{refl, sym, ap, subst, ◌∙◌, arith, append_assoc, append-nil}
 use Rattle.std.specs.Prelude.{◌==◌, not, nat_lt, codes, slice_index, decimal, IsTrue, slice_get}
 use Rattle.std.specs.Prelude.{drop, unwrap_or, option_map}
 use Rattle.std.specs.Fmt.{digits, digits_onto, digit_glyph}

@@ -49,7 +49,9 @@ pub record Explanation : Type 0 where
 abbrev pub searched_lines : DomainFacts → List NotesText → (number : ℕ) → Flow → Option LanSearch
     → List ℕ
 searched_lines d notes number f None = []
-searched_lines d notes number f (Some found) = search_text d notes number f found
+searched_lines d notes number f (Some found) =
+    search_text d notes number f found.lines.items found.reach.sent_on.items
+    found.reach.took_none.items
 
 abbrev pub explanation_lines : DomainFacts → List NotesText → (number : ℕ) → Flow → Explanation
     → List ℕ

@@ -41,9 +41,9 @@ impl Standings {
 
     /// These, and a flow that stands so.
     pub(crate) fn with(self, standing: Standing) -> Standings
-        requires right { self.right < u32.MAX }
-        requires wrong { self.wrong < u32.MAX }
-        requires unwanted { self.unwanted < u32.MAX }
+        requires right { self.right < 4096 }
+        requires wrong { self.wrong < 4096 }
+        requires unwanted { self.unwanted < 4096 }
         ensures { result ≡ with_standing self standing }
     {
         let Standings {

@@ -1,10 +1,7 @@
-use Rattle.std.proofs.Common.{◌≡◌, ◌<◌, ◌++◌, ap, ◌∙◌, sym, arith, length}
-use Rattle.std.specs.Prelude.{is_ok, if◌then◌else◌}
-use Rattle.std.specs.String.{string_bytes}
+use Rattle.std.proofs.Common.{◌<◌, ◌++◌, ap, ◌∙◌, arith, length}
 use Rattle.mc_forward.proofs.EachLemmas.{read-at}
 use Rattle.mc_run.specs.VerdictText.{flow_lines, last_line}
 use Rattle.mc_run.proofs.TextLemmas.{lines_end, lines_more}
-use Rattle.mc_run.proofs.verdict_text.check_text.Goals.{then-are_yes, else-are_yes}
 use Rattle.mc_run.proofs.verdict_text.check_text.Goals as goal
 
 pub loop-flow-preserved : goal.loop-flow-preserved
@@ -19,16 +16,8 @@ loop-flow-preserved c =
 
 pub returns : goal.returns
 returns c =
-    let done = sym c.map_err.ensures.variant ∙ ap is_ok c.in_ok-map_err.was in
-    let old = string_bytes c.loop-flow.text in
-    let pushed = c.push_str.ensures.bytes
-    ∙ ap (λ ok. if ok then old ++ c.if-are_yes.last.now else old) done in
     let lines = lines_end c.args.topology.now c.loop-flow.flow c.args.verdicts.now _
     (omega (arith, c.loop-flow-test.false, c.flows-flow-end.ensures.count)) c.loop-flow.invariant in
-    let last : c.if-are_yes.last.now ≡ last_line c.are_yes.result = elim c.if-are_yes.branch [
-      | then-are_yes w ↦ ap (λ text. text.now) w.last-is ∙ ap last_line (sym w.if-are_yes.true)
-      | else-are_yes w ↦ ap (λ text. text.now) w.last-is ∙ ap last_line (sym w.if-are_yes.false)
-    ] in
-    pushed ∙ ap (λ xs. xs ++ c.if-are_yes.last.now) lines
+    c.in_ok-push_last.ensures ∙ ap (λ xs. xs ++ last_line c.are_yes.result) lines
     ∙ ap (λ xs. flow_lines c.args.topology.now c.args.topology.now.flows c.args.verdicts.now ++ xs)
-    (last ∙ ap last_line c.are_yes.ensures)
+    (ap last_line c.are_yes.ensures)

@@ -1,0 +1,58 @@
+use Rattle.std.proofs.Common.{subst}
+use Rattle.std.specs.Prelude.{Result}
+use Rattle.mc_run.specs.AuditPieces.{said_of}
+use Rattle.mc_run.specs.AuditRun.{HeadlineOf, IsAuditText, SaysOfEach, SaysWhichAreRight}
+use Rattle.mc_run.specs.Said.{IsSaid}
+use Rattle.mc_run.specs.declared.fault.RunFault.{RunFault}
+use Rattle.mc_run.specs.declared.said.Said.{Said}
+use Rattle.mc_run.proofs.AuditAll.{answer_so, write_so, yes_so}
+use Rattle.mc_run.proofs.AuditLemmas.{each_said, headline_kept, no_write_said, right_said}
+use Rattle.mc_run.proofs.AuditLemmas.{said_alone}
+use Rattle.mc_run.proofs.RunLemmas.{headline_said, written_part, written_whole}
+use Rattle.mc_run.proofs.YesLines.{audit_says_yes}
+use Rattle.mc_run.proofs.audit.run_audit.Goals as goal
+
+pub returns-clause-right : goal.returns-clause-right
+returns-clause-right g c =
+    let told = g.F.FileSource.told c.args.files.now in
+    let o = c.args.options in
+    let says = said_alone told o c.audit_of.result c.audit_of.ensures.text in
+    answer_so _ c.with_unwanted.result c.say.result c.with_unwanted.ensures.yes
+    (written_whole told (SaysWhichAreRight o) (said_of c.audit_of.result) c.say.result _ _
+    (right_said told o (said_of c.audit_of.result) says)
+    (subst (λ (s : Result Said RunFault). IsSaid s c.say.result _ _) c.parts-said.ensures.said
+    c.say.ensures.ended))
+
+pub returns-clause-each : goal.returns-clause-each
+returns-clause-each g c =
+    let told = g.F.FileSource.told c.args.files.now in
+    let o = c.args.options in
+    let says = said_alone told o c.audit_of.result c.audit_of.ensures.text in
+    answer_so _ c.with_unwanted.result c.say.result c.with_unwanted.ensures.yes
+    (written_whole told (SaysOfEach o) (said_of c.audit_of.result) c.say.result _ _
+    (each_said told o (said_of c.audit_of.result) says)
+    (subst (λ (s : Result Said RunFault). IsSaid s c.say.result _ _) c.parts-said.ensures.said
+    c.say.ensures.ended))
+
+pub returns-clause-each_in_part : goal.returns-clause-each_in_part
+returns-clause-each_in_part g c =
+    let told = g.F.FileSource.told c.args.files.now in
+    let o = c.args.options in
+    let says = said_alone told o c.audit_of.result c.audit_of.ensures.text in
+    write_so _ c.with_unwanted.result c.say.result c.with_unwanted.ensures.yes
+    (written_part told (SaysOfEach o) (said_of c.audit_of.result) c.say.result _ _
+    (no_write_said c.audit_of.result c.audit_of.ensures.no_write)
+    (each_said told o (said_of c.audit_of.result) says)
+    (subst (λ (s : Result Said RunFault). IsSaid s c.say.result _ _) c.parts-said.ensures.said
+    c.say.ensures.ended))
+
+pub returns-clause-headline : goal.returns-clause-headline
+returns-clause-headline g c =
+    let told = g.F.FileSource.told c.args.files.now in
+    let o = c.args.options in
+    let says = said_alone told o c.audit_of.result c.audit_of.ensures.text in
+    yes_so _ c.with_unwanted.result c.say.result _ _ c.with_unwanted.ensures.yes
+    (headline_said told (IsAuditText o) HeadlineOf (said_of c.audit_of.result) c.say.result _ _
+    (audit_says_yes o) says (headline_kept told o (said_of c.audit_of.result) says)
+    (subst (λ (s : Result Said RunFault). IsSaid s c.say.result _ _) c.parts-said.ensures.said
+    c.say.ensures.ended))

@@ -1,6 +1,6 @@
 -- What is written of all flows and behind them, and what it says of the files.
-use Rattle.std.proofs.Common.{◌≡◌, ℕ, Bool, List, ◌++◌, length, Option, Some, None, Result, Ok, Err}
-use Rattle.std.proofs.Common.{refl, sym, ap, subst, ◌∙◌, append_assoc}
+use Rattle.std.proofs.Common.{◌≡◌, ℕ, Bool, List, ◌++◌, length, Option, Some, None, Result, Err}
+use Rattle.std.proofs.Common.{sym, ap, subst, ◌∙◌, append_assoc}
 use Rattle.std.specs.Prelude.{◌==◌, IfOk, IfSome, flat_map}
 use Rattle.mc_layout.specs.Files.{FileText}
 use Rattle.mc_tables.specs.Notes.{NotesText}
@@ -10,7 +10,7 @@ use Rattle.mc_forward.specs.ListedTables.{SaysTheSame}
 use Rattle.mc_domain.specs.Meaning.{FilesMeanListed, OfDomain}
 use Rattle.mc_domain.specs.NotesOfFiles.{AreNotesOf}
 use Rattle.mc_explain.specs.UnlistedText.{unlisted_text}
-use Rattle.mc_run.specs.AuditEnd.{are_right, count, end_lines, is_right, is_unwanted, is_wrong}
+use Rattle.mc_run.specs.AuditEnd.{are_right, count, is_right, is_unwanted, is_wrong}
 use Rattle.mc_run.specs.AuditEnd.{strict_lines, summary_by, summary_line}
 use Rattle.mc_run.specs.AuditPieces.{AreFlowsPushed, yes_of}
 use Rattle.mc_run.specs.AuditRun.{IsAudited, MeansNoted, NotedValue}
@@ -20,6 +20,8 @@ use Rattle.mc_run.specs.declared.audit_options.AuditOptions.{AuditOptions}
 use Rattle.mc_run.specs.declared.audit_said.AuditAnswer.{AuditAnswer}
 use Rattle.mc_run.specs.declared.fault.RunFault.{RunFault}
 use Rattle.mc_run.specs.declared.fault.RunFault.TheVariants.{Write}
+use Rattle.mc_run.specs.Said.{IsSaid}
+use Rattle.mc_run.specs.declared.said.Said.{Said}
 use Rattle.mc_run.specs.declared.standing.Standings.{Standings}
 use Rattle.mc_run.proofs.AuditFlows.{none_wrong}
 
@@ -112,3 +114,9 @@ pub yes_so : (Q : Type 0) (r : Result AuditAnswer RunFault) (s : Result Bool Run
     → SaysYes (yes_of r) old new → Q
 yes_so Q r s old new same follows says =
     follows (subst (λ (t : Result Bool RunFault). SaysYes t old new) same says)
+
+-- what is said is what was to be said
+pub said_parts : (s t : Result Said RunFault) (y : Result Bool RunFault) (old new : Option (List ℕ))
+    → s ≡ t → IsSaid s y old new → IsSaid t y old new
+said_parts s t y old new same is =
+    subst (λ (u : Result Said RunFault). IsSaid u y old new) same is

@@ -33,12 +33,12 @@ use Rattle.mc_run.specs.AuditEnd.{with_standing}
 use Rattle.mc_run.specs.AuditPieces.{AreFlowsPushed, IsExplanationPushed, IsFlowPushed}
 use Rattle.mc_run.specs.AuditReasons.{IsExplanation}
 use Rattle.mc_run.specs.AuditRun.{IsAnswer, NotedValue}
-use Rattle.mc_run.specs.AuditText.{Explanation, answer_lines, events_told, explanation_lines}
+use Rattle.mc_run.specs.AuditText.{Explanation, events_told, explanation_lines}
 use Rattle.mc_run.specs.AuditText.{right_lines, standing_of, standing_of_right}
 use Rattle.mc_run.specs.MakeRun.{IsExamined, found_lines}
 use Rattle.mc_run.specs.declared.audit_options.AuditOptions.{AuditOptions}
 use Rattle.mc_run.specs.declared.standing.Standing.{Standing}
-use Rattle.mc_run.specs.declared.standing.Standing.TheVariants.{Wanted, Unwanted, Wrong}
+use Rattle.mc_run.specs.declared.standing.Standing.TheVariants.{Wrong}
 use Rattle.mc_run.specs.declared.standing.Standings.{Standings}
 
 -- ---- one flow

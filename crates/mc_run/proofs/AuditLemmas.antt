@@ -47,7 +47,7 @@ use Rattle.mc_run.proofs.RunLemmas.{AreSaid, more_meant, said_so}
 -- ---- what was said
 
 -- the examinations of all flows
-examinations : List FlowAnswer → List Examined
+abbrev examinations : List FlowAnswer → List Examined
 examinations answers = map (λ a. a.examined) answers
 
 -- what stands in a mapped list is what an item of the list gives
@@ -64,7 +64,7 @@ all_right (a ∷ answers) = ap (λ b. is_certified a.examined && b) (all_right a
 examined_of : (v : NotedValue) (o : AuditOptions) (answers : List FlowAnswer) → AreAnswers v o answers
     → AreExamined v.domain (examinations answers)
 examined_of v o answers are = record {
-  count = length-map (λ (a : FlowAnswer). a.examined) answers ∙ are.count;
+  count = length-map answers (λ (a : FlowAnswer). a.examined) ∙ are.count;
   each = λ flow x at.
       let here = mapped-at (λ (a : FlowAnswer). a.examined) answers flow x at in
       subst (λ (y : Examined). IsExamined v.domain flow y) here.2
@@ -94,7 +94,7 @@ audit_keeps v o all written a is =
       keeps = λ flow lt.
           let given = some-at a.answers flow (omega (arith, lt, size)) in
           let x = some-at xs flow
-          (omega (arith, lt, length-map (λ (b : FlowAnswer). b.examined) a.answers ∙ size)) in
+          (omega (arith, lt, length-map a.answers (λ (b : FlowAnswer). b.examined) ∙ size)) in
           let there = mapped-at (λ (b : FlowAnswer). b.examined) a.answers flow x.0 x.1 in
           listed_at xs flow x.0 (all_right a.answers ∙ sym a.answer ∙ is) x.1
           (λ es. HeadlineHolds (net_of v.domain flow) (length es))
@@ -166,7 +166,7 @@ audit_right v o all written a =
     record {
       lines = map (λ b. b.lines) answers;
       end = end_lines o d.topology v.notes answers;
-      count = length-map (λ (b : FlowAnswer). b.lines) answers ∙ are.count;
+      count = length-map answers (λ (b : FlowAnswer). b.lines) ∙ are.count;
       each = told_each (λ flow f ls.
           SaysFlowRight o d.topology f (net_of d flow) (wanting (facts d) flow) ls) v o answers are
           (λ flow b is. subst (λ (w : List ℕ).
@@ -219,7 +219,7 @@ audit_each v o all written a =
     record {
       lines = map (λ b. b.lines) answers;
       end = end_lines o v.domain.topology v.notes answers;
-      count = length-map (λ (b : FlowAnswer). b.lines) answers ∙ are.count;
+      count = length-map answers (λ (b : FlowAnswer). b.lines) ∙ are.count;
       each = told_each (λ flow f ls. SaysYesOf v o flow f ls ⊎ SaysWhatIsFound v o flow f ls) v o answers
           are (λ flow b is. line_so v o flow is.listed b.examined is.flown is.explanation b.wanted
           b.lines is.flies is.checked is.explained is.wanted is.spelled);

@@ -286,12 +286,33 @@ summary_body flows right wrong unwanted =
     ++ (codes " right " ++ (decimal right
     ++ (codes " wrong " ++ (decimal wrong ++ (codes " unwanted " ++ decimal unwanted))))))
 
+-- whatever is counted, what stands behind it stands behind the last number
+summary_parts : (a b c last more : List ℕ)
+    → (codes "summary flows " ++ (a ++ (codes " right " ++ (b ++ (codes " wrong " ++ (c
+    ++ (codes " unwanted " ++ last))))))) ++ more
+    ≡ codes "summary flows " ++ (a ++ (codes " right " ++ (b ++ (codes " wrong " ++ (c
+    ++ (codes " unwanted " ++ (last ++ more)))))))
+summary_parts a b c last more =
+    ap (λ xs. codes "summary flows " ++ xs)
+    (append_assoc a (codes " right " ++ (b ++ (codes " wrong " ++ (c ++ (codes " unwanted " ++ last)))))
+    more
+    ∙ ap (λ xs. a ++ (codes " right " ++ xs))
+    (append_assoc b (codes " wrong " ++ (c ++ (codes " unwanted " ++ last))) more
+    ∙ ap (λ xs. b ++ (codes " wrong " ++ xs)) (append_assoc c (codes " unwanted " ++ last) more)))
+
 summary_ends : (flows right wrong unwanted : ℕ) (more : List ℕ)
     → summary_by flows right wrong unwanted ++ more
     ≡ summary_body flows right wrong unwanted ++ (10 ∷ more)
 unfolding summary_body
 summary_ends flows right wrong unwanted more =
-    rw (append_assoc, append_assoc, append_assoc, append_assoc) refl
+    let a = decimal flows in
+    let b = decimal right in
+    let c = decimal wrong in
+    let d = decimal unwanted in
+    summary_parts a b c (d ++ codes "\n") more
+    ∙ ap (λ xs. codes "summary flows " ++ (a ++ (codes " right " ++ (b ++ (codes " wrong " ++ (c
+    ++ (codes " unwanted " ++ xs))))))) (append_assoc d (codes "\n") more)
+    ∙ sym (summary_parts a b c d (10 ∷ more))
 
 summary_other : (flows right wrong unwanted : ℕ) → AreOther (summary_by flows right wrong unwanted)
 unfolding summary_body
@@ -313,6 +334,7 @@ strict_other strict all unwanted = by (strict && (all && not (unwanted == 0)))
   where
     told : List ℕ
     told = codes "  strict: " ++ (decimal unwanted ++ codes " flows that nobody wants, status 1\n")
+
     line : AreOther told
     line = line_other told
         (codes "  strict: " ++ (decimal unwanted ++ codes " flows that nobody wants, status 1"))
@@ -324,6 +346,7 @@ strict_other strict all unwanted = by (strict && (all && not (unwanted == 0)))
         (append_assoc (decimal unwanted) (codes " flows that nobody wants, status 1\n") more
         ∙ sym (append_assoc (decimal unwanted) (codes " flows that nobody wants, status 1")
         (10 ∷ more))))
+
     by : (b : Bool) → AreOther (cond b told [])
     by true = line
     by false = none_other
@@ -356,11 +379,13 @@ strict_starts strict all unwanted = by (strict && (all && not (unwanted == 0)))
   where
     by : (b : Bool) → IsLineStart (cond b
         (codes "  strict: " ++ (decimal unwanted ++ codes " flows that nobody wants, status 1\n")) [])
-    by true = inr (codes "  strict: "
-        ++ (decimal unwanted ++ codes " flows that nobody wants, status 1"),
-        ap (λ xs. codes "  strict: " ++ xs)
-        (sym (append_assoc (decimal unwanted) (codes " flows that nobody wants, status 1")
-        (codes "\n"))))
+    by true = inr (
+      codes "  strict: "
+          ++ (decimal unwanted ++ codes " flows that nobody wants, status 1"),
+      ap (λ xs. codes "  strict: " ++ xs)
+          (sym (append_assoc (decimal unwanted) (codes " flows that nobody wants, status 1")
+          (codes "\n"))),
+    )
     by false = inl refl
 
 pub end_starts : (o : AuditOptions) (t : TopologyValue) (notes : List NotesText)

@@ -1,12 +1,12 @@
 -- A LAN that a travel misses is one of the domain.
 use Rattle.std.proofs.Common.{◌≡◌, ℕ, ◌<◌, Bool, true, false, List, [], ◌∷◌, inl, inr, cond, length}
-use Rattle.std.proofs.Common.{Option, Some, None, refl}
+use Rattle.std.proofs.Common.{Option, Some, None}
 use Rattle.std.specs.Prelude.{is_some}
 use Rattle.mc_theory.specs.Lists.{In, below}
 use Rattle.mc_theory.specs.Nets.{Net, Interface}
 use Rattle.mc_theory.specs.Flights.{Copy, Flight, Waiting, step}
 use Rattle.mc_theory.specs.Findings.{Finding, IsTravel, copy_on, double, double_finding, end_finding}
-use Rattle.mc_theory.specs.Findings.{finding, meets, missed, missed_finding, rest, stray_finding}
+use Rattle.mc_theory.specs.Findings.{meets, missed, missed_finding, rest, stray_finding}
 use Rattle.mc_theory.specs.Findings.Finding.{Duplicate, Loop, Missed}
 use Rattle.mc_theory.proofs.InLists.{in-below_cases}
 

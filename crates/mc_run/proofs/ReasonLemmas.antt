@@ -1,12 +1,10 @@
 -- What was written to explain a finding explains it.
-use Rattle.std.proofs.Common.{◌≡◌, ℕ, ◌<◌, List, [], ◌∷◌, ◌++◌, length, Option, Some, None, Result, Ok}
-use Rattle.std.proofs.Common.{Err, Bool, true, false, refl, sym, ap, subst, ◌∙◌, append_assoc, append-nil}
+use Rattle.std.proofs.Common.{◌≡◌, ℕ, ◌<◌, List, ◌++◌, length, Option, Some, None, Result, Ok}
+use Rattle.std.proofs.Common.{Err, refl, sym, ap, subst, ◌∙◌, append_assoc}
 use Rattle.std.specs.Prelude.{OnOk, slice_get}
 use Rattle.mc_tables.specs.Notes.{NotesText}
 use Rattle.mc_topology.specs.declared.flow.Flow.{Flow}
-use Rattle.mc_topology.specs.Topology.{TopologyValue}
 use Rattle.mc_theory.specs.Events.{Event}
-use Rattle.mc_theory.specs.Findings as theory
 use Rattle.mc_theory.specs.Findings.{IsTravel}
 use Rattle.mc_theory.specs.Flights.{Copy, start}
 use Rattle.mc_forward.specs.Domains.{DomainValue, net_of}

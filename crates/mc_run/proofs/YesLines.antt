@@ -1,12 +1,11 @@
 -- The line `verdict yes` stands in what is written exactly where all is well: last, at a line's start.
-use Rattle.std.proofs.Common.{◌≡◌, ℕ, Bool, true, List, [], ◌∷◌, ◌++◌, inl, inr, Some, refl}
-use Rattle.std.proofs.Common.{length, sym, ap, ◌∙◌, append-nil, append_assoc}
+use Rattle.std.proofs.Common.{◌≡◌, ℕ, Bool, true, List, [], ◌∷◌, ◌++◌, inl, Some, refl}
+use Rattle.std.proofs.Common.{sym, ap, ◌∙◌, append-nil, append_assoc}
 use Rattle.std.specs.Prelude.{codes, flat_map}
 use Rattle.mc_topology.specs.declared.flow.Flow.{Flow}
 use Rattle.mc_topology.specs.Topology.{TopologyValue}
 use Rattle.mc_layout.specs.Files.{FileText}
 use Rattle.mc_check.specs.declared.verdict.Verdict.{Verdict}
-use Rattle.mc_check.specs.declared.verdict.Verdict.TheVariants.{Yes}
 use Rattle.mc_run.specs.AuditEnd.{are_right, end_lines}
 use Rattle.mc_run.specs.AuditRun.{IsAuditText}
 use Rattle.mc_run.specs.CheckRun.{IsLineStart, IsVerdictText, WroteYes}

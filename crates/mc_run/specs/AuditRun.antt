@@ -1,5 +1,5 @@
 -- What `mcaudit audit` answers and writes, and what its yes is worth.
-use Rattle.std.specs.Prelude.{◌≡◌, ℕ, Bool, List, ◌++◌, flat_map, length, map}
+use Rattle.std.specs.Prelude.{◌≡◌, ℕ, Bool, List, ◌++◌, flat_map, length}
 use Rattle.std.specs.Prelude.{slice_get, Some, ◌⊎◌}
 use Rattle.mc_layout.specs.Files.{FileText}
 use Rattle.mc_tables.specs.Notes.{NotesText}

@@ -42,8 +42,11 @@ pub(crate) fn push_strict(
 {
     let unwanted = standings.unwanted;
     if strict && standings.are_right() && unwanted > 0 {
-        writeln!(text, "  strict: {unwanted} flows that nobody wants, status 1")
-            .map_err(|_| NoMemory)?;
+        writeln!(
+            text,
+            "  strict: {unwanted} flows that nobody wants, status 1"
+        )
+        .map_err(|_| NoMemory)?;
     }
     Ok(())
 }

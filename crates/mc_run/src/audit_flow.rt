@@ -31,8 +31,9 @@ use crate::travel_text::push_events;
 use crate::verdict_text::push_line;
 use mc_cert::Reached;
 use mc_check::{Verdict, check_flow};
-use mc_explain::{LanSearch, count_wanted, explain, push_also_missed, push_search, push_told};
-use mc_explain::{push_wanted, search};
+use mc_explain::{
+    LanSearch, count_wanted, explain, push_also_missed, push_search, push_told, push_wanted, search,
+};
 use mc_forward::Domain;
 use mc_maker::{Flown, examine_to_end};
 use mc_replay::{Ended, Finding, Travel};

@@ -10,10 +10,11 @@ use failure::Failure;
 use mc_layout::Folder;
 use mc_replay::{First, Last, Picker};
 use mc_run::{
-    RunFault, refusal_lines, run_audit, run_check, run_make, run_pack, run_replay, run_wants,
+    AuditOptions, RunFault, refusal_lines, run_audit, run_check, run_make, run_pack, run_replay,
+    run_wants,
 };
 use mc_text::{Addr, FromReader, ToWriter};
-use mc_words::{Task, borrowed, command_of, words_of};
+use mc_words::{AuditWords, Task, borrowed, command_of, words_of};
 use std::env::Env;
 use std::io::{self, BufReader, Input, Read};
 use std::process::ExitCode;
@@ -86,15 +87,25 @@ fn pack(
     Ok(true)
 }
 
-/// `mcaudit audit`, of a folder of the file system to the standard output.
+/// What an audit is asked to tell.
+fn options_of(words: &AuditWords<'_>) -> AuditOptions {
+    AuditOptions {
+        travels: words.options.travels,
+        faults: words.options.faults,
+        strict: words.options.strict,
+    }
+}
+
+/// `mcaudit audit`, of a folder of the file system to the standard output. Where that is asked for, a
+/// yes isn't enough if a flow is wanted by nobody.
 fn audit(
     rt: &(impl AllocGlobal + Files + Print),
-    folder: &str,
-    travels: bool,
+    words: &AuditWords<'_>,
 ) -> Result<bool, RunFault> {
-    let mut files = Folder::new(rt, folder);
+    let mut files = Folder::new(rt, words.folder);
     let mut output = ToWriter::new(io::writer(rt));
-    run_audit(rt.alloc(), &mut files, travels, &mut output)
+    let answer = run_audit(rt.alloc(), &mut files, options_of(words), &mut output)?;
+    Ok(answer.yes && (answer.unwanted == 0 || !words.options.strict))
 }
 
 /// Does the task.
@@ -116,7 +127,7 @@ fn run(rt: &(impl AllocGlobal + Files + Input + Print), task: Task<'_>) -> Resul
             folder,
             certificate,
         } => pack(rt, folder, certificate),
-        Task::Audit { folder, travels } => audit(rt, folder, travels),
+        Task::Audit(words) => audit(rt, &words),
     }
 }
 
@@ -144,7 +155,7 @@ fn tell_refused_files(rt: &(impl AllocGlobal + Files + Eprint), folder: &str) {
 /// The folder that is audited, if the task is that.
 fn folder_of_audit<'a>(task: &Task<'a>) -> Option<&'a str> {
     match task {
-        Task::Audit { folder, .. } => Some(*folder),
+        Task::Audit(words) => Some(words.folder),
         _ => None,
     }
 }

@@ -1,11 +1,6 @@
-use Rattle.std.proofs.Common.{subst}
-use Rattle.std.specs.Prelude.{Result}
 use Rattle.mc_run.specs.AuditPieces.{said_of}
 use Rattle.mc_run.specs.AuditRun.{HeadlineOf, IsAuditText, SaysOfEach, SaysWhichAreRight}
-use Rattle.mc_run.specs.Said.{IsSaid}
-use Rattle.mc_run.specs.declared.fault.RunFault.{RunFault}
-use Rattle.mc_run.specs.declared.said.Said.{Said}
-use Rattle.mc_run.proofs.AuditAll.{answer_so, write_so, yes_so}
+use Rattle.mc_run.proofs.AuditAll.{answer_so, said_parts, write_so, yes_so}
 use Rattle.mc_run.proofs.AuditLemmas.{each_said, headline_kept, no_write_said, right_said}
 use Rattle.mc_run.proofs.AuditLemmas.{said_alone}
 use Rattle.mc_run.proofs.RunLemmas.{headline_said, written_part, written_whole}
@@ -20,8 +15,9 @@ returns-clause-right g c =
     answer_so _ c.with_unwanted.result c.say.result c.with_unwanted.ensures.yes
     (written_whole told (SaysWhichAreRight o) (said_of c.audit_of.result) c.say.result _ _
     (right_said told o (said_of c.audit_of.result) says)
-    (subst (λ (s : Result Said RunFault). IsSaid s c.say.result _ _) c.parts-said.ensures.said
-    c.say.ensures.ended))
+    (said_parts c.parts-said.result.0 (said_of c.audit_of.result) c.say.result
+    (g.W.Output.took c.args.output.now) (g.W.Output.took c.say.new.output)
+    c.parts-said.ensures.said c.say.ensures.ended))
 
 pub returns-clause-each : goal.returns-clause-each
 returns-clause-each g c =
@@ -31,8 +27,9 @@ returns-clause-each g c =
     answer_so _ c.with_unwanted.result c.say.result c.with_unwanted.ensures.yes
     (written_whole told (SaysOfEach o) (said_of c.audit_of.result) c.say.result _ _
     (each_said told o (said_of c.audit_of.result) says)
-    (subst (λ (s : Result Said RunFault). IsSaid s c.say.result _ _) c.parts-said.ensures.said
-    c.say.ensures.ended))
+    (said_parts c.parts-said.result.0 (said_of c.audit_of.result) c.say.result
+    (g.W.Output.took c.args.output.now) (g.W.Output.took c.say.new.output)
+    c.parts-said.ensures.said c.say.ensures.ended))
 
 pub returns-clause-each_in_part : goal.returns-clause-each_in_part
 returns-clause-each_in_part g c =
@@ -43,8 +40,9 @@ returns-clause-each_in_part g c =
     (written_part told (SaysOfEach o) (said_of c.audit_of.result) c.say.result _ _
     (no_write_said c.audit_of.result c.audit_of.ensures.no_write)
     (each_said told o (said_of c.audit_of.result) says)
-    (subst (λ (s : Result Said RunFault). IsSaid s c.say.result _ _) c.parts-said.ensures.said
-    c.say.ensures.ended))
+    (said_parts c.parts-said.result.0 (said_of c.audit_of.result) c.say.result
+    (g.W.Output.took c.args.output.now) (g.W.Output.took c.say.new.output)
+    c.parts-said.ensures.said c.say.ensures.ended))
 
 pub returns-clause-headline : goal.returns-clause-headline
 returns-clause-headline g c =
@@ -54,5 +52,6 @@ returns-clause-headline g c =
     yes_so _ c.with_unwanted.result c.say.result _ _ c.with_unwanted.ensures.yes
     (headline_said told (IsAuditText o) HeadlineOf (said_of c.audit_of.result) c.say.result _ _
     (audit_says_yes o) says (headline_kept told o (said_of c.audit_of.result) says)
-    (subst (λ (s : Result Said RunFault). IsSaid s c.say.result _ _) c.parts-said.ensures.said
-    c.say.ensures.ended))
+    (said_parts c.parts-said.result.0 (said_of c.audit_of.result) c.say.result
+    (g.W.Output.took c.args.output.now) (g.W.Output.took c.say.new.output)
+    c.parts-said.ensures.said c.say.ensures.ended))

@@ -1,5 +1,5 @@
 use Rattle.std.proofs.Common.{subst}
-use Rattle.std.specs.Prelude.{ℕ, List}
+use Rattle.std.specs.Prelude.{List}
 use Rattle.mc_theory.specs.Events.{Event}
 use Rattle.mc_forward.specs.ListedTables.{facts}
 use Rattle.mc_explain.specs.SearchReach.{IsSearched}

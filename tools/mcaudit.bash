@@ -11,7 +11,7 @@ _mcaudit() {
     local option=--certificate
     case ${COMP_WORDS[1]} in
         audit | pack)
-            if [ "${COMP_WORDS[1]}" = audit ]; then option=--travel; fi
+            if [ "${COMP_WORDS[1]}" = audit ]; then option='--travel --faults --strict'; fi
             case $word in
                 -*) mapfile -t COMPREPLY < <(compgen -W "$option" -- "$word") ;;
                 *)

@@ -184,18 +184,6 @@ ttl_listed d flow f travel here =
 
 -- ---- flow by flow
 
-pub flows_start : (v : NotedValue) (o : AuditOptions) (s : Standings) → s.right ≡ 0 → s.wrong ≡ 0
-    → s.unwanted ≡ 0 → AreFlowsPushed v o 0 s []
-flows_start v o s right wrong unwanted = record {
-  answers = [];
-  count_is = refl;
-  each = λ flow a at. absurd cc;
-  right = right;
-  wrong = wrong;
-  unwanted = unwanted;
-  spelled = refl;
-}
-
 lines_push : (answers : List FlowAnswer) (a : FlowAnswer)
     → flat_map (λ b. b.lines) (answers ++ a ∷ []) ≡ flat_map (λ b. b.lines) answers ++ a.lines
 lines_push [] a = append-nil a.lines

@@ -1,4 +1,3 @@
 pub mod AuditFound
-pub mod AuditWords
 pub mod Task
 pub use Rattle.mc_text.specs.Addr

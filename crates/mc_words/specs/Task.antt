@@ -1,10 +1,14 @@
 -- What a task's values may be, and how words write them.
-use Rattle.std.specs.Prelude.{◌≡◌, ◌≤◌, ℕ, List, false, ⊤}
+use Rattle.std.specs.Prelude.{◌≡◌, ◌≤◌, ℕ, Bool, List, false, ⊤, codes, take}
+use Rattle.std.specs.Str.{bytes_eq}
 use Rattle.mc_text.specs.Addr.{IsForwardedGroup, IsSource, dotted}
-use Rattle.mc_words.specs.AuditWords.{is_option}
 use Rattle.mc_words.specs.declared.audit_words.AuditWords.{AuditWords}
 use Rattle.mc_words.specs.declared.task.Task.{Task}
 use Rattle.mc_words.specs.declared.task.Task.TheVariants.{Wants, Check, Make, Replay, Pack, Audit}
+
+-- the word begins with `-`, as options do
+abbrev pub is_option : List ℕ → Bool
+is_option word = bytes_eq (take 1 word) (codes "-")
 
 -- the folder doesn't begin like an option
 abbrev pub IsAudit : AuditWords → Type 0

@@ -3,8 +3,7 @@
 ghost use Rattle.std.specs.Prelude.{◌≡◌, false, IfErr, IfOk, OnOk};
 ghost use Rattle.clap.specs.Matches.{found_of};
 ghost use Rattle.mc_words.specs.AuditFound.{AreFound, AreOptions};
-ghost use Rattle.mc_words.specs.AuditWords.{is_option};
-ghost use Rattle.mc_words.specs.Task.{IsAudit};
+ghost use Rattle.mc_words.specs.Task.{IsAudit, is_option};
 ghost use Rattle.mc_words.specs.declared.fault.WordsFault.TheVariants.{Memory};
 
 use crate::command::audit_command;

@@ -24,5 +24,6 @@ pub mod SearchTextLemmas
 pub mod ShownLemmas
 pub mod UnlistedLemmas
 pub mod MergeLemmas
+pub mod OwnLemmas
 pub mod SearchLineLemmas
 pub mod RowLineLemmas

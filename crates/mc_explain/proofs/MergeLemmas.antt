@@ -22,18 +22,18 @@ use Rattle.mc_explain.proofs.UnlistedLemmas.{lowest, lowest-ascends}
 -- ---- two ascending lists as one
 
 -- the first of two, with what comes after it
-abbrev picked : Ordering → (a b : ℕ × ℕ) → (after_a after_both after_b : List (ℕ × ℕ))
+abbrev pub picked : Ordering → (a b : ℕ × ℕ) → (after_a after_both after_b : List (ℕ × ℕ))
     → List (ℕ × ℕ)
 picked Less a b after_a after_both after_b = a ∷ after_a
 picked Equal a b after_a after_both after_b = a ∷ after_both
 picked Greater a b after_a after_both after_b = b ∷ after_b
 
 -- a pair, and what is merged after it
-abbrev into : ℕ × ℕ → (List (ℕ × ℕ) → List (ℕ × ℕ)) → List (ℕ × ℕ) → List (ℕ × ℕ)
+abbrev pub into : ℕ × ℕ → (List (ℕ × ℕ) → List (ℕ × ℕ)) → List (ℕ × ℕ) → List (ℕ × ℕ)
 into a f [] = a ∷ f []
 into a f (b ∷ l) = picked (key_cmp a b) a b (f (b ∷ l)) (f l) (into a f l)
 
-abbrev merge : List (ℕ × ℕ) → List (ℕ × ℕ) → List (ℕ × ℕ)
+abbrev pub merge : List (ℕ × ℕ) → List (ℕ × ℕ) → List (ℕ × ℕ)
 merge [] l = l
 merge (a ∷ s) l = into a (merge s) l
 
@@ -77,10 +77,10 @@ take-left (suc k) (suc m) le (a ∷ s) (b ∷ l) =
 
 -- ---- one more at the front of the second
 
-abbrev AreAbove : ℕ × ℕ → List (ℕ × ℕ) → Type 0
+abbrev pub AreAbove : ℕ × ℕ → List (ℕ × ℕ) → Type 0
 AreAbove x ps = AllByRecursion (λ y. key_cmp x y ≡ Less) ps
 
-above_least : (a b : ℕ × ℕ) (l : List (ℕ × ℕ)) → key_cmp a b ≡ Less → AreAbove b l → AreAbove a l
+pub above_least : (a b : ℕ × ℕ) (l : List (ℕ × ℕ)) → key_cmp a b ≡ Less → AreAbove b l → AreAbove a l
 above_least a b [] less all = tt
 above_least a b (c ∷ l) less all =
     (key_total.trans a b c less all.0, above_least a b l less all.1)
@@ -117,7 +117,7 @@ merge-put b (a ∷ s) l all =
 
 -- ---- the lowest, with ascending pairs behind others
 
-lowest-merge : (qs l : List (ℕ × ℕ)) → IsStrictlySortedBy key_cmp l
+pub lowest-merge : (qs l : List (ℕ × ℕ)) → IsStrictlySortedBy key_cmp l
     → lowest (qs ++ l) ≡ take 20 (merge (lowest qs) l)
 unfolding IsStrictlySortedBy
 lowest-merge qs [] up =
@@ -131,7 +131,7 @@ lowest-merge qs (b ∷ l) up =
 
 -- ---- all pairs in order
 
-abbrev as_keys : List (ℕ × ℕ) → List ((ℕ × ℕ) × Unit {0})
+abbrev pub as_keys : List (ℕ × ℕ) → List ((ℕ × ℕ) × Unit {0})
 as_keys ps = map (λ p. (p, tt {0})) ps
 
 true_of : (b : Bool) → T b → b ≡ true
@@ -158,7 +158,7 @@ sorted-keys (e ∷ es) is =
     let both = and_parts (below_all key_cmp e.0 es) (fin.is_sorted key_cmp es) is in
     (below-keys e.0 es both.0, sorted-keys es both.1)
 
-in_order-ascends : (ps : List (ℕ × ℕ)) → IsStrictlySortedBy key_cmp (in_order ps)
+pub in_order-ascends : (ps : List (ℕ × ℕ)) → IsStrictlySortedBy key_cmp (in_order ps)
 in_order-ascends ps =
     let m = fin.from_entries {R = key_cmp} (as_keys ps) in
     sorted-keys (fin.entries m) (true_of (fin.is_sorted key_cmp (fin.entries m)) (fin.entries_sorted m))
@@ -176,16 +176,21 @@ find-behind q [] ys zs same = same
 find-behind q (x ∷ xs) ys zs same =
     ap (cond (eq_by_cmp key_cmp q x) (Some (tt {0}))) (find-behind q xs ys zs same)
 
-in_order-again : (xs ys : List (ℕ × ℕ)) → in_order (xs ++ in_order ys) ≡ in_order (xs ++ ys)
+-- the same keys are found
+pub same-found : (q : ℕ × ℕ) (ps : List (ℕ × ℕ))
+    → fin.find key_cmp q (as_keys (in_order ps)) ≡ fin.find key_cmp q (as_keys ps)
+same-found q ps =
+    let m = fin.from_entries {R = key_cmp} (as_keys ps) in
+    ap (fin.find key_cmp q) (entries-again (fin.entries m)) ∙ sym (fin.get-entries m q)
+    ∙ fin.get-from_entries key_total (as_keys ps) q
+
+pub in_order-again : (xs ys : List (ℕ × ℕ)) → in_order (xs ++ in_order ys) ≡ in_order (xs ++ ys)
 in_order-again xs ys =
-    let m = fin.from_entries {R = key_cmp} (as_keys ys) in
     ap fin.keys (fin.same_map key_total key_antisymmetric
     (fin.from_entries {R = key_cmp} (as_keys (xs ++ in_order ys)))
     (fin.from_entries {R = key_cmp} (as_keys (xs ++ ys))) (λ q.
     fin.get-from_entries key_total (as_keys (xs ++ in_order ys)) q
-    ∙ find-behind q xs (in_order ys) ys
-    (ap (fin.find key_cmp q) (entries-again (fin.entries m)) ∙ sym (fin.get-entries m q)
-    ∙ fin.get-from_entries key_total (as_keys ys) q)
+    ∙ find-behind q xs (in_order ys) ys (same-found q ys)
     ∙ sym (fin.get-from_entries key_total (as_keys (xs ++ ys)) q)))
 
 -- ---- the lowest of parts

@@ -23,5 +23,7 @@ pub mod RouterLemmas
 pub mod SearchTextLemmas
 pub mod ShownLemmas
 pub mod UnlistedLemmas
+pub mod MergeLemmas
+pub mod OwnLemmas
 pub mod SearchLineLemmas
 pub mod RowLineLemmas

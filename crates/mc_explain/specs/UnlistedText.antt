@@ -1,10 +1,11 @@
 -- How the resolved rows are told whose source and group are no flow's.
 use Rattle.std.specs.Prelude.{ℕ, ◌-◌, ◌==◌, ◌&&◌, nat_le, Bool, false, List, [], ◌++◌, length, Option}
-use Rattle.std.specs.Prelude.{Some, None, if◌then◌else◌, codes, decimal, filter, flat_map, slice_get}
+use Rattle.std.specs.Prelude.{Some, None, if◌then◌else◌, codes, decimal, filter, flat_map, map, slice_get}
 use Rattle.std.specs.Prelude.{sum_by, take}
 use Rattle.mc_text.specs.Addr.{dotted, first_octet}
+use Rattle.mc_tables.specs.CacheTable.{RowText}
 use Rattle.mc_tables.specs.ListedRows.{is_listed}
-use Rattle.mc_tables.specs.Notes.{NotesText, in_order}
+use Rattle.mc_tables.specs.Notes.{NotesText, group_first, in_order, unlisted_keys}
 use Rattle.mc_topology.specs.Topology.{TopologyValue}
 use Rattle.mc_theory.specs.Lists.{below}
 use Rattle.mc_explain.specs.RouterText.{routers_text}
@@ -24,6 +25,12 @@ has_pair pair (Some own) = is_listed (Some own.lowest) pair
 abbrev pub routers_with : TopologyValue → List NotesText → ℕ × ℕ → List ℕ
 routers_with t notes pair =
     filter (λ router. has_pair pair (slice_get notes router)) (below (length t.routers))
+
+-- whether a router's cache has such a row whose source and group are not listed
+abbrev pub has_row : (listed : List (ℕ × ℕ)) → ℕ × ℕ → Option (List RowText) → Bool
+has_row listed pair None = false
+has_row listed pair (Some rows) =
+    is_listed (Some (map group_first (unlisted_keys listed rows))) pair
 
 -- ---- a line for each
 

@@ -1,6 +1,7 @@
 //! A search for a missed LAN as it is written.
 
-ghost use Rattle.std.specs.Prelude.{◌≡◌, ◌<◌, ◌++◌, ◌==◌, ◌&&◌, ℕ, List, IfOk, OnOk, Some, codes, flat_map, length, slice_get, take};
+ghost use Rattle.std.specs.Prelude.{◌≡◌, ◌<◌, ◌++◌, ◌==◌, ◌&&◌, ℕ, List, IfOk, OnOk, Some, codes};
+ghost use Rattle.std.specs.Prelude.{flat_map, length, slice_get, take};
 ghost use Rattle.std.specs.String.{string_bytes};
 ghost use Rattle.mc_topology.specs.declared.flow.Flow.{Flow};
 ghost use Rattle.mc_forward.specs.Journeys.{net_in};
@@ -385,7 +386,8 @@ fn push_expected(
 /// Writes a line of a search.
 fn push_line(text: &mut String, by: &Writing<'_>, line: Searched) -> Result<(), AllocError>
     ensures { OnOk result (string_bytes text.new ≡ string_bytes text.old
-        ++ line_text (facts by.now.view.now.domain) by.now.notes.now by.now.view.now.flow by.now.flow.now line) }
+        ++ line_text (facts by.now.view.now.domain) by.now.notes.now by.now.view.now.flow
+        by.now.flow.now line) }
 {
     let topology = by.view.topology();
     match line {
@@ -457,8 +459,8 @@ fn push_shown(text: &mut String, by: &Writing<'_>, line: &ShownLine<'_>) -> Resu
 /// Writes the first lines of a search. It answers how many lines there are.
 fn push_first(text: &mut String, by: &Writing<'_>, lines: &[Searched]) -> Result<usize, Memory>
     ensures text { OnOk result (string_bytes text.new ≡ string_bytes text.old
-        ++ flat_map (shown_text (facts by.now.view.now.domain) by.now.notes.now by.now.view.now.flow by.now.flow.now)
-        (take 40 (shown_lines lines.now))) }
+        ++ flat_map (shown_text (facts by.now.view.now.domain) by.now.notes.now
+        by.now.view.now.flow by.now.flow.now) (take 40 (shown_lines lines.now))) }
     ensures count { IfOk result (λ count. count ≡ length (shown_lines lines.now)) }
 {
     let mut count: usize = 0;

@@ -10,7 +10,8 @@ use crate::searched::Searched;
 use mc_topology::{LanNo, RouterNo};
 use std::marker::Model;
 
-/// The routers that some lines of a search tell to expect a copy. Its value in contracts is their list.
+/// The routers that some lines of a search tell to expect a copy. Its value in contracts is the list
+/// of those that are left.
 #[derive(Debug, Drop)]
 pub struct ExpectingRouters<'s> {
     lines: &'s [Searched],
@@ -89,6 +90,28 @@ impl<'s> ExpectingRouters<'s> {
             }
         }
         start
+    }
+}
+
+impl<'s> Iterator for ExpectingRouters<'s> {
+    type Item = RouterNo;
+
+    ghost use Rattle.std.specs.Iterator.{YieldsFirst, item_count};
+
+    ghost next_gives = { YieldsFirst (λ left. left) };
+
+    ghost remaining = { item_count (λ left. left) };
+
+    fn next(&mut self) -> Option<RouterNo> {
+        let lines = self.lines;
+        for (index, line) in lines.iter().enumerate() {
+            if let Searched::ExpectedFromHere { router, .. } = *line {
+                self.lines = &lines[index + 1..];
+                return Some(router);
+            }
+        }
+        self.lines = &lines[lines.len()..];
+        None
     }
 }
 

@@ -1,12 +1,13 @@
 //! The lines that tell of the resolved rows whose source and group are no flow's.
 
-ghost use Rattle.std.specs.Prelude.{◌≡◌, ◌++◌, ◌∷◌, ℕ, [], IfOk, List, OnOk, Some, flat_map, length, map, slice_get, sum_by, take};
+ghost use Rattle.std.specs.Prelude.{◌≡◌, ◌++◌, ◌∷◌, ℕ, [], IfOk, List, OnOk, Some, flat_map, length};
+ghost use Rattle.std.specs.Prelude.{slice_get, take};
 ghost use Rattle.std.specs.String.{string_bytes};
 ghost use Rattle.mc_tables.specs.Notes.{in_order};
 ghost use Rattle.mc_explain.specs.LanStart.{IsStartOf};
-ghost use Rattle.mc_explain.specs.UnlistedText.{byte_order_text, further_text, has_pair, is_multicast, lowest_of};
-ghost use Rattle.mc_explain.specs.UnlistedText.{pair_lines, routers_with, rows_of, rows_told};
-ghost use Rattle.mc_explain.specs.UnlistedText.{unlisted_text};
+ghost use Rattle.mc_explain.specs.UnlistedText.{byte_order_text, further_text, has_pair};
+ghost use Rattle.mc_explain.specs.UnlistedText.{is_multicast, lowest_of, pair_lines, routers_with};
+ghost use Rattle.mc_explain.specs.UnlistedText.{rows_of, rows_told, unlisted_text};
 
 use crate::router_start::{RouterStart, ShownRouters};
 use mc_tables::CacheNotes;

@@ -7,7 +7,8 @@ use Rattle.mc_explain.specs.SearchText.{shown_text}
 use Rattle.mc_explain.proofs.SearchTextLemmas.{first-done, first-more}
 use Rattle.mc_explain.proofs.ShownLemmas.{shown-few}
 use Rattle.mc_explain.proofs.search_text.push_first.Goals as goal
-use Rattle.mc_explain.proofs.search_text.push_first.Goals.{then-count-lt-MOST+in_ok-push_shown, else-count-lt-MOST}
+use Rattle.mc_explain.proofs.search_text.push_first.Goals.{else-count-lt-MOST}
+use Rattle.mc_explain.proofs.search_text.push_first.Goals.{then-count-lt-MOST+in_ok-push_shown}
 
 pub overflow_add-count : goal.overflow_add-count
 overflow_add-count c =

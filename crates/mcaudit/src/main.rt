@@ -109,16 +109,16 @@ fn audit(
 }
 
 /// Does the task.
-fn run(rt: &(impl AllocGlobal + Files + Input + Print), task: Task<'_>) -> Result<bool, RunFault>
-    requires { IsAllowed task }
+fn run(rt: &(impl AllocGlobal + Files + Input + Print), task: &Task<'_>) -> Result<bool, RunFault>
+    requires { IsAllowed task.now }
 {
     match task {
-        Task::Wants { group, source } => wants(rt, group, source),
+        Task::Wants { group, source } => wants(rt, *group, *source),
         Task::Replay { flow, ttl, last } => {
-            if last {
-                replay(rt, flow, ttl, &mut Last)
+            if *last {
+                replay(rt, *flow, *ttl, &mut Last)
             } else {
-                replay(rt, flow, ttl, &mut First)
+                replay(rt, *flow, *ttl, &mut First)
             }
         }
         Task::Check => check(rt),
@@ -126,8 +126,8 @@ fn run(rt: &(impl AllocGlobal + Files + Input + Print), task: Task<'_>) -> Resul
         Task::Pack {
             folder,
             certificate,
-        } => pack(rt, folder, certificate),
-        Task::Audit(words) => audit(rt, &words),
+        } => pack(rt, folder, *certificate),
+        Task::Audit(words) => audit(rt, words),
     }
 }
 
@@ -175,7 +175,7 @@ fn run_words<'a>(
 ) -> Result<ExitCode, Failure> {
     let task = command_of(rt.alloc(), words)?;
     let audited = folder_of_audit(&task);
-    let answer = run(rt, task);
+    let answer = run(rt, &task);
     let is_refused = is_of_input(&answer);
     let code = end(rt, answer.map_err(Failure::from));
     if let Some(folder) = audited {

@@ -4,11 +4,11 @@
   python3 tests/audited/run.py PROGRAM [COUNT [FIRST]]
 
 The domains are those of examples/faults, and those of random_domains.py with the numbers from FIRST (0) on, COUNT (400)
-of them. answers.py works the answers out from their definitions. Of its lines those are compared that the program
-writes: of flows, findings, events and the verdict. For the examples, whose whole answers stand beside their folders and
-were read line by line against the tables, it has to give these, as text and as JSON. Each kind of finding has to come,
-or the domains would show too little. The last line counts the domains: `N passed, M failed`. The status is 0 if none
-failed and one was run.
+of them. answers.py works the answers out from their definitions, and the program has to write the same bytes and end
+with the same status, with each of some words. For the examples, whose answers stand beside their folders and were read
+line by line against the tables, answers.py has to give these, as text and as JSON. Each kind of finding has to come,
+and each kind of line that explains one, or the domains would show too little. The last line counts the domains:
+`N passed, M failed`. The status is 0 if none failed and one was run.
 """
 import os
 import subprocess
@@ -23,25 +23,38 @@ import random_domains
 FAULTS = os.path.join(os.path.dirname(os.path.abspath(__file__)), "..", "..", "examples", "faults")
 SECONDS = 60
 COUNT = 400
-WRITTEN = ("flow ", "found ", "event ", "verdict ")
-KINDS = {"Duplicate", "Loop", "Stray", "Missed"}
+WORDS = ([], ["--travel"], ["--faults", "--strict"])
+FINDINGS = {"Duplicate", "Loop", "Stray", "Missed"}
+LINES = {
+    "sent_onto", "circle", "take_out", "on_no_lan", "register_vif", "tunnel", "no_device", "no_vif_line",
+    "only_every_source", "least_ttl", "stopped_at", "gets_as_far_as", "not_taken", "no_row", "unresolved", "every_source",
+    "from_no_lan", "from_register", "from_tunnel", "from_no_device", "from_no_vif_line", "does_not_send", "stopped",
+    "waits_for", "no_vif", "not_multicast", "expected_from_here", "no_router", "no_sender",
+}
 
 
-def written_of(text):
-    return "".join(line for line in text.splitlines(keepends=True) if line.startswith(WRITTEN))
+def kinds_of(audit):
+    """The findings in a domain, and the kinds of lines that explain them."""
+    kinds = {answer.travel.finding[0] for answer in audit.answers}
+    return kinds | {line["kind"] for answer in audit.answers if not answer.is_right for line in answer.why}
+
+
+def try_words(program, name, folder, words):
+    """Returns what is wrong with the program's answer of a folder with these words, or nothing, and what it shows."""
+    wanted = answers.audit([folder, *words])
+    run = subprocess.run([program, "audit", folder, *words], capture_output=True, timeout=SECONDS, check=False)
+    said = run.stdout.decode("latin-1")
+    expected = wanted.output()
+    if said == expected and run.returncode == wanted.status and not run.stderr:
+        return None, kinds_of(wanted)
+    return (f"{name} {' '.join(words)}: wanted status {wanted.status}\n{expected}said status {run.returncode}\n{said}"
+            + run.stderr.decode("latin-1"), kinds_of(wanted))
 
 
 def try_folder(program, name, folder):
-    """Returns what is wrong with the program's answer of a folder, or nothing, and what is found in its domain."""
-    wanted = answers.audit([folder, "--travel"])
-    run = subprocess.run([program, "audit", folder, "--travel"], capture_output=True, timeout=SECONDS, check=False)
-    said = run.stdout.decode("latin-1")
-    kinds = {answer.travel.finding[0] for answer in wanted.answers}
-    expected = written_of(wanted.text())
-    if said == expected and run.returncode == wanted.status and not run.stderr:
-        return None, kinds
-    return (f"{name}: wanted status {wanted.status}\n{expected}said status {run.returncode}\n{said}"
-            + run.stderr.decode("latin-1"), kinds)
+    """Returns what is wrong with the program's answers of a folder, or nothing, and what is found in its domain."""
+    tried = [try_words(program, name, folder, words) for words in WORDS]
+    return "".join(wrong for wrong, _ in tried if wrong) or None, tried[0][1]
 
 
 def try_random(program, number):
@@ -75,9 +88,9 @@ def main():
             if wrong:
                 failed += 1
                 print(wrong)
-    if not KINDS <= kinds:
+    if not FINDINGS | LINES <= kinds:
         failed += 1
-        print(f"no domain shows {', '.join(sorted(KINDS - kinds))}")
+        print(f"no domain shows {', '.join(sorted((FINDINGS | LINES) - kinds))}")
     print(f"{len(tried) - failed} passed, {failed} failed")
     return 1 if failed or not examples else 0
 

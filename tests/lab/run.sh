@@ -4,7 +4,8 @@
 # of what the routers say, with the times to live of packets that come; the tables are collected, and the
 # hosts asked, since no router of this network asks them; mcaudit judges the folder, and its certificate
 # is kept. Then one router gets one entry too many, and mcaudit has to find the second copy that a host
-# sees come, and to say that the tables aren't those of the certificate any more.
+# sees come, to say that the tables aren't those of the certificate any more, and to name an entry that ends it
+# once it is taken out, as the host sees.
 #
 # The switch of l2 snoops: what it shows of the reports, it shows to the port of the router that asked.
 # Usage: run.sh PROGRAM. It needs root, and the lab's packages; what it made it takes away again.
@@ -239,7 +240,10 @@ END
 collect
 expect 0 "$mcaudit" audit "$site" <<'END'
 flow 10.77.0.5 239.1.2.3 ttl 4 yes copies 3
+  wanted 1: 10.77.2.0-24
 flow 10.77.0.5 239.1.2.4 ttl 4 yes copies 3
+  wanted 1: 10.77.2.0-24
+summary flows 2 right 2 wrong 0 unwanted 0
 verdict yes
 END
 make_certificate > "$site/certificate" || fail 'no certificate for right tables'
@@ -259,15 +263,34 @@ END
 collect
 expect 1 "$mcaudit" audit "$site" --travel <<'END'
 flow 10.77.0.5 239.1.2.3 ttl 4 yes copies 3
+  wanted 1: 10.77.2.0-24
 flow 10.77.0.5 239.1.2.4 ttl 4 no certificate
 found ttl 255 Duplicate 10.77.2.0-24
+  sent onto 10.77.2.0-24 by r1 at eth2: row (10.77.0.5,239.1.2.4) from eth0 to eth1 eth2 in cache-r1
+  sent onto 10.77.2.0-24 by r2 at eth1: row (10.77.0.5,239.1.2.4) from eth0 to eth1 in cache-r2
+  one way to end it: take eth1 out of this row of r2; each LAN that this flow's packets reach is reached without it
+  audit again after each change
 event r1 0 ttl 255 sent 2 strayed 0
 event r2 0 ttl 254 sent 1 strayed 0
+summary flows 2 right 1 wrong 1 unwanted 0
 verdict no
 END
 expect 1 check_certificate <<'END'
 flow 10.77.0.5 239.1.2.3 ttl 4 yes copies 3
 flow 10.77.0.5 239.1.2.4 ttl 4 no Extra r2 1 10.77.2.0-24
 verdict no
+END
+
+echo '- The remedy that is told, eth1 out of the row of r2: each packet reaches the member once again.'
+at r2 smcroutectl -i "$lab-r2" -u "$scratch/r2.sock" remove eth0 10.77.0.5 239.1.2.4 eth1 ||
+    fail 'the entry on r2 stays'
+expect 0 send_packets <<'END'
+239.1.2.3 3
+239.1.2.4 3
+END
+collect
+expect 0 "$mcaudit" audit "$site" --faults <<'END'
+summary flows 2 right 2 wrong 0 unwanted 0
+verdict yes
 END
 echo 'lab: the verdicts are those of the network'

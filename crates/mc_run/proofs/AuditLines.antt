@@ -41,8 +41,9 @@ use Rattle.mc_run.specs.CheckRun.{IsLineStart}
 use Rattle.mc_run.specs.MakeRun.{found_line, found_lines, no_certificate_line}
 use Rattle.mc_run.specs.ReplayRun.{event_line, event_lines}
 use Rattle.mc_run.specs.VerdictText.{flow_line, flow_words, last_line}
-use Rattle.mc_run.proofs.VerdictLines.{address, behind, body, first_feed, flow_body, last_says, line-body}
-use Rattle.mc_run.proofs.VerdictLines.{named_lan, named_vif, number, plain, router_by, words}
+use Rattle.mc_explain.proofs.FeedLemmas.{address, number, plain, router-plain, words}
+use Rattle.mc_run.proofs.VerdictLines.{behind, body, first_feed, flow_body, last_says, line-body}
+use Rattle.mc_run.proofs.VerdictLines.{named_lan, named_vif}
 
 -- ---- lines that begin otherwise
 
@@ -157,7 +158,7 @@ event_plain t e ok =
     let name = router_name t e.router in
     let at = name ++ codes " " ++ decimal e.vif in
     let living = at ++ codes " ttl " ++ decimal e.ttl in
-    let router : Without 10 name = router_by t.routers e.router ok.routers_named in
+    let router : Without 10 name = router-plain t e.router ok in
     let begun = words name (codes " ") router (refl, tt) in
     let vif = words (name ++ codes " ") (decimal e.vif) begun (number e.vif) in
     let live = words at (codes " ttl ") vif (plain (codes " ttl ") refl) in

@@ -1,18 +1,14 @@
 -- The lines of a verdict text: `verdict yes` begins none but the last, and that only where every
 -- verdict is yes.
-use Rattle.std.proofs.Common.{◌≡◌, ℕ, zero, suc, ◌+◌, ◌/◌, ◌%◌, Bool, true, false}
-use Rattle.std.proofs.Common.{cond, eqb, List, [], ◌∷◌, ◌++◌, ◌⊎◌, inl, inr, Some}
+use Rattle.std.proofs.Common.{◌≡◌, ℕ, Bool, true, false}
+use Rattle.std.proofs.Common.{eqb, List, [], ◌∷◌, ◌++◌, ◌⊎◌, inl, inr}
 use Rattle.std.proofs.Common.{refl, sym, ap, subst, ◌∙◌, arith, append_assoc, append-nil}
-use Rattle.std.specs.Prelude.{◌==◌, not, nat_lt, codes, slice_index, decimal, IsTrue, slice_get}
-use Rattle.std.specs.Prelude.{drop, unwrap_or, option_map}
-use Rattle.std.specs.Fmt.{digits, digits_onto, digit_glyph}
-use Rattle.std.specs.List.{list_all}
-use Rattle.std.proofs.lemmas.Bool.{and_parts, ne_eqb}
+use Rattle.std.specs.Prelude.{codes, slice_index, decimal}
+use Rattle.std.specs.Prelude.{drop}
 use Rattle.mc_text.specs.Addr.{dotted}
-use Rattle.mc_text.proofs.BundleWords.{Without, Without-append, Without-from_list_all}
+use Rattle.mc_text.proofs.BundleWords.{Without}
+use Rattle.mc_explain.proofs.FeedLemmas.{address, lan-plain, number, plain, router-plain, words}
 use Rattle.mc_topology.specs.declared.flow.Flow.{Flow}
-use Rattle.mc_topology.specs.Names.{is_name, is_name_byte}
-use Rattle.mc_topology.specs.Rows.{RouterRow}
 use Rattle.mc_topology.specs.Topology.{TopologyValue, IsTopology, lan_name, router_name}
 use Rattle.mc_check.specs.ReasonText.{reason_text, verdict_text}
 use Rattle.mc_check.specs.declared.verdict.Reason.{Reason}
@@ -24,72 +20,17 @@ use Rattle.mc_check.specs.declared.verdict.Verdict.TheVariants.{Yes, No}
 use Rattle.mc_run.specs.VerdictText.{flow_words, flow_line, flow_lines, last_line}
 use Rattle.mc_run.specs.CheckRun.{IsLineStart}
 
--- ---- no line feed stands in a number, an address or a name
-
-glyph_by : (d : ℕ) (small : Bool) → eqb (cond small (48 + d) (87 + d)) 10 ≡ false
-glyph_by d true = ne_eqb (48 + d) 10 (λ e. omega (arith, e))
-glyph_by d false = ne_eqb (87 + d) 10 (λ e. omega (arith, e))
-
-either : (b : Bool) (xs ys : List ℕ) → Without 10 xs → Without 10 ys → Without 10 (cond b xs ys)
-either true xs ys p q = p
-either false xs ys p q = q
-
-digits_by : (k n : ℕ) (acc : List ℕ) → Without 10 acc → Without 10 (digits_onto k 10 false n acc)
-digits_by zero n acc none = none
-digits_by (suc k) n acc none =
-    let more : Without 10 (digit_glyph false (n % 10) ∷ acc) =
-    (glyph_by (n % 10) (nat_lt (n % 10) 10), none) in
-    either (n / 10 == 0) _ _ more (digits_by k (n / 10) (digit_glyph false (n % 10) ∷ acc) more)
-
-pub number : (n : ℕ) → Without 10 (decimal n)
-unfolding digits
-number n = digits_by 64 n [] tt
-
-pub address : (a : ℕ) → Without 10 (dotted a)
-address a =
-    let first = Without-append 10 _ (codes ".") (number (a / 16777216 % 256)) (refl, tt) in
-    let second = Without-append 10 _ _ first (number (a / 65536 % 256)) in
-    let third = Without-append 10 _ (codes ".") second (refl, tt) in
-    let fourth = Without-append 10 _ _ third (number (a / 256 % 256)) in
-    let fifth = Without-append 10 _ (codes ".") fourth (refl, tt) in
-    Without-append 10 _ _ fifth (number (a % 256))
-
-name_by : (name : List ℕ) → IsTrue (is_name name) → Without 10 name
-unfolding is_name
-name_by name is =
-    Without-from_list_all is_name_byte 10 refl name (and_parts _ (list_all is_name_byte name) is).1
-
-pub lan_by : (lans : List (List ℕ)) (lan : ℕ)
-    → ((n : ℕ) (name : List ℕ) → slice_get lans n ≡ Some name → IsTrue (is_name name))
-    → Without 10 (unwrap_or (slice_get lans lan) [])
-lan_by [] lan named = tt
-lan_by (name ∷ lans) zero named = name_by name (named 0 name refl)
-lan_by (name ∷ lans) (suc lan) named = lan_by lans lan (λ n other is. named (suc n) other is)
-
-pub router_by : (rs : List RouterRow) (router : ℕ)
-    → ((n : ℕ) (r : RouterRow) → slice_get rs n ≡ Some r → IsTrue (is_name r.name))
-    → Without 10 (unwrap_or (option_map (λ r. r.name) (slice_get rs router)) [])
-router_by [] router named = tt
-router_by (r ∷ rs) zero named = name_by r.name (named 0 r refl)
-router_by (r ∷ rs) (suc router) named = router_by rs router (λ n other is. named (suc n) other is)
-
--- ---- nor in a verdict and a flow's words
-
-pub plain : (xs : List ℕ) → list_all (λ b. not (b == 10)) xs ≡ true → Without 10 xs
-plain xs none = Without-from_list_all (λ b. not (b == 10)) 10 refl xs none
-
-pub words : (xs ys : List ℕ) → Without 10 xs → Without 10 ys → Without 10 (xs ++ ys)
-words = Without-append 10
+-- ---- no line feed stands in a verdict and a flow's words
 
 pub named_lan : (front : List ℕ) (t : TopologyValue) (lan : ℕ) → Without 10 front → IsTopology t
     → Without 10 (front ++ lan_name t lan)
-named_lan front t lan p ok = words front _ p (lan_by t.lans lan ok.lans_named)
+named_lan front t lan p ok = words front (lan_name t lan) p (lan-plain t lan ok)
 
 pub named_vif : (front : List ℕ) (t : TopologyValue) (router vif : ℕ) → Without 10 front
     → IsTopology t
     → Without 10 (front ++ router_name t router ++ codes " " ++ decimal vif)
 named_vif front t router vif p ok =
-    let begun = words front _ p (router_by t.routers router ok.routers_named) in
+    let begun = words front (router_name t router) p (router-plain t router ok) in
     words _ (decimal vif) (words _ (codes " ") begun (refl, tt)) (number vif)
 
 reason : (t : TopologyValue) (r : Reason) → IsTopology t → Without 10 (reason_text t r)

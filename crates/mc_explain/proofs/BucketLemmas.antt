@@ -91,7 +91,8 @@ found-later p k zero found =
     subst (λ (n : ℕ). find p (below n) ≡ Some k) (let e : k + 1 ≡ (k + 1) + 0 = omega arith in e)
     found
 found-later p k (suc m) found =
-    subst (λ (n : ℕ). find p (below n) ≡ Some k) (let e : ((k + 1) + m) + 1 ≡ (k + 1) + suc m = omega arith in e)
+    subst (λ (n : ℕ). find p (below n) ≡ Some k)
+    (let e : ((k + 1) + m) + 1 ≡ (k + 1) + suc m = omega arith in e)
     (found-stays p k ((k + 1) + m) (found-later p k m found))
 
 -- the number is the first below a greater bound, too

@@ -112,7 +112,8 @@ taken-inside : (s : Search) (lan router : ℕ) (pairs : List (ℕ × ℕ)) (is :
     → AllInside s (taken_lines s lan router pairs is o)
 taken-inside s lan router pairs is None h = inside-one s _ tt
 taken-inside s lan router pairs is (Some from) h =
-    inside-unless s (from == lan) (flat_map (λ (i : ListedInterface). vif_lines s lan router from pairs i.vif) is)
+    inside-unless s (from == lan)
+    (flat_map (λ (i : ListedInterface). vif_lines s lan router from pairs i.vif) is)
     (inside-each s (λ (i : ListedInterface). vif_lines s lan router from pairs i.vif) is
     (λ i. vifs-inside s lan router from pairs i.vif h))
 
@@ -138,7 +139,8 @@ device-inside s lan i (Some vif) = inside-if s _ _ tt
 last-inside : (s : Search) (lan : ℕ) (gs : List (ℕ × List ListedInterface)) (lines : List Searched)
     → AllInside s (last_lines s lan gs lines)
 last-inside s lan gs [] = inside-one s _ tt
-last-inside s lan gs (line ∷ lines) = inside-unless s (list_any (sends_here s) gs) (NoSender lan ∷ []) (inside-one s (NoSender lan) tt)
+last-inside s lan gs (line ∷ lines) =
+    inside-unless s (list_any (sends_here s) gs) (NoSender lan ∷ []) (inside-one s (NoSender lan) tt)
 
 -- each line of a LAN
 pub lines-inside : (s : Search) (lan : ℕ) → PlacesInside s → AllInside s (lines_of_lan s lan)

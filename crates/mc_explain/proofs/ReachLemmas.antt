@@ -1,12 +1,15 @@
 -- The routers of a search, one by one.
-use Rattle.std.proofs.Common.{◌≡◌, ℕ, zero, suc, ◌+◌, ◌<◌, ◌≤◌, ◌==◌, ◌||◌, ◌&&◌, ◌⊎◌, not, All, inl, inr, Bool, true, false, cond, List, [], ◌∷◌, ◌++◌}
-use Rattle.std.proofs.Common.{length, map, filter, flat_map, take, get_or, refl, ap, sym, subst, ◌∙◌, arith, append-nil}
+use Rattle.std.proofs.Common.{◌≡◌, ℕ, zero, suc, ◌+◌, ◌<◌, ◌≤◌, ◌==◌, ◌||◌, ◌&&◌, ◌⊎◌, not, All}
+use Rattle.std.proofs.Common.{inl, inr, Bool, true, false, cond, List, [], ◌∷◌, ◌++◌}
+use Rattle.std.proofs.Common.{length, map, filter, flat_map, take, get_or, refl, ap, sym, subst}
+use Rattle.std.proofs.Common.{◌∙◌, arith, append-nil}
 use Rattle.std.specs.List.{list_any}
 use Rattle.std.proofs.lemmas.Bool.{eqb-true}
 use Rattle.std.proofs.lemmas.List.{flat_map_more, take_more}
 use Rattle.std.proofs.lemmas.List.Elements.{filter-append}
 use Rattle.mc_theory.specs.Lists.{In, below}
-use Rattle.mc_theory.proofs.InLists.{in-below_cases, in-filter_cases, in-flat_map_cases, in-map_cases}
+use Rattle.mc_theory.proofs.InLists.{in-below_cases, in-filter_cases, in-flat_map_cases}
+use Rattle.mc_theory.proofs.InLists.{in-map_cases}
 use Rattle.mc_theory.proofs.InLists.{in-push_cases}
 use Rattle.mc_theory.specs.Events.{Event}
 use Rattle.mc_forward.specs.ListedTables.{DomainFacts}

@@ -4,7 +4,8 @@ use Rattle.std.proofs.Common.{List, [], ◌∷◌, ◌++◌}
 use Rattle.std.proofs.Common.{Global, Vec, length, Option, Some, None, Result, Ok, Err, refl, sym, ap}
 use Rattle.std.proofs.Common.{subst, ◌∙◌, arith}
 use Rattle.std.proofs.Common.{append_assoc, append-nil, length-append}
-use Rattle.std.specs.Prelude.{◌&&◌, ◌==◌, not, cond, filter, flat_map, IfOk, OnOk, slice_get, unwrap_or, option_map}
+use Rattle.std.specs.Prelude.{◌&&◌, ◌==◌, not, cond, filter, flat_map, IfOk, OnOk, slice_get}
+use Rattle.std.specs.Prelude.{option_map, unwrap_or}
 use Rattle.mc_topology.specs.declared.flow.Flow.{Flow}
 use Rattle.std.specs.Result.{IsOkAnd}
 use Rattle.std.proofs.lemmas.Bool.{false≢true, ne_eqb}

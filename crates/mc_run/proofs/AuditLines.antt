@@ -357,7 +357,8 @@ end_other : (o : AuditOptions) (t : TopologyValue) (notes : List NotesText) (ans
 end_other o t notes answers ok =
     both_other (unlisted_text t notes) _ (unlisted_other t notes ok)
     (both_other (summary_line answers) _
-    (summary_other (length answers) (count is_right answers) (count is_wrong answers) (count is_unwanted answers))
+    (summary_other (length answers) (count is_right answers) (count is_wrong answers)
+    (count is_unwanted answers))
     (strict_other o.strict (are_right answers) (count is_unwanted answers)))
 
 -- `verdict yes` stands at a line's start only where all flows are right, and then last

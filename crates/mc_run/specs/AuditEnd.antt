@@ -53,7 +53,9 @@ summary_by flows right wrong unwanted =
     ++ (codes " unwanted " ++ (decimal unwanted ++ codes "\n")))))))
 
 abbrev pub summary_line : List FlowAnswer → List ℕ
-summary_line answers = summary_by (length answers) (count is_right answers) (count is_wrong answers) (count is_unwanted answers)
+summary_line answers =
+    summary_by (length answers) (count is_right answers) (count is_wrong answers)
+    (count is_unwanted answers)
 
 -- where a yes isn't enough if a flow is wanted by nobody
 abbrev pub strict_lines : (strict all : Bool) → (unwanted : ℕ) → List ℕ

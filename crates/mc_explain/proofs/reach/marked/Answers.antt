@@ -1,5 +1,6 @@
 -- Router by router.
-use Rattle.std.proofs.Common.{◌≡◌, ℕ, ◌<◌, ◌++◌, ◌∷◌, [], Vec, Global, length, get_or, true, false, sym, ap, subst, ◌∙◌}
+use Rattle.std.proofs.Common.{◌≡◌, ℕ, ◌<◌, ◌++◌, ◌∷◌, [], Vec, Global, length, get_or, true, false}
+use Rattle.std.proofs.Common.{sym, ap, subst, ◌∙◌}
 use Rattle.mc_topology.specs.declared.number.RouterNo.{RouterNo}
 use Rattle.mc_explain.proofs.ReachLemmas.{filtered-more}
 use Rattle.mc_explain.proofs.reach.marked.Goals as goal

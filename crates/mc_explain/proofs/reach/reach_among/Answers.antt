@@ -9,7 +9,8 @@ pub returns-clause-sent_on : goal.returns-clause-sent_on
 returns-clause-sent_on c =
     let events = c.args.events.now in
     c.in_ok-marked.ensures (has true events)
-    (marks-has events true (replicate 256 false) c.mark.new.marks c.mark.ensures.count (unmarked 256) c.mark.ensures.marks)
+    (marks-has events true (replicate 256 false) c.mark.new.marks c.mark.ensures.count (unmarked 256)
+    c.mark.ensures.marks)
 
 pub returns-clause-took_none : goal.returns-clause-took_none
 returns-clause-took_none c =

@@ -1,5 +1,7 @@
 pub mod RowData
 pub mod ToldData
+pub mod FlowData
+pub mod EndData
 pub use Rattle.serde_json.specs.Data
 pub use Rattle.serde_json.specs.View
 pub use Rattle.serde_json.specs.Written

@@ -52,7 +52,7 @@ append-plain (x ∷ xs) ys first then =
 
 -- ---- rows
 
-device-plain : (o : Option VifText) → has_float (device_data_of o) ≡ false
+pub device-plain : (o : Option VifText) → has_float (device_data_of o) ≡ false
 device-plain None = refl
 device-plain (Some v) = refl
 
@@ -70,18 +70,18 @@ row-plain d f router (Exact incoming pairs) = entry-plain d router f.source f.gr
 row-plain d f router Open = refl
 row-plain d f router NoRow = refl
 
-noted-plain : (d : DomainFacts) (router : ℕ) (o : Option (ℕ × EntryText))
+pub noted-plain : (d : DomainFacts) (router : ℕ) (o : Option (ℕ × EntryText))
     → has_float (noted_row_data d router o) ≡ false
 noted-plain d router None = refl
 noted-plain d router (Some row) = entry-plain d router 0 row.0 row.1.iif (pairs_of row.1.oifs)
 
-incoming-device-plain : (d : DomainFacts) (router : ℕ) (row : Row)
+pub incoming-device-plain : (d : DomainFacts) (router : ℕ) (row : Row)
     → has_float (incoming_device d router row) ≡ false
 incoming-device-plain d router (Exact incoming pairs) = device-plain (d.vifs router incoming)
 incoming-device-plain d router Open = refl
 incoming-device-plain d router NoRow = refl
 
-incoming-vif-plain : (row : Row) → has_float (incoming_vif row) ≡ false
+pub incoming-vif-plain : (row : Row) → has_float (incoming_vif row) ≡ false
 incoming-vif-plain (Exact incoming pairs) = refl
 incoming-vif-plain Open = refl
 incoming-vif-plain NoRow = refl
@@ -194,7 +194,7 @@ wrong-in-plain number f ended found_ttl asked why because =
 
 -- ---- behind the flows
 
-routers-plain : (t : TopologyValue) (routers : List ℕ) → ArePlain (map (router_data t) routers)
+pub routers-plain : (t : TopologyValue) (routers : List ℕ) → ArePlain (map (router_data t) routers)
 routers-plain t routers = items-plain (router_data t) (λ router. refl) routers
 
 pub unlisted-plain : (t : TopologyValue) (source group : ℕ) (routers : List ℕ)

@@ -13,6 +13,9 @@ use mc_topology::RouterNo;
 use serde_json::Value;
 use std::alloc::{AllocError, Global};
 
+/// The kernel's word for a vif without a device.
+pub(crate) const NO_DEVICE: &[u8] = b"none";
+
 /// A device's name, as `eth1`.
 pub(crate) fn device_name(alloc: Global, name: &[u8]) -> Result<String, AllocError>
     ensures { IfOk result (λ text. string_bytes text ≡ name_text name.now) }

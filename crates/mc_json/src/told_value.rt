@@ -11,7 +11,7 @@ ghost use Rattle.mc_json.specs.ToldData.{least_ttl_data, only_every_source_data,
 ghost use Rattle.mc_json.specs.ToldData.{sent_onto_data, stopped_at_data, take_out_data, told_data};
 ghost use Rattle.mc_json.specs.ToldData.{unplaced_data, unplaced_kind};
 
-use crate::device_value::device_value;
+use crate::device_value::{NO_DEVICE, device_value};
 use crate::row_value::{every_source_value, row_value};
 use crate::telling::Telling;
 use mc_explain::Told;
@@ -20,9 +20,6 @@ use mc_tables::Vif;
 use mc_topology::{LanNo, RouterNo};
 use serde_json::{Value, json};
 use std::alloc::{AllocError, Global};
-
-/// The kernel's word for a vif without a device.
-const NO_DEVICE: &[u8] = b"none";
 
 /// The vif that a router's row for a flow takes from. Null where it has no row of the flow.
 pub(crate) fn incoming_vif(view: &FlowView<'_>, router: RouterNo) -> Value

@@ -8,16 +8,18 @@ ghost use Rattle.mc_topology.specs.declared.flow.Flow.{Flow};
 ghost use Rattle.mc_forward.specs.ListedTables.{facts};
 ghost use Rattle.mc_json.specs.FlowData.{line_of, wrong_data, wrong_in, wrong_members};
 ghost use Rattle.mc_json.specs.RowData.{members};
+ghost use Rattle.mc_json.specs.SearchData.{search_data};
 ghost use Rattle.mc_json.specs.ToldData.{all_told_data};
 
 use crate::flow_members::flow_members;
 use crate::found_value::{event_values, finding_value};
 use crate::line::push_line;
 use crate::name_values::lan_names;
+use crate::search_value::search_values;
 use crate::telling::Telling;
 use crate::told_value::push_told;
 use crate::wanted::missed_besides;
-use mc_explain::Told;
+use mc_explain::{LanSearch, Told};
 use mc_forward::{Domain, FlowView};
 use mc_replay::Ended;
 use mc_tables::CacheNotes;
@@ -123,6 +125,42 @@ fn told_values(alloc: Global, by: &Telling<'_>, told: &[Told]) -> Result<Vec<Val
     let mut values = Vec::new(alloc);
     push_told(alloc, &mut values, by, told)?;
     Ok(values)
+}
+
+/// Writes the line of the flow with this number, of which a travel that starts with this TTL missed a
+/// LAN, and why: what a search found, by what is noted of each router's cache, the first router's
+/// first. It has the travel's events where they are asked for.
+///
+/// # Errors
+///
+/// `Memory` where a growth was refused.
+pub fn push_missed_line(
+    alloc: Global,
+    text: &mut String,
+    domain: &Domain,
+    notes: &[CacheNotes],
+    flow: u32,
+    ended: &Ended<'_>,
+    found_ttl: u8,
+    asked: bool,
+    search: &LanSearch,
+) -> Result<(), Memory>
+    requires flow { flow < length domain.now.topology.flows }
+    ensures line { OnOk result ((listed : Flow) → slice_get domain.now.topology.flows flow ≡ Some listed
+        → string_bytes text.new ≡ string_bytes text.old ++ line_of (wrong_data flow listed (wrong_in
+        ended.now found_ttl asked (search_data (facts domain.now) notes.now flow listed
+        search.now.lines.items search.now.reach.sent_on.items search.now.reach.took_none.items)))) }
+{
+    let view = FlowView::new(domain, flow);
+    let listed = domain.topology().flow(flow);
+    let by = Telling {
+        view: &view,
+        flow: listed,
+        notes,
+    };
+    let why = search_values(alloc, &by, search)?;
+    push_wrong(alloc, text, flow, listed, ended, found_ttl, asked, why)?;
+    Ok(())
 }
 
 /// Writes the line of the flow with this number, which a travel that starts with this TTL found not

@@ -10,8 +10,8 @@ pub loop-number-preserved : goal.loop-number-preserved
 loop-number-preserved c =
     let d = c.args.domain.now in
     let n = c.loop-number.number in
-    let found = ap (λ (t : TopologyValue). slice_get t.interfaces n) (sym c.topology-topology.ensures.topology)
-    ∙ c.interface.ensures.interface in
+    let found = ap (λ (t : TopologyValue). slice_get t.interfaces n)
+    (sym c.topology-topology.ensures.topology) ∙ c.interface.ensures.interface in
     item-told (unmatched (facts d)) d.topology.interfaces c.interface.result
     (map data_of c.args.values.now.items) (map data_of c.loop-number.values.items)
     (map data_of c.push_interface.new.values.items) n found c.loop-number.invariant

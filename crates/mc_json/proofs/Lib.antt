@@ -1,0 +1,5 @@
+pub mod PlainLemmas
+pub mod FilterLemmas
+pub mod SearchPlainLemmas
+pub mod NumberedLemmas
+pub mod DomainPlainLemmas

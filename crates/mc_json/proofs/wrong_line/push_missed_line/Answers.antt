@@ -1,0 +1,13 @@
+use Rattle.std.proofs.Common.{sym, subst}
+use Rattle.mc_forward.specs.ListedTables.{facts}
+use Rattle.mc_json.proofs.PlainLemmas.{ArePlain}
+use Rattle.mc_json.proofs.SearchPlainLemmas.{search-plain}
+use Rattle.mc_json.proofs.wrong_line.push_missed_line.Goals as goal
+
+pub push_wrong-requires : goal.push_wrong-requires
+push_wrong-requires c =
+    let view = c.new-view.result in
+    let search = c.args.search.now in
+    subst ArePlain (sym c.in_ok-why.ensures) (search-plain (facts view.domain) c.args.notes.now
+    view.flow c.flow-listed.result.now search.lines.items search.reach.sent_on.items
+    search.reach.took_none.items)

@@ -31,9 +31,8 @@ mod unlisted_text;
 mod wanted_text;
 mod way;
 
-pub use device_text::ShownName;
 pub use explained::explain;
-pub use interfaces_of_lans::{InterfacesOfLans, vif_with};
+pub use interfaces_of_lans::InterfacesOfLans;
 pub use laws::{
     a_circle_that_is_told_is_closed, a_row_for_every_source_that_is_told_is_met,
     a_sender_that_is_told_has_such_a_row, a_stop_that_is_told_stops_the_packet,

@@ -1,5 +1,0 @@
-pub mod PlainLemmas
-pub mod FilterLemmas
-pub mod SearchPlainLemmas
-pub mod NumberedLemmas
-pub mod DomainPlainLemmas

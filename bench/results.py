@@ -122,27 +122,27 @@ def reading_quotient(taken):
     return written / spaced
 
 
-def reading_table(taken, programs):
-    """What a check took with the certificate as written, and with a space before it."""
+def time_and_memory(taken, programs, shown, command, words):
+    """A command's time and memory for each size of the shapes shown, whose rows begin with words of the shape's name."""
     rows = []
-    for name in shapes.READING:
-        for size in taken.get(name, {}).get("check", []):
+    for name in shown:
+        for size in taken.get(name, {}).get(command, []):
             took = [milliseconds(seconds) for seconds in reversed(size.seconds)]
             memory = [f"{kib / 1024:,.0f}" for kib in reversed(size.kib)]
-            rows.append([name.replace("-", " "), f"{size.size / 1e6:.1f}", *took, *memory])
+            rows.append([words(name), f"{size.size / 1e6:.1f}", *took, *memory])
     head = ["ms", "MiB"] if programs == 1 else ["ms before", "ms", "MiB before", "MiB"]
+    return head, rows
+
+
+def reading_table(taken, programs):
+    """What a check took with the certificate as written, and with a space before it."""
+    head, rows = time_and_memory(taken, programs, shapes.READING, "check", lambda name: name.replace("-", " "))
     return table(["the certificate", "MB", *head], rows) if rows else "Not measured.\n"
 
 
 def faulty_table(taken, programs):
     """What an audit took that explains a fault of each flow."""
-    rows = []
-    for name in shapes.FAULTY:
-        for size in taken.get(name, {}).get("audit", []):
-            took = [milliseconds(seconds) for seconds in reversed(size.seconds)]
-            memory = [f"{kib / 1024:,.0f}" for kib in reversed(size.kib)]
-            rows.append([f"{name}, `audit`", f"{size.size / 1e6:.1f}", *took, *memory])
-    head = ["ms", "MiB"] if programs == 1 else ["ms before", "ms", "MiB before", "MiB"]
+    head, rows = time_and_memory(taken, programs, shapes.FAULTY, "audit", lambda name: f"{name}, `audit`")
     return table(["", "MB", *head], rows) if rows else "Not measured.\n"
 
 

@@ -61,7 +61,7 @@ def chunks_of(text):
             continue
         line = line.strip()
         named = SIGNATURE.match(line)
-        if line.startswith("module ") or line == "mutual":
+        if line.startswith("module "):
             chunks.append((None, [line]))
             level.append(indent + 2)
         elif named:

@@ -6,7 +6,7 @@ ghost use Rattle.mc_cert.specs.Certificate.{BelongsTo, IsList};
 ghost use Rattle.mc_cert.specs.CertificateText.{certificate_text};
 ghost use Rattle.mc_cert.specs.Stands.{CertificateStands};
 
-use crate::different::DifferentTrees;
+use crate::different::Different;
 use crate::reached::Reached;
 use crate::written::{push_flows, push_trees, room_for};
 use mc_text::Memory;
@@ -18,7 +18,7 @@ use std::marker::Model;
 /// A tree that many flows share is kept once.
 #[derive(Debug, Drop)]
 pub struct Trees {
-    different: DifferentTrees,
+    different: Different,
     /// For each flow the number of its tree among these.
     numbers: Vec<u32>,
 }
@@ -41,7 +41,7 @@ impl Trees {
         ensures { result ≡ [] }
     {
         Trees {
-            different: DifferentTrees::new(alloc),
+            different: Different::new(alloc),
             numbers: Vec::new(alloc),
         }
     }

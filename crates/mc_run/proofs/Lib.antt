@@ -4,8 +4,7 @@ pub mod AuditLemmas
 pub mod AuditLines
 pub mod CertifiedLemmas
 pub mod CheckLemmas
-pub mod EndsLemmas
-mod LookLemmas
+pub mod LookLemmas
 pub mod MakeLemmas
 pub mod MissedLemmas
 pub mod PackingLemmas

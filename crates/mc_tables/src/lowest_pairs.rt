@@ -53,10 +53,9 @@ impl LowestPairs {
     }
 
     /// Those that are kept.
-    pub fn into_vec(self) -> Vec<(Addr, Addr)>
-        ensures { result.items ≡ self }
+    pub fn as_slice(&self) -> &[(Addr, Addr)]
+        ensures { result.now ≡ self.now }
     {
-        let LowestPairs { pairs } = self;
-        pairs
+        self.pairs.as_slice()
     }
 }

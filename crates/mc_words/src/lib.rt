@@ -4,7 +4,6 @@
 mod audit_words;
 mod command;
 mod fault;
-mod router_name;
 mod task;
 mod words;
 

@@ -35,8 +35,7 @@ impl Failure {
                 | RunFault::PartReports(_, _)
                 | RunFault::Reports(_)
                 | RunFault::Certificate(_)
-                | RunFault::NoSuchFlow(_)
-                | RunFault::NoSuchRouter(_),
+                | RunFault::NoSuchFlow(_),
             ) => 2,
             Failure::Run(RunFault::Read | RunFault::Write) => 3,
             Failure::Words(WordsFault::Memory) | Failure::Run(RunFault::Memory) => 4,

@@ -1,0 +1,23 @@
+use Rattle.mc_domain.specs.NotesOfFiles.{AreNotesOf}
+use Rattle.mc_domain.proofs.FilesMeansLemmas.{means_of_files, only_of_files, refused_of_files, told_of}
+use Rattle.mc_domain.proofs.domain.noted_domain_of.Goals as goal
+
+pub returns-clause-means : goal.returns-clause-means
+returns-clause-means g c =
+    means_of_files (λ read. read.domain) (g.F.FileSource.told c.args.files.now) c.files_through.result
+    c.files_through.ensures.domain c.files_through.ensures.rules
+
+pub returns-clause-only : goal.returns-clause-only
+returns-clause-only g c =
+    only_of_files (λ read. read.domain) (g.F.FileSource.told c.args.files.now) c.files_through.result
+    c.files_through.ensures.domain c.files_through.ensures.rules
+
+pub returns-clause-notes : goal.returns-clause-notes
+returns-clause-notes g c =
+    told_of (λ files read. AreNotesOf files read.domain.topology read.notes.items)
+    (g.F.FileSource.told c.args.files.now) c.files_through.result c.files_through.ensures.notes
+
+pub returns-clause-fault : goal.returns-clause-fault
+returns-clause-fault g c =
+    refused_of_files (λ read. read.domain) (g.F.FileSource.told c.args.files.now) c.files_through.result
+    c.files_through.ensures.domain

@@ -6,16 +6,19 @@
 #                 BEFORE=PATH, an earlier build of the program, runs beside it. It fails where a certificate as `make`
 #                 writes it isn't read in a seventh of the time that the same takes behind one space
 # make lab        from routers to a verdict, in network namespaces (it needs root; the file `packages` says what else)
-# make install    puts the program and its tools into $(PREFIX)/bin, the manual page and the completion into $(PREFIX)/share
+# make page-test  tries the page of mcaudit-page in a headless Chromium; PICTURES=FOLDER writes pictures of it there
+# make install    puts the program and its tools into $(PREFIX)/bin, the manual page and the completion into
+#                 $(PREFIX)/share, and the units of systemd and their user into $(PREFIX)/lib
 
 PREFIX ?= /usr/local
 PROGRAM = crates/mcaudit/out/mcaudit
-TOOLS = mcaudit-collect mcaudit-draft mcaudit-query mcaudit-reports mcaudit-site
+TOOLS = mcaudit-collect mcaudit-diff mcaudit-draft mcaudit-monitor mcaudit-page mcaudit-query mcaudit-reports mcaudit-site
+UNITS = $(DESTDIR)$(PREFIX)/lib/systemd/system
 SOURCES = $(shell find crates \( -path '*/out' -o -path 'crates/mc_tests_*' \) -prune -o -type f \( -name '*.rt' -o -name '*.antt' \) -print) crates.txt
 # the libraries below the program, lowest first
 LIBRARIES = $(filter-out mcaudit mc_tests_%,$(shell sed -n 's/^\([a-z_]*\):.*/\1/p' crates.txt))
 
-.PHONY: all example test bench lab install
+.PHONY: all example test bench lab page-test install
 
 all: $(PROGRAM)
 
@@ -39,10 +42,18 @@ bench: $(PROGRAM)
 lab: $(PROGRAM)
 	sh tests/lab/run.sh $(PROGRAM)
 
+page-test:
+	sh tests/packages.sh page
+	python3 tests/page/run.py $(PICTURES)
+
 install: $(PROGRAM)
 	install -D -m 755 $(PROGRAM) $(DESTDIR)$(PREFIX)/bin/mcaudit
 	for tool in $(TOOLS); do \
 		install -D -m 755 tools/$$tool $(DESTDIR)$(PREFIX)/bin/$$tool || exit 1; done
+	install -D -m 644 tools/systemd/mcaudit.conf $(DESTDIR)$(PREFIX)/lib/sysusers.d/mcaudit.conf
+	install -D -m 644 tools/systemd/mcaudit-monitor.timer $(UNITS)/mcaudit-monitor.timer
+	install -D -m 644 tools/systemd/mcaudit-monitor.service $(UNITS)/mcaudit-monitor.service
+	sed -i 's|/usr/local/bin/|$(PREFIX)/bin/|' $(UNITS)/mcaudit-monitor.service
 	install -D -m 644 docs/mcaudit.1 $(DESTDIR)$(PREFIX)/share/man/man1/mcaudit.1
 	install -D -m 644 tools/mcaudit.bash $(DESTDIR)$(PREFIX)/share/bash-completion/completions/mcaudit
 	for tool in $(TOOLS); do \

@@ -1,9 +1,9 @@
 #!/bin/sh
 # Sees that what a purpose needs is there: the packages of the file `packages` that name it. What is missing is
-# installed where that may be (as root or by sudo, with apt-get), and else named. Usage: packages.sh gate|lab
+# installed where that may be (as root or by sudo, with apt-get), and else named. Usage: packages.sh gate|lab|page|monitor
 
 packages=$(cd "$(dirname "$0")/.." && pwd)/packages || exit 1
-purpose=${1:?Usage: packages.sh gate|lab}
+purpose=${1:?Usage: packages.sh gate|lab|page|monitor}
 
 # The missing packages of the purpose.
 print_missing() {

@@ -11,7 +11,11 @@ _mcaudit() {
     local option=--certificate
     case ${COMP_WORDS[1]} in
         audit | pack)
-            if [ "${COMP_WORDS[1]}" = audit ]; then option='--travel --faults --strict'; fi
+            if [ "${COMP_WORDS[1]}" = audit ]; then
+                option='--travel --faults --unlisted --strict --json --without'
+                # the word behind is a router, whatever it begins with
+                if [ "$before" = --without ]; then return; fi
+            fi
             case $word in
                 -*) mapfile -t COMPREPLY < <(compgen -W "$option" -- "$word") ;;
                 *)
@@ -34,10 +38,11 @@ _mcaudit_tool() {
     shift 3
     COMPREPLY=()
     case $before in
-        -o | --routers | --capture) kind='file' ;;
+        -o | --routers | --capture | --audit | --program | --prometheus) kind='file' ;;
         --all) kind=directory ;;
         --readings | --pause | --timeout | --at-once | --ssh | --wait | --slack) return ;;
-        --tries | --static | --by | --shell | --ttl | --measure | --count | --tenths) return ;;
+        --tries | --static | --by | --shell | --ttl | --measure | --count | --tenths | --without) return ;;
+        --keep | --warn-age | --warn-reports | --label) return ;;
     esac
     case $word in
         -*) mapfile -t COMPREPLY < <(compgen -W "$*" -- "$word") ;;
@@ -52,9 +57,24 @@ _mcaudit_collect() {
         --routers --adopt --readings --pause --timeout --at-once --ssh --facts --shell --version --help
 }
 
+_mcaudit_diff() {
+    _mcaudit_tool "${COMP_WORDS[COMP_CWORD]}" "${COMP_WORDS[COMP_CWORD - 1]}" file --json --version --help
+}
+
+_mcaudit_monitor() {
+    _mcaudit_tool "${COMP_WORDS[COMP_CWORD]}" "${COMP_WORDS[COMP_CWORD - 1]}" directory \
+        --routers --ssh --readings --pause --timeout --at-once --facts --adopt --no-collect --keep --plugin \
+        --warn-age --warn-reports --prometheus --label --version --help
+}
+
 _mcaudit_draft() {
     _mcaudit_tool "${COMP_WORDS[COMP_CWORD]}" "${COMP_WORDS[COMP_CWORD - 1]}" directory \
         --routers --ssh --timeout --ttl --measure --update --version --help
+}
+
+_mcaudit_page() {
+    _mcaudit_tool "${COMP_WORDS[COMP_CWORD]}" "${COMP_WORDS[COMP_CWORD - 1]}" directory \
+        -o --audit --program --without --version --help
 }
 
 _mcaudit_query() {
@@ -82,7 +102,10 @@ _mcaudit_reports() {
 
 complete -F _mcaudit mcaudit
 complete -F _mcaudit_collect mcaudit-collect
+complete -F _mcaudit_diff mcaudit-diff
 complete -F _mcaudit_draft mcaudit-draft
+complete -F _mcaudit_monitor mcaudit-monitor
+complete -F _mcaudit_page mcaudit-page
 complete -F _mcaudit_query mcaudit-query
 complete -F _mcaudit_reports mcaudit-reports
 complete -F _mcaudit_site mcaudit-site

@@ -602,13 +602,7 @@ class Answer:
             {"kind": kind, "router": self.domain.routers[place[0]], "vif": place[1]})
         events = {"events": self.travel.events} if self.with_events else {}
         return [self.names | events | {"also": [lans[lan] for lan in self.also], "finding": finding,
-                                       "found_ttl": self.found_ttl, "right": False, "why": told_fields(self.why)}]
-
-
-def told_fields(lines):
-    """The lines of an explanation, without what their text alone needs."""
-    return [{key: field for key, field in line.items() if not (line["kind"] in ("take_out", "least_ttl") and key == "ttl")}
-            for line in lines]
+                                       "found_ttl": self.found_ttl, "right": False, "why": self.why}]
 
 
 def event_text(event):

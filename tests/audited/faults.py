@@ -1,7 +1,7 @@
 #!/usr/bin/env python3
 """The domains of examples/faults, each of which shows what an audit can tell of it.
 
-  python3 tests/audited/faults.py [NAME..]     writes the folders of these anew, or of all, as root
+  python3 tests/audited/faults.py [NAME..]     writes the folders of these anew, or of all, with their answers, as root
 
 Each router's tables are written by the kernel of the machine: in a network namespace of its own it gets the domain's
 devices, vifs and rows, and its /proc/net/ip_mr_vif and /proc/net/ip_mr_cache are copied. What a kernel shows but rarely (a
@@ -9,6 +9,9 @@ vif without a line, or whose device is gone, a tunnel of a kernel that has none)
 
 A router is told by its devices, each with its LAN (none where the topology doesn't list it), vif numbers counting from 0
 in their order, and by its rows of the flow: from which device to which, with a threshold behind a colon.
+
+Beside a folder stands its answer as answers.py works it out, as text and as JSON, with the words that WORDS has for it.
+Whoever writes one anew reads it against the tables.
 """
 import ctypes
 import json
@@ -21,6 +24,7 @@ import sys
 import time
 
 sys.dont_write_bytecode = True
+import answers
 from random_domains import report_of
 
 FOLDER = os.path.join(os.path.dirname(os.path.abspath(__file__)), "..", "..", "examples", "faults")
@@ -28,6 +32,13 @@ CLONE_NEWNET = 0x40000000
 MRT_INIT, MRT_ADD_VIF, MRT_ADD_MFC = 200, 202, 204  # linux/mroute.h
 VIFF_REGISTER, VIFF_USE_IFINDEX = 0x4, 0x8
 SOURCE, GROUP = "10.0.0.5", "239.1.2.3"
+SCANNED = [f"10.0.0.6 239.1.3.{last}: eth0 > " for last in range(1, 25)]
+
+# The words of an audit that an example needs, if any.
+WORDS = {
+    "left-out-router": "--without r2",
+    "a-source-that-scans-groups": "--unlisted",
+}
 
 # Of each domain its routers, the LANs that want the flow, and what else is not as in most.
 DOMAINS = {
@@ -133,6 +144,15 @@ DOMAINS = {
     "a-flow-that-is-not-listed": {
         "routers": {"r1": "eth0=studio eth1=core", "r2": "eth0=core eth1=hall"},
         "rows": {"r1": "eth0 > eth1 / 10.0.0.6 239.1.2.9: eth0 > eth1", "r2": "eth0 > eth1 / 10.0.0.6 239.1.2.9: eth0 > eth1"},
+    },
+    "a-source-that-scans-groups": {
+        "routers": {"r1": "eth0=studio eth1=core", "r2": "eth0=core eth1=hall"},
+        "rows": {"r1": " / ".join(["eth0 > eth1", *SCANNED]), "r2": " / ".join(["eth0 > eth1", *SCANNED[-3:]])},
+    },
+    "left-out-router": {
+        "routers": {"r1": "eth0=studio eth1=core", "r2": "eth0=core eth1=link", "r3": "eth0=link eth1=hall"},
+        "rows": {"r1": "eth0 > eth1", "r2": "eth0 > eth1", "r3": "eth0 > eth1"},
+        "wants": "core hall", "missing": ["r2"],
     },
     "the-wrong-byte-order": {
         "routers": {"r1": "eth0=studio eth1=core", "r2": "eth0=core eth1=hall"},
@@ -261,6 +281,8 @@ def write_domain(name):
     with open(f"{folder}/topology", "w", encoding="ascii") as file:
         file.write(topology_of(domain))
     for router in domain["routers"]:
+        if router in domain.get("missing", []):
+            continue
         devices = [device for device, _ in devices_of(domain, router)]
         in_child(lambda: write_tables(devices, list(rows_of(domain, router)), f"{folder}/{{}}-{router}"))
         gone, lineless = (domain.get(word, {}).get(router) for word in ("gone", "lineless"))
@@ -272,6 +294,19 @@ def write_domain(name):
             file.write(report_of([(2, GROUP, [])]) + "\n" if lan in domain.get("wants", "hall").split() else "")
 
 
+def answer_of(name, ending):
+    """The answer of an example with its words, as text (`txt`) or as JSON (`json`)."""
+    words = WORDS.get(name, "").split() + ["--json"] * (ending == "json")
+    return answers.audit([os.path.join(FOLDER, name), *words]).output()
+
+
+def write_answers(name):
+    for ending in ("txt", "json"):
+        with open(os.path.join(FOLDER, f"{name}.{ending}"), "w", encoding="ascii") as file:
+            file.write(answer_of(name, ending))
+
+
 if __name__ == "__main__":
     for wanted in sys.argv[1:] or DOMAINS:
         write_domain(wanted)
+        write_answers(wanted)

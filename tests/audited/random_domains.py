@@ -4,7 +4,8 @@ import os
 import random
 import struct
 
-DEVICES = ["eth0", "eth1", "br-lan.7", "vlan\\\\3", "wg-é", "eth5", "eth6", "eth7"]
+# as TOML has them between quotes
+DEVICES = ["eth0", "eth1", 'br\\"7', "vlan\\\\3", "wg-é", "eth5", "eth6", "eth7"]
 THRESHOLDS = [1, 1, 1, 1, 1, 2, 3, 4, 64, 254]
 TTLS = [1, 2, 3, 3, 4, 64, 255]
 GROUPS = ["239.1.2.3", "239.1.2.4", "232.0.0.9"]
@@ -15,6 +16,11 @@ CACHE_HEADER = "Group    Origin   Iif     Pkts    Bytes    Wrong Oifs\n"
 
 def number_of(address):
     return struct.unpack(">I", bytes(map(int, address.split("."))))[0]
+
+
+def plain(device):
+    """A device as the kernel has it."""
+    return device.replace('\\"', '"').replace("\\\\", "\\")
 
 
 def report_of(records):
@@ -136,7 +142,7 @@ class Made:
 
     def vif_text_of(self, router):
         return VIF_HEADER + "".join(
-            f"{number:2} {device.replace(chr(92) * 2, chr(92)):<10} {1:8} {1:7}  {1:8} {1:7} {flags:05X} 00000000 00000000\n"
+            f"{number:2} {plain(device):<10} {1:8} {1:7}  {1:8} {1:7} {flags:05X} 00000000 00000000\n"
             for number, (device, flags) in self.vifs[router].items())
 
     def reports_of(self):

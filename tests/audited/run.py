@@ -4,81 +4,128 @@
   python3 tests/audited/run.py PROGRAM [COUNT [FIRST]]
 
 The domains are those of examples/faults, and those of random_domains.py with the numbers from FIRST (0) on, COUNT (400)
-of them. answers.py works the answers out from their definitions, and the program has to write the same bytes and end
-with the same status, with each of some words. For the examples, whose answers stand beside their folders and were read
-line by line against the tables, answers.py has to give these, as text and as JSON. Each kind of finding has to come,
-and each kind of line that explains one, or the domains would show too little. The last line counts the domains:
-`N passed, M failed`. The status is 0 if none failed and one was run.
+of them. answers.py works the answers out from their definitions, and the program has to write the same bytes, as text
+and as JSON, and end with the same status. An example is tried with all of WORDS and with its own, a random domain with
+TRIED of WORDS, beginning at its number, so that each set comes for half of them. For the examples, whose answers
+stand beside their folders and were read line by line against the tables, answers.py has to give these. Each kind of
+finding has to come, each kind of line that explains one, and each line behind the flows, or the domains would show too
+little. The last line counts the domains: `N passed, M failed`. The status is 0 if none failed and one was run.
 """
 import os
 import subprocess
 import sys
 import tempfile
+import tomllib
 from concurrent.futures import ThreadPoolExecutor
 
 sys.dont_write_bytecode = True
 import answers
+import faults
 import random_domains
 
-FAULTS = os.path.join(os.path.dirname(os.path.abspath(__file__)), "..", "..", "examples", "faults")
 SECONDS = 60
 COUNT = 400
-WORDS = ([], ["--travel"], ["--faults", "--strict"])
+# Sets of words: A and B stand for two of the domain's routers, and B is left out where there is one alone.
+WORDS = (
+    "", "--travel", "--faults --strict", "--unlisted",
+    "--json", "--json --travel", "--json --faults --unlisted --strict",
+    "--without=A", "--strict --without A --faults", "--without B --travel --without=A --unlisted",
+    "--json --without=A", "--without=B --without A --travel --json",
+)
+TRIED = 6
 FINDINGS = {"Duplicate", "Loop", "Stray", "Missed"}
 LINES = {
     "sent_onto", "circle", "take_out", "on_no_lan", "register_vif", "tunnel", "no_device", "no_vif_line",
-    "only_every_source", "least_ttl", "stopped_at", "gets_as_far_as", "not_taken", "no_row", "unresolved", "every_source",
-    "from_no_lan", "from_register", "from_tunnel", "from_no_device", "from_no_vif_line", "does_not_send", "stopped",
-    "waits_for", "no_vif", "not_multicast", "expected_from_here", "no_router", "no_sender",
+    "only_every_source", "least_ttl", "stopped_at", "gets_as_far_as", "not_taken", "left_out", "no_row", "unresolved",
+    "every_source", "from_no_lan", "from_register", "from_tunnel", "from_no_device", "from_no_vif_line", "does_not_send",
+    "stopped", "waits_for", "no_vif", "not_multicast", "expected_from_here", "no_router", "no_sender",
 }
+BEHIND = {"unlisted", "further rows", "without", "strict"}
 
 
 def kinds_of(audit):
-    """The findings in a domain, and the kinds of lines that explain them."""
+    """The findings in a domain, the kinds of lines that explain them, and the lines behind the flows."""
     kinds = {answer.travel.finding[0] for answer in audit.answers}
-    return kinds | {line["kind"] for answer in audit.answers if not answer.is_right for line in answer.why}
+    kinds |= {line["kind"] for answer in audit.answers if not answer.is_right for line in answer.why}
+    behind = (audit.unlisted, audit.further, audit.left_out, audit.is_strict)
+    return kinds | {name for name, is_there in zip(("unlisted", "further rows", "without", "strict"), behind) if is_there}
 
 
-def try_words(program, name, folder, words):
-    """Returns what is wrong with the program's answer of a folder with these words, or nothing, and what it shows."""
-    wanted = answers.audit([folder, *words])
-    run = subprocess.run([program, "audit", folder, *words], capture_output=True, timeout=SECONDS, check=False)
+def try_words(program, name, words):
+    """Returns what is wrong with the program's answer of these words, or nothing, and what it shows."""
+    wanted = answers.audit(words)
+    run = subprocess.run([program, "audit", *words], capture_output=True, timeout=SECONDS, check=False)
     said = run.stdout.decode("latin-1")
     expected = wanted.output()
     if said == expected and run.returncode == wanted.status and not run.stderr:
         return None, kinds_of(wanted)
-    return (f"{name} {' '.join(words)}: wanted status {wanted.status}\n{expected}said status {run.returncode}\n{said}"
+    return (f"{name}: {' '.join(words)}: wanted status {wanted.status}\n{expected}said status {run.returncode}\n{said}"
             + run.stderr.decode("latin-1"), kinds_of(wanted))
 
 
-def try_folder(program, name, folder):
+def routers_of(folder):
+    with open(os.path.join(folder, "topology"), "rb") as file:
+        return [router["name"] for router in tomllib.load(file).get("router", [])]
+
+
+def words_of(text, routers, number):
+    """A set's words for a domain with these routers and this number."""
+    named = {letter: routers[(number + place) % len(routers)] for place, letter in enumerate("AB")} if routers else {}
+    words = []
+    for word in text.replace("--without ", "--without_").split():
+        option, sign, router = word[:9], word[9:10], word[10:]
+        if option != "--without":
+            words.append(word)
+        elif router != "B" or len(routers) > 1:
+            router = named.get(router, router)
+            words += [f"--without={router}"] if sign == "=" else ["--without", router]
+    return words
+
+
+def sets_of_example(own):
+    """The sets of words for an example that needs these. Where it leaves out a router, whose files may be missing, these
+    stand before each set that leaves out no other."""
+    if "--without" in own:
+        return [f"{own} {text}" for text in WORDS if "--without" not in text]
+    return list(dict.fromkeys([*WORDS, own, f"{own} --json".strip()]))
+
+
+def try_folder(program, name, folder, sets, number):
     """Returns what is wrong with the program's answers of a folder, or nothing, and what is found in its domain."""
-    tried = [try_words(program, name, folder, words) for words in WORDS]
-    return "".join(wrong for wrong, _ in tried if wrong) or None, tried[0][1]
+    routers, wrong, kinds = routers_of(folder), [], set()
+    for place, text in enumerate(sets):
+        words = words_of(text, routers, number)
+        # the folder stands before the options and behind them
+        words = [folder, *words] if (number + place) % 2 else [*words, folder]
+        said, found = try_words(program, name, words)
+        wrong += [said] if said else []
+        kinds |= found
+    return "".join(wrong) or None, kinds
 
 
 def try_random(program, number):
     with tempfile.TemporaryDirectory(prefix="mcaudit-audited-") as folder:
         random_domains.Made(number).write(folder)
-        return try_folder(program, f"domain {number}", folder)
+        sets = [WORDS[(number + place) % len(WORDS)] for place in range(TRIED)]
+        return try_folder(program, f"domain {number}", folder, sets, number // len(WORDS))
 
 
 def try_example(program, name):
-    folder = os.path.join(FAULTS, name)
-    for ending, words in (("txt", []), ("json", ["--json"])):
+    folder, own = os.path.join(faults.FOLDER, name), faults.WORDS.get(name, "")
+    for ending in ("txt", "json"):
         with open(f"{folder}.{ending}", encoding="latin-1") as file:
             stands = file.read()
-        worked_out = answers.audit([folder, *words]).output()
+        worked_out = faults.answer_of(name, ending)
         if worked_out != stands:
             return f"{name}.{ending}: stands\n{stands}answers.py\n{worked_out}", set()
-    return try_folder(program, name, folder)
+    return try_folder(program, name, folder, sets_of_example(own), 0)
 
 
 def main():
     program = os.path.abspath(sys.argv[1])
     count = int(sys.argv[2]) if len(sys.argv) > 2 else COUNT
     first = int(sys.argv[3]) if len(sys.argv) > 3 else 0
-    examples = sorted(name for name in os.listdir(FAULTS) if os.path.isdir(os.path.join(FAULTS, name)))
+    examples = sorted(name for name in os.listdir(faults.FOLDER) if os.path.isdir(os.path.join(faults.FOLDER, name)))
     failed, kinds = 0, set()
     with ThreadPoolExecutor(os.cpu_count()) as pool:
         tried = [pool.submit(try_example, program, name) for name in examples]
@@ -88,9 +135,9 @@ def main():
             if wrong:
                 failed += 1
                 print(wrong)
-    if not FINDINGS | LINES <= kinds:
+    if not FINDINGS | LINES | BEHIND <= kinds:
         failed += 1
-        print(f"no domain shows {', '.join(sorted((FINDINGS | LINES) - kinds))}")
+        print(f"no domain shows {', '.join(sorted((FINDINGS | LINES | BEHIND) - kinds))}")
     print(f"{len(tried) - failed} passed, {failed} failed")
     return 1 if failed or not examples else 0
 

@@ -3,10 +3,11 @@
 
   /usr/bin/python3 tests/audited/schema.py [COUNT]
 
-Each line has to be valid that stands in examples/faults/*.json, or that answers.py works out of the first COUNT (80)
-domains of random_domains.py, with travels and with a router left out. And each line of the examples has to be refused
-without one of its keys, whichever, and with one more. The last line counts: `N passed, M failed`. The status is 0 if none
-failed and one was looked at.
+Each line has to be valid that stands in examples/faults/*.json or in the answers of tests/cli/cases, or that answers.py
+works out of the first COUNT (60) domains of random_domains.py, with each set of words of run.py that has `--json`. The
+program isn't run here: run.py holds it to the same bytes as answers.py, of the same domains, so what is valid here is
+valid there. And each line of the examples has to be refused without one of its keys, whichever, and with one more. The
+last line counts: `N passed, M failed`. The status is 0 if none failed and one was looked at.
 """
 import copy
 import glob
@@ -20,9 +21,10 @@ from jsonschema import Draft202012Validator
 sys.dont_write_bytecode = True
 import answers
 import random_domains
+import run
 
 TOP = os.path.join(os.path.dirname(os.path.abspath(__file__)), "..", "..")
-COUNT = 80
+COUNT = 60
 
 
 def places_of(value, path=()):
@@ -80,15 +82,25 @@ def look_at_examples(check):
                         check.look_at(f"{name} {how}", other, False)
 
 
+def look_at_cases(check):
+    for path in sorted(glob.glob(f"{TOP}/tests/cli/cases/audit_*/stdout")):
+        with open(path, encoding="utf-8") as file:
+            lines = file.read().splitlines()
+        if lines and lines[0].startswith("{"):
+            for text in lines:
+                check.look_at(path, json.loads(text), True)
+
+
 def main():
     check = Check()
     look_at_examples(check)
+    look_at_cases(check)
     for number in range(int(sys.argv[1]) if len(sys.argv) > 1 else COUNT):
         with tempfile.TemporaryDirectory(prefix="mcaudit-schema-") as folder:
             random_domains.Made(number).write(folder)
-            for words in (["--json", "--travel"], ["--json", "--without", "r1"]):
-                for text in answers.audit([folder, *words]).output().splitlines():
-                    check.look_at(f"domain {number}", json.loads(text), True)
+            for words in filter(lambda it: "--json" in it, run.WORDS):
+                for text in answers.audit([folder, *run.words_of(words, run.routers_of(folder), number)]).output().splitlines():
+                    check.look_at(f"domain {number} {words}", json.loads(text), True)
     print(f"{check.passed} passed, {check.failed} failed")
     return 1 if check.failed or not check.passed else 0
 

@@ -33,7 +33,7 @@ small() {
 }
 
 specs=$(echo crates/*/specs) proofs=$(echo crates/*/proofs)
-# the code of the rooms, without what only tests them; the keys of a certificate are words of JSON
+# the code of the rooms, without what only tests them; the keys of a certificate and of an audit's answers are words of JSON
 sources=$(ls -d crates/*/src | grep -v /mc_tests_)
 head='^(abbrev |unfoldable )?(pub )?'
 
@@ -47,8 +47,8 @@ rule 'a count of failures by its own cases' 2 "$(lines "${head}failed_[a-z_]* :"
 
 # --- the parts of a domain ---
 # (one more is how a vif is told that has no device)
-rule 'the kind of a part in code ("vif")' 2 "$(lines '"vif[/"-]' $(echo $sources | tr " " "\n" | grep -v mc_cert))"
-rule 'the kind of a part in definitions (codes "vif")' 2 "$(lines 'codes "vif[/"-]' $(ls -d crates/*/specs | grep -v mc_cert))"
+rule 'the kind of a part in code ("vif")' 2 "$(lines '"vif[/"-]' $(echo $sources | tr " " "\n" | grep -v -e mc_cert -e mc_json))"
+rule 'the kind of a part in definitions (codes "vif")' 2 "$(lines 'codes "vif[/"-]' $(ls -d crates/*/specs | grep -v -e mc_cert -e mc_json))"
 rule 'the most bytes of a part (MAX_PART)' 1 "$(lines 'const MAX_PART:' $sources)"
 rule 'a file taken as a part (FilePart)' 1 "$(lines 'struct FilePart' $sources)"
 

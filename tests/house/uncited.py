@@ -61,7 +61,7 @@ def chunks_of(text):
             continue
         line = line.strip()
         named = SIGNATURE.match(line)
-        if line.startswith("module "):
+        if line.startswith("module ") or line == "mutual":
             chunks.append((None, [line]))
             level.append(indent + 2)
         elif named:

@@ -168,6 +168,7 @@ def runs_of(program):
     bundle, faulty, reports = map(text_of, ("examples/network.bundle", "examples/second-router.bundle", "examples/reports"))
     made = text_of("examples/steps/pack-certified.stdout")  # its certificate is as `make` writes it
     folders = f"{TOP}/examples/network", f"{TOP}/examples/second-router"
+    unlisted = f"{TOP}/examples/faults/a-flow-that-is-not-listed"
     plain, other = (subprocess.run([program, "pack", it], stdout=subprocess.PIPE, check=True).stdout for it in folders)
     return [
         (["check"], bundle, None, ALL_STOPS),
@@ -183,6 +184,11 @@ def runs_of(program):
         (["wants", "239.1.2.3", "10.0.0.5"], b""),
         (["audit", folders[0]], None),
         (["audit", folders[1], "--travel"], None),
+        (["audit", folders[1], "--travel", "--json"], None),
+        (["audit", unlisted, "--unlisted", "--json"], None),
+        (["audit", unlisted, "--without=r2", "--unlisted"], None),
+        (["audit", folders[0], "--without", "r2", "--json"], None),
+        (["audit", folders[0], "--without", "r3"], None),
         (["pack", folders[0], "--certificate"], None),
         (["replay", "0", "3"], None),
         (["--help"], None),

@@ -2,32 +2,39 @@
 # Runs the tools on the cases beside this script, and compares what they do with what the case's folder
 # says: those in shell by dash with each awk that is installed, by bash, and by busybox sh with busybox's
 # own commands; those in Python by the system's python3 and by the one on the path. It needs no network:
-# the folder commands/ has what stands for the ways to a router. The words of the file completion are
-# completed by mcaudit.bash, all tools are to tell one version, and shellcheck reads all shell of the
-# tools and of their cases. What it needs that is not there is named, and is a failure.
+# the folder commands/ has what stands for the ways to a router. The cases of monitor/ and diff/ run the
+# program, crates/mcaudit/out/mcaudit or what PROGRAM names. The words of the file completion are
+# completed by mcaudit.bash, all tools are to tell one version and to be installed, and shellcheck reads
+# all shell of the tools and of their cases. page.py looks at the pages that mcaudit-page makes. What it
+# needs that is not there is named, and is a failure; but promtool reads the files for Prometheus, and
+# systemd-analyze the units, only where they are.
 # Usage: run.sh [CASE ...], as collect/unreachable
 #
 # A case has, beside its note:
 #   args       the tool's words, one a line
 #   place/     files that lie where the tool runs: the stand-ins of commands/ say which they heed
 #   links      links that lie there, lines `name target`
+#   times      when files there were written, lines `name YYYYMMDDhhmm`
 #   stdout     standard output (without it: empty); or stdout.has, of which it has each line's text
 #   stderr     standard error (without it: empty); or stderr.has
 #   status     the exit status (without it: 0)
 #   output     where standard output goes: /dev/full, or `closed`
 #   limit      how many blocks of 512 bytes a file may have: as a disk with a quota
+#   umask      the rights that new files don't get (without it: as they are)
 #   term       files: when each has something in it, the tool gets a TERM
-#   left/      files that lie there afterwards
+#   left/      files that lie there afterwards, with TIME for each time
 #   gone       the names of what is not there afterwards
+#   path       where commands are looked for: none of the stand-ins is found then
 #   disk.size  how much the folder disk/ takes: a disk of its own, with disk.filled KB of other things;
 #              it needs the right to mount
 #   routers/   the recorded texts of each router, a folder each
-# A case of collect/ may have, too:
+# A case of collect/ or monitor/ may have, too:
 #   before/    the files of the set that the link `site` leads to before (without it: no site); or
 #   plain/     those of the plain folder `site`
 #   after/     those of the new set that `site` leads to afterwards (without it: `site` is as before)
+#   sets       how many sets there are afterwards, where it isn't one for before/ and one for after/
 #   ssh.words  the words that ssh was called with, a line a call, sorted
-# Its outputs are compared line by line, in any order, with TIME for each time.
+# The outputs of collect/ are compared line by line, in any order, with TIME for each time.
 # A case of another tool may have:
 #   stdin      the recorded text; or place/tcpdump.text, with what tcpdump says when it ends in
 #              place/tcpdump.said, for the words that call tcpdump
@@ -50,6 +57,9 @@ runs=0
 parts=6
 applets='cp date grep ln ls mkdir mkfifo mktemp mv od readlink rm rmdir sed setsid sh sleep sync tail timeout tr wc'
 wanted_cases=$*
+PROGRAM=${PROGRAM:-$tools/../crates/mcaudit/out/mcaudit}
+TOOLS=$tools
+export PROGRAM TOOLS
 
 # Sets $expected to the file, or to an empty one where it isn't there.
 expect() {
@@ -59,7 +69,8 @@ expect() {
 
 without_times() {
     sed -e 's/[0-9]\{8\}T[0-9]\{6\}Z/TIME/g' -e 's/"[-0-9]\{10\}T[:0-9]\{8\}Z"/"TIME"/g' \
-        -e 's/[0-9][0-9.]* \(packets\|bit\|kbit\|Mbit\)\/s/N \1\/s/g' "$@"
+        -e 's/[0-9][0-9.]* \(packets\|bit\|kbit\|Mbit\)\/s/N \1\/s/g' \
+        -e 's/^\(mcaudit_[a-z_]*_seconds.* \)[0-9]*$/\1TIME/' -e 's/\("last_[a-z]*": \)[0-9][0-9]*/\1TIME/g' "$@"
 }
 
 # Compares an output, stdout or stderr, with what the case's folder $1 says.
@@ -112,14 +123,22 @@ judge_site() {
         echo "there is a $site"
         return 1
     fi
-    [ ! -d "$1/before" ] || diff -r "$1/before" "$site.sets/$first" || return 1
+    if [ -d "$1/before" ] && ! grep -qsx "site.sets/$first" "$1/gone"; then
+        diff -r "$1/before" "$site.sets/$first" || return 1
+    fi
     wanted_sets=0
     for folder in after before; do
         [ ! -d "$1/$folder" ] || wanted_sets=$((wanted_sets + 1))
     done
-    [ ! -d "$1/plain" ] || [ ! -f "$1/sets" ] || read -r wanted_sets < "$1/sets"
+    [ ! -f "$1/sets" ] || read -r wanted_sets < "$1/sets"
     find "$site.sets" -mindepth 1 -maxdepth 1 > sets 2> /dev/null
     [ "$(wc -l < sets)" -eq "$wanted_sets" ] || { echo "not $wanted_sets sets:"; cat sets; return 1; }
+}
+
+# Sees that all may read the file for Prometheus, and that promtool, where it is, takes it.
+judge_metrics() {
+    [ -n "$(find mcaudit.prom -perm 644)" ] || { ls -l mcaudit.prom; return 1; }
+    ! command -v promtool > /dev/null || promtool check metrics < mcaudit.prom
 }
 
 # Compares what the tool left with what the case's folder says.
@@ -133,7 +152,9 @@ judge() {
         sort ssh.words | diff "$1/ssh.words" - || return 1
     fi
     for file in "$1"/left/*; do
-        [ ! -f "$file" ] || diff "$file" "${file##*/}" || return 1
+        [ -f "$file" ] || continue
+        without_times "${file##*/}" > left.told
+        diff "$file" left.told || return 1
     done
     expect "$1/gone"
     while read -r name; do
@@ -144,8 +165,13 @@ judge() {
             ! is_alive "$process" || { echo "a command lives on"; kill "$process"; return 1; }
         done < pids
     fi
+    if [ -f mcaudit.prom ] && ! judge_metrics; then return 1; fi
+    if [ -f "$site.lock" ] && ! flock -n "$site.lock" true; then
+        echo "$site.lock is held"
+        return 1
+    fi
     case $1 in
-        */collect/*) judge_site "$1" ;;
+        "$here"/collect/* | "$here"/monitor/*) judge_site "$1" ;;
         */draft/* | */site/*) [ ! -d "$1/after" ] || same_folder "$1/after" disk/site/ ;;
         *) [ ! -d "$1/after" ] || diff -r "$1/after" disk ;;
     esac
@@ -177,10 +203,14 @@ prepare() {
     if [ -d "$1/plain" ]; then
         cp -R "$1/plain" "$site"
     elif [ -d "$1/before" ]; then
-        mkdir "$site.sets"
+        mkdir -p "$site.sets"
         cp -R "$1/before" "$site.sets/$first"
         ln -s "site.sets/$first" "$site"
     fi
+    expect "$1/times"
+    while read -r name written; do
+        touch -t "$written" "$name"
+    done < "$expected"
     [ ! -f "$1/disk.size" ] || dd if=/dev/zero of=disk/filler bs=1k count="$(cat "$1/disk.filled")" 2> dd.said
     return 0
 }
@@ -193,6 +223,7 @@ run_tool() {
         trap '' XFSZ
         ulimit -f "$(cat "$folder/limit")"
     fi
+    [ ! -f "$folder/umask" ] || umask "$(cat "$folder/umask")"
     output=stdout
     [ ! -f "$folder/output" ] || output=$(cat "$folder/output")
     if [ "$output" = closed ]; then
@@ -203,6 +234,7 @@ run_tool() {
     for heeded in awk.* mv.* sleep.* sync.*; do
         [ ! -e "$heeded" ] || PATH=$commands:${PATH#*:}
     done
+    [ ! -f "$folder/path" ] || read -r PATH < "$folder/path"
     ROUTER=routers/here
     export ROUTER
     expect "$folder/stdin"
@@ -333,7 +365,7 @@ begin_python() {
     part=0
     while [ "$part" -lt "$parts" ]; do
         runs=$((runs + 1))
-        run_by "$1" 'draft query site' "$scratch/run$runs" "$awk" > "$scratch/results/$runs" &
+        run_by "$1" 'diff draft monitor page query site' "$scratch/run$runs" "$awk" > "$scratch/results/$runs" &
         part=$((part + 1))
     done
 }
@@ -350,7 +382,7 @@ complete_words() {
 check_shell() {
     cd "$here/../.." || return 1
     # shellcheck disable=SC2046 # names without spaces
-    shellcheck $(grep -lE '^#!/bin/(ba)?sh' tools/* tests/tools/*.sh tests/tools/commands/* tests/lab/*.sh \
+    shellcheck $(grep -slE '^#!/bin/(ba)?sh' tools/* tests/tools/*.sh tests/tools/commands/* tests/lab/*.sh \
         tests/*.sh) tools/mcaudit.bash
 }
 
@@ -373,6 +405,22 @@ want_package() {
     cat wanting/said
     grep -qx 'the gate needs these packages, which are not there: no-such-package' wanting/said &&
         sh wanting/tests/packages.sh lab
+}
+
+# Installs all, with another file in the program's place: each tool is there, and systemd, where it is, takes the
+# units and their user.
+install_all() {
+    place=$PWD/installed
+    make -s -C "$here/../.." install PROGRAM="$here/commands/mcaudit" SOURCES= PREFIX="$place" || return 1
+    for tool in "$tools"/mcaudit-*; do
+        [ -x "$place/bin/${tool##*/}" ] || { echo "${tool##*/} is not installed"; return 1; }
+    done
+    [ -n "$systemd" ] || return 0
+    systemd-analyze verify --man=no "$place"/lib/systemd/system/* || return 1
+    if [ "$(id -u)" -eq 0 ]; then
+        mkdir "$place/etc" && systemd-sysusers --root="$place" - < "$place/lib/sysusers.d/mcaudit.conf" || return 1
+        grep '^mcaudit:.*:/var/lib/mcaudit:/usr/sbin/nologin$' "$place/etc/passwd"
+    fi
 }
 
 # Runs the further words as a case of this name, which needs the command $2.
@@ -404,15 +452,21 @@ path=$(command -v busybox) && begin "$path sh" "$awk"
 for path in /usr/bin/python3 python3; do
     path=$("$path" -c 'import sys; print(sys.executable)') && begin_python "$path"
 done
+systemd=$(command -v systemd-analyze)
 if [ -z "$wanted_cases" ]; then
+    run_apart install make install_all
     run_apart completion bash complete_words
     run_apart versions python3 compare_versions
     run_apart packages sh want_package
     run_apart shellcheck shellcheck check_shell
+    run_apart pages dot "$python" "$here/page.py"
 fi
 for other in dash bash busybox mawk gawk original-awk python3; do
     command -v "$other" > /dev/null || echo "failed: $other, which is not there" > "$scratch/results/$other"
 done
+command -v promtool > /dev/null || echo 'not tried: promtool, which is not there (sh tests/packages.sh monitor)'
+[ -n "$systemd" ] || echo 'not tried: the units of systemd, which is not there'
+[ -x "$PROGRAM" ] || echo 'failed: mcaudit, which is not built' > "$scratch/results/program"
 wait
 cat "$scratch"/results/* 2> /dev/null | grep -v '^passed$'
 passed=$(cat "$scratch"/results/* 2> /dev/null | grep -c '^passed$')

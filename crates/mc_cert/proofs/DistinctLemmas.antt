@@ -178,7 +178,7 @@ tree_with trees es n lt = by (is_some (place_in trees es)) where
   by true = refl
   by false = tree_past trees (es ∷ []) n lt
 
-with_one : (trees : List Tree) (es : Tree) → length (with_tree trees es) ≤ length trees + 1
+pub with_one : (trees : List Tree) (es : Tree) → length (with_tree trees es) ≤ length trees + 1
 with_one trees es = by (is_some (place_in trees es)) where
   by : (b : Bool) → length (cond b trees (trees ++ es ∷ [])) ≤ length trees + 1
   by true = omega arith

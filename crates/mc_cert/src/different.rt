@@ -13,14 +13,14 @@ use std::rc::Rc;
 /// is the list of these trees. Trees are made of names that a network chooses, so they are found by
 /// their order and not by a hash.
 #[derive(Debug, Drop)]
-pub(crate) struct Different {
+pub struct DifferentTrees {
     alloc: Global,
     trees: Vec<Rc<Vec<Reached>>>,
     /// The number of each tree among these, counted from 0.
     numbers: BTreeMap<Rc<Vec<Reached>>, u32>,
 }
 
-impl Model for Different {
+impl Model for DifferentTrees {
     ghost use Rattle.std.specs.Prelude.{List, map};
     ghost use Rattle.mc_cert.specs.Certificate.{Tree};
     ghost use Rattle.mc_cert.specs.Trees.{AreNumbered};
@@ -33,12 +33,12 @@ impl Model for Different {
         d.numbers (map (λ t. t.value.items) d.trees.items) };
 }
 
-impl Different {
+impl DifferentTrees {
     /// No trees.
-    pub(crate) fn new(alloc: Global) -> Different
+    pub fn new(alloc: Global) -> DifferentTrees
         ensures { result ≡ [] }
     {
-        Different {
+        DifferentTrees {
             alloc,
             trees: Vec::new(alloc),
             numbers: BTreeMap::new(alloc),
@@ -46,14 +46,18 @@ impl Different {
     }
 
     /// The trees.
-    pub(crate) fn trees(&self) -> &[Rc<Vec<Reached>>]
+    pub fn trees(&self) -> &[Rc<Vec<Reached>>]
         ensures { map (λ t. t.value.items) result.now ≡ self.now }
     {
         &self.trees
     }
 
     /// The number of a tree, which is put behind the others if it is none of them.
-    pub(crate) fn number_of(&mut self, tree: Vec<Reached>) -> Result<u32, AllocError>
+    ///
+    /// # Errors
+    ///
+    /// `AllocError` where a growth was refused. The trees are then as they were.
+    pub fn number_of(&mut self, tree: Vec<Reached>) -> Result<u32, AllocError>
         requires { length self.old < 4096 }
         ensures trees { OnOk result (self.new ≡ with_tree self.old tree.items) }
         ensures number { IfOk result (λ n. place_in self.new tree.items ≡ Some n) }

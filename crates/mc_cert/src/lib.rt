@@ -20,6 +20,7 @@ mod version_two;
 mod written;
 
 pub use certificate::Certificate;
+pub use different::DifferentTrees;
 pub use fault::{At, CertFault, CertFaultKind};
 pub use laws::{
     a_line_feed_changes_nothing, certificates_are_read_as_they_stand,

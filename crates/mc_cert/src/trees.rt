@@ -6,7 +6,7 @@ ghost use Rattle.mc_cert.specs.Certificate.{BelongsTo, IsList};
 ghost use Rattle.mc_cert.specs.CertificateText.{certificate_text};
 ghost use Rattle.mc_cert.specs.Stands.{CertificateStands};
 
-use crate::different::Different;
+use crate::different::DifferentTrees;
 use crate::reached::Reached;
 use crate::written::{push_flows, push_trees, room_for};
 use mc_text::Memory;
@@ -18,7 +18,7 @@ use std::marker::Model;
 /// A tree that many flows share is kept once.
 #[derive(Debug, Drop)]
 pub struct Trees {
-    different: Different,
+    different: DifferentTrees,
     /// For each flow the number of its tree among these.
     numbers: Vec<u32>,
 }
@@ -41,7 +41,7 @@ impl Trees {
         ensures { result ≡ [] }
     {
         Trees {
-            different: Different::new(alloc),
+            different: DifferentTrees::new(alloc),
             numbers: Vec::new(alloc),
         }
     }

@@ -9,8 +9,10 @@ mod FilesStand
 pub mod OneDomain
 mod InTurnLemmas
 mod KeptLemmas
+mod LeftOutLemmas
 mod MeansLemmas
 mod NotesLemmas
+mod NothingLemmas
 mod OneInput
 mod ReadLemmas
 mod ReadingLemmas

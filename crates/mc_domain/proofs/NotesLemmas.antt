@@ -1,6 +1,6 @@
 -- What is noted of the caches in a folder's files.
 use Rattle.std.specs.Prelude.{◌≡◌, ℕ, ◌∷◌, Bool, List, [], Option, Some, None, Result, Ok, Err, refl}
-use Rattle.std.specs.Prelude.{◌++◌, filter, length, map as map_list, not, option_map, slice_get, take}
+use Rattle.std.specs.Prelude.{◌++◌, filter, length, map as map_list, not, option_map, slice_get}
 use Rattle.std.proofs.Common.{ap, arith, ◌∙◌, sym, subst}
 use Rattle.std.proofs.lemmas.Option.{slice_get_within}
 use Rattle.std.specs.FinMap as map
@@ -16,7 +16,7 @@ use Rattle.mc_tables.specs.CacheTable.{CacheText, RowText, key_cmp, key_of, tabl
 use Rattle.mc_tables.specs.ListedRows.{IsListedPart, is_kept_key, is_listed, kept_rows}
 use Rattle.mc_tables.specs.NotedReading.{noted_in, table_alone}
 use Rattle.mc_tables.specs.Notes.{NotesText, every_source_entry, group_first, in_order, keys_for_every_source}
-use Rattle.mc_tables.specs.Notes.{notes_of, unresolved_key}
+use Rattle.mc_tables.specs.Notes.{notes_of, shown_pairs, unresolved_key}
 use Rattle.mc_tables.proofs.ListedLemmas.{in_listed}
 use Rattle.mc_tables.proofs.ListedPairLemmas.{same_groups, same_set}
 use Rattle.mc_tables.proofs.ListedPartLemmas.{listed_fault, listed_part}
@@ -61,55 +61,55 @@ kept_alike xs ys same None = refl
 kept_alike xs ys same (Some key) = set_listed xs ys same key
 
 -- the notes by who is listed, and by whose rows for every source are noted
-abbrev notes_by : (listed every : ℕ × ℕ → Bool) → List RowText → NotesText
-notes_by listed every rows =
+abbrev notes_by : (all : Bool) (listed every : ℕ × ℕ → Bool) → List RowText → NotesText
+notes_by all listed every rows =
     let others = filter (λ key. not (listed key)) (filter_map key_of rows) in record {
       unresolved = set.from_list (filter listed (filter_map unresolved_key rows));
       for_every_source = map.from_entries
           (filter (λ exact. every exact.0) (filter_map every_source_entry rows));
       unlisted = length others;
-      lowest = take 20 (in_order (map_list group_first others));
+      lowest = shown_pairs all (in_order (map_list group_first others));
     }
 
 -- and with their notes a cache is read alike
-pub noted_alike : (order : Order) (listed pairs : List (ℕ × ℕ)) (text : List ℕ)
-    → AreSamePairs listed pairs → noted_in order listed text ≡ noted_in order pairs text
-noted_alike order listed pairs text same =
+pub noted_alike : (all : Bool) (order : Order) (listed pairs : List (ℕ × ℕ)) (text : List ℕ)
+    → AreSamePairs listed pairs → noted_in all order listed text ≡ noted_in all order pairs text
+noted_alike all order listed pairs text same =
     let one = same_set listed pairs same in
     let groups = same_groups listed pairs (keys_for_every_source pairs) (keys_for_every_source pairs)
     same refl (λ q. (λ there. there, λ there. there)) in
     let every = set_listed (keys_for_every_source listed) (keys_for_every_source pairs) (sym groups) in
     λ i. cache_rows_in order text >>= λ rows. Ok (record {
       table = table_of (filter (λ (row : RowText). kept_alike listed pairs one (key_of row) i) rows);
-      notes = notes_by (λ key. set_listed listed pairs one key i) (λ key. every key i) rows;
+      notes = notes_by all (λ key. set_listed listed pairs one key i) (λ key. every key i) rows;
     })
 
 -- ---- what is read with notes
 
 -- a cache that is read with notes is read, and as that of which the listed part is kept
-pub noted_part : (order : Order) (pairs : List (ℕ × ℕ)) (text : List ℕ) (noted : NotedCache)
-    → noted_in order pairs text ≡ Ok noted
+pub noted_part : (all : Bool) (order : Order) (pairs : List (ℕ × ℕ)) (text : List ℕ) (noted : NotedCache)
+    → noted_in all order pairs text ≡ Ok noted
     → (whole : CacheText) × (cache_in order text ≡ Ok whole)
     × IsListedPart (Some pairs) noted.table whole
-noted_part order pairs text noted e =
+noted_part all order pairs text noted e =
     listed_part order (Some pairs) text noted.table
-    (same_table order pairs text ∙ ap table_alone e)
+    (same_table all order pairs text ∙ ap table_alone e)
 
 -- its faults are those of the whole,
-pub noted_fault : (order : Order) (pairs : List (ℕ × ℕ)) (text : List ℕ) (fault : TableFault)
-    → noted_in order pairs text ≡ Err fault → cache_in order text ≡ Err fault
-noted_fault order pairs text fault e =
-    (listed_fault order (Some pairs) text fault).0 (same_table order pairs text ∙ ap table_alone e)
+pub noted_fault : (all : Bool) (order : Order) (pairs : List (ℕ × ℕ)) (text : List ℕ) (fault : TableFault)
+    → noted_in all order pairs text ≡ Err fault → cache_in order text ≡ Err fault
+noted_fault all order pairs text fault e =
+    (listed_fault order (Some pairs) text fault).0 (same_table all order pairs text ∙ ap table_alone e)
 
 -- and its notes are those of its rows
-pub rows_noted : (order : Order) (pairs : List (ℕ × ℕ)) (text : List ℕ) (noted : NotedCache)
-    → noted_in order pairs text ≡ Ok noted
+pub rows_noted : (all : Bool) (order : Order) (pairs : List (ℕ × ℕ)) (text : List ℕ) (noted : NotedCache)
+    → noted_in all order pairs text ≡ Ok noted
     → (rows : List RowText) × (cache_rows_in order text ≡ Ok rows)
-    × (noted.notes ≡ notes_of pairs rows)
-rows_noted order pairs text noted e =
+    × (noted.notes ≡ notes_of all pairs rows)
+rows_noted all order pairs text noted e =
     let both : List RowText → NotedCache = λ rows. record {
       table = table_of (kept_rows (Some pairs) rows);
-      notes = notes_of pairs rows;
+      notes = notes_of all pairs rows;
     } in
     let read = bind_ok (cache_rows_in order text) (λ rows. Ok (both rows)) noted e in (
       read.0,
@@ -119,27 +119,27 @@ rows_noted order pairs text noted e =
 
 -- ---- what a file tells
 
-module _ (order : Order) (pairs : List (ℕ × ℕ)) where
+module _ (all : Bool) (order : Order) (pairs : List (ℕ × ℕ)) where
   -- what is told with notes stands in a part that is given
   told_noted : (given : Result PartText SourceFault) (noted : NotedCache)
-      → told_by Input given (noted_of order pairs) ≡ Ok noted
-      → (part : PartText) × (given ≡ Ok part) × (noted_in order pairs part.bytes ≡ Ok noted)
+      → told_by Input given (noted_of all order pairs) ≡ Ok noted
+      → (part : PartText) × (given ≡ Ok part) × (noted_in all order pairs part.bytes ≡ Ok noted)
   told_noted (Ok part) noted e = (
     part,
     refl,
-    refused_ok (Cache part.name) (noted_in order pairs part.bytes) noted
-        (refused_ok Input (noted_of order pairs part) noted e),
+    refused_ok (Cache part.name) (noted_in all order pairs part.bytes) noted
+        (refused_ok Input (noted_of all order pairs part) noted e),
   )
   told_noted (Err fault) noted e = absurd cc
 
   -- and so it is told without them
   told_part : (given : Result PartText SourceFault) (noted : NotedCache)
-      → told_by Input given (noted_of order pairs) ≡ Ok noted
+      → told_by Input given (noted_of all order pairs) ≡ Ok noted
       → (whole : CacheText) × (told_by Input given (cache_of order) ≡ Ok whole)
       × IsListedPart (Some pairs) noted.table whole
   told_part given noted e =
       let told = told_noted given noted e in
-      let whole = noted_part order pairs told.0.bytes noted told.2 in
+      let whole = noted_part all order pairs told.0.bytes noted told.2 in
       (whole.0, read given told.0 whole.0 told.1 whole.1, whole.2)
     where
       read : (given : Result PartText SourceFault) (part : PartText) (w : CacheText) → given ≡ Ok part
@@ -148,20 +148,20 @@ module _ (order : Order) (pairs : List (ℕ × ℕ)) where
 
   -- or is refused for the same
   told_fault : (given : Result PartText SourceFault) (fault : SourceFault)
-      → told_by Input given (noted_of order pairs) ≡ Err fault
+      → told_by Input given (noted_of all order pairs) ≡ Err fault
       → told_by Input given (cache_of order) ≡ Err fault
   told_fault (Err other) fault e = ap (λ f. Err f) (err_is {A = NotedCache} e)
-  told_fault (Ok part) fault e = by (noted_in order pairs part.bytes) refl e
+  told_fault (Ok part) fault e = by (noted_in all order pairs part.bytes) refl e
     where
-      by : (r : Result NotedCache TableFault) → noted_in order pairs part.bytes ≡ r
+      by : (r : Result NotedCache TableFault) → noted_in all order pairs part.bytes ≡ r
           → refused_as Input (refused_as (Cache part.name) r) ≡ Err fault
           → refused_as Input (cache_of order part) ≡ Err fault
       by (Ok noted) is e = absurd cc
-      by (Err own) is e = rw (noted_fault order pairs part.bytes own is)
+      by (Err own) is e = rw (noted_fault all order pairs part.bytes own is)
           (ap (λ f. Err f) (err_is {A = NotedCache} e))
 
   pub kept_alone : (given : Result PartText SourceFault) (r : Result NotedCache SourceFault)
-      → GivesKept (λ kept noted. kept ≡ noted) r (told_by Input given (noted_of order pairs))
+      → GivesKept (λ kept noted. kept ≡ noted) r (told_by Input given (noted_of all order pairs))
       → GivesKept (λ noted whole. IsListedPart (Some pairs) noted.table whole) r
       (told_by Input given (cache_of order))
   kept_alone given (Ok own) (noted, told, is) =
@@ -173,14 +173,15 @@ module _ (order : Order) (pairs : List (ℕ × ℕ)) where
   kept_alone given (Err fault) gives = λ loud. told_fault given fault (gives loud)
 
 -- the notes that are told of a router's file are those of its rows
-pub are_notes : (files : List FileText) (flows : List Flow) (r : RouterRow) (n : ℕ) (own : NotedCache)
+pub are_notes : (all : Bool) (files : List FileText) (flows : List Flow) (r : RouterRow) (n : ℕ)
+    (own : NotedCache)
     → GivesKept (λ kept noted. kept ≡ noted) (Ok own)
-    (told_by Input (part_filed files n (cache_slot r.name)) (noted_of r.order (flow_pairs flows)))
-    → AreNotes files flows r own.notes
-are_notes files flows r n own (noted, told, is) =
+    (told_by Input (part_filed files n (cache_slot r.name)) (noted_of all r.order (flow_pairs flows)))
+    → AreNotes all files flows r own.notes
+are_notes all files flows r n own (noted, told, is) =
     let slot = cache_slot r.name in
-    let part = told_noted r.order (flow_pairs flows) (part_filed files n slot) noted told in
-    let rows = rows_noted r.order (flow_pairs flows) part.0.bytes noted part.2 in
+    let part = told_noted all r.order (flow_pairs flows) (part_filed files n slot) noted told in
+    let rows = rows_noted all r.order (flow_pairs flows) part.0.bytes noted part.2 in
     record {
       part = part.0;
       rows = rows.0;
@@ -195,32 +196,32 @@ pub of_router : (r : RouterRow) (name : List ℕ) (order : Order) → r.name ≡
 of_router r name order named ordered = λ i. record { name = sym named i; order = sym ordered i }
 
 -- the notes of one router more
-pub notes_more : (files : List FileText) (t : TopologyValue) (notes : List NotesText)
+pub notes_more : (all : Bool) (files : List FileText) (t : TopologyValue) (notes : List NotesText)
     (own : NotesText) (k : ℕ) (name : List ℕ) (order : Order) → length notes ≡ k
     → option_map (λ r. r.name) (slice_get t.routers k) ≡ Some name
     → option_map (λ r. r.order) (slice_get t.routers k) ≡ Some order
-    → ((r : RouterRow) → r.name ≡ name → r.order ≡ order → AreNotes files t.flows r own)
-    → EachAt (AreNotes files t.flows) t.routers notes
-    → EachAt (AreNotes files t.flows) t.routers (notes ++ own ∷ [])
-notes_more files t notes own k name order count named ordered are each =
+    → ((r : RouterRow) → r.name ≡ name → r.order ≡ order → AreNotes all files t.flows r own)
+    → EachAt (AreNotes all files t.flows) t.routers notes
+    → EachAt (AreNotes all files t.flows) t.routers (notes ++ own ∷ [])
+notes_more all files t notes own k name order count named ordered are each =
     let r = router-at t.routers k name order named ordered in
-    each-push (AreNotes files t.flows) t.routers notes r.0 own each
+    each-push (AreNotes all files t.flows) t.routers notes r.0 own each
     (subst (λ (n : ℕ). slice_get t.routers n ≡ Some r.0) (sym count) r.1) (are r.0 r.2 r.3)
 
 -- ---- one list of notes at most
 
-same_notes : (files : List FileText) (flows : List Flow) (r : RouterRow) (a b : NotesText)
-    → AreNotes files flows r a → AreNotes files flows r b → a ≡ b
-same_notes files flows r a b one other =
+same_notes : (all : Bool) (files : List FileText) (flows : List Flow) (r : RouterRow) (a b : NotesText)
+    → AreNotes all files flows r a → AreNotes all files flows r b → a ≡ b
+same_notes all files flows r a b one other =
     let part = ok_is {E = FileFault} one.part other.part (sym one.made ∙ other.made) in
     let rows = ok_is {E = TableFault} one.rows other.rows
     (sym one.read ∙ ap (λ (p : PartText). cache_rows_in r.order p.bytes) part ∙ other.read) in
-    one.noted ∙ ap (notes_of (flow_pairs flows)) rows ∙ sym other.noted
+    one.noted ∙ ap (notes_of all (flow_pairs flows)) rows ∙ sym other.noted
 
-pub one_list_of_notes : (files : List FileText) (t : TopologyValue) (a b : List NotesText)
-    → AreNotesOf files t a → AreNotesOf files t b → a ≡ b
-one_list_of_notes files t a b one other =
+pub one_list_of_notes : (all : Bool) (files : List FileText) (t : TopologyValue) (a b : List NotesText)
+    → AreNotesOf all files t a → AreNotesOf all files t b → a ≡ b
+one_list_of_notes all files t a b one other =
     lists_same a b (one.count ∙ sym other.count) (λ k x y at here.
     let within = slice_get_within a k x at in
     let r = some-at t.routers k (omega (arith, within, one.count)) in
-    same_notes files t.flows r.0 x y (one.each k r.0 x r.1 at) (other.each k r.0 y r.1 here))
+    same_notes all files t.flows r.0 x y (one.each k r.0 x r.1 at) (other.each k r.0 y r.1 here))

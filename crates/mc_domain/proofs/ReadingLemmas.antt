@@ -177,12 +177,6 @@ module _ {F : Type 0} (as_ours : InputFault → F) (source : ℕ → Slot → Re
   unfolding contents
   contents_read t ts all tables reports = rw (tables, reports) refl
 
-  pub topology_refused : (judge : TopologyValue → Result (Unit {0}) F) (fault : F)
-      → told_by as_ours (source 0 topology_slot) topology_of ≡ Err fault
-      → reading as_ours source judge ≡ Err fault
-  unfolding reading
-  topology_refused judge fault topology = rw (topology) refl
-
   -- what is judged is read as its contents are
   pub contents_of : (judge : TopologyValue → Result (Unit {0}) F) (t : TopologyValue) (x : Unit {0})
       → told_by as_ours (source 0 topology_slot) topology_of ≡ Ok t → judge t ≡ Ok x

@@ -7,6 +7,7 @@ pub mod PartsReading
 pub mod SourceFault
 pub mod FilesInput
 pub mod FilesReading
+pub mod LeftOut
 pub mod NotesOfFiles
 pub mod Meaning
 pub use Rattle.mc_text.specs.Bundle

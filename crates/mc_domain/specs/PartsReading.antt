@@ -1,7 +1,7 @@
 -- What the parts of a domain are read as, whatever gives them, or the first reason why they are
 -- refused: the topology is judged first, then which parts there are, and then in the order of the
 -- slots what each tells.
-use Rattle.std.specs.Prelude.{ℕ, ◌+◌, ◌*◌, List, [], ◌∷◌, length, Result, Ok}
+use Rattle.std.specs.Prelude.{Bool, ℕ, ◌+◌, ◌*◌, List, [], ◌∷◌, length, Result, Ok}
 use Rattle.std.specs.FinMap.{FinMap}
 use Rattle.std.specs.Ordering.{nat_cmp}
 use Rattle.mc_text.specs.Steps.{◌>>=◌, refused_as}
@@ -39,8 +39,8 @@ abbrev pub cache_of : Order → PartText → Result CacheText InputFault
 cache_of order part = refused_as (Cache part.name) (cache_in order part.bytes)
 
 -- the entries of these sources and groups, and what is noted of all rows for them
-abbrev pub noted_of : Order → List (ℕ × ℕ) → PartText → Result NotedCache InputFault
-noted_of order pairs part = refused_as (Cache part.name) (noted_in order pairs part.bytes)
+abbrev pub noted_of : (all : Bool) → Order → List (ℕ × ℕ) → PartText → Result NotedCache InputFault
+noted_of all order pairs part = refused_as (Cache part.name) (noted_in all order pairs part.bytes)
 
 -- the records of a LAN's reports
 abbrev pub reports_of : PartText → Result (List Record) InputFault

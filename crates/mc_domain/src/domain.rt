@@ -1,7 +1,7 @@
 //! The domain that a bundle or a folder's files mean, put together of what they tell.
 
 ghost use Rattle.std.specs.Prelude.{◌≡◌, ◌<◌, ℕ, Err, IfErr, IfOk, IfSome, List, MatchResult, Option};
-ghost use Rattle.std.specs.Prelude.{Some, is_some, length};
+ghost use Rattle.std.specs.Prelude.{Ok, Some, is_some, length, map};
 ghost use Rattle.mc_text.specs.Bundle.{max_input};
 ghost use Rattle.mc_text.specs.Device.{counted};
 ghost use Rattle.mc_text.specs.PartsToCome.{GoesOn};
@@ -10,13 +10,17 @@ ghost use Rattle.mc_text.specs.Steps.{refused_as};
 ghost use Rattle.mc_forward.specs.Domains.{DomainValue, IsDomain};
 ghost use Rattle.mc_forward.specs.ListedTables.{SaysTheSame};
 ghost use Rattle.mc_layout.specs.Files.{FileText};
-ghost use Rattle.mc_domain.specs.FilesReading.{files_of};
+ghost use Rattle.mc_domain.specs.FilesReading.{files_of, part_filed};
+ghost use Rattle.mc_domain.specs.Input.{InputValue};
 ghost use Rattle.mc_domain.specs.InputReading.{input_of};
 ghost use Rattle.mc_domain.specs.InputView.{text_seen};
 ghost use Rattle.mc_domain.specs.Kept.{IsDomainOf, GivesKeptOf};
+ghost use Rattle.mc_domain.specs.LeftOut.{AreRouters, IsSilentWithout, files_without, is_read_without};
+ghost use Rattle.mc_domain.specs.LeftOut.{left_out_files};
 ghost use Rattle.mc_domain.specs.Meaning.{FilesMeanListed, MeansDomain, MeansFiles, MeansListed};
 ghost use Rattle.mc_domain.specs.NotesOfFiles.{AreNotesOf};
 ghost use Rattle.mc_domain.specs.PartsInTurn.{IsReadOf, Refuses, told_in};
+ghost use Rattle.mc_domain.specs.PartsReading.{contents};
 ghost use Rattle.mc_domain.specs.SourceFault.{IsSilent, is_read};
 ghost use Rattle.mc_domain.specs.declared.source_fault.SourceFault.TheVariants.{Input as refused};
 
@@ -24,11 +28,14 @@ use crate::bundle::contents_in;
 use crate::bundle_part::topology_in;
 use crate::file_part::topology_in as topology_of_files;
 use crate::files::contents_in as contents_of_files;
+use crate::left_out::check_names;
 use crate::source_fault::SourceFault;
+use crate::without_fault::WithoutFault;
 use mc_forward::Domain;
 use mc_layout::PieceSource;
 use mc_tables::CacheNotes;
 use mc_text::{Input, Parts};
+use mc_topology::Topology;
 use std::alloc::Global;
 
 /// How many bytes of a part or a file are read at once.
@@ -152,65 +159,114 @@ pub struct NotedDomain {
     pub notes: Vec<CacheNotes>,
 }
 
-/// The domain that files tell, which but for the topology are read in pieces through the buffer, and
-/// what is noted of the caches.
-fn files_through<F: PieceSource>(
+/// The domain of this topology that the other files tell, which are read in pieces through the buffer,
+/// with some routers left out, and what is noted of the caches.
+fn rest_through<F: PieceSource>(
     alloc: Global,
     files: &mut F,
     buffer: &mut [u8],
+    topology: Topology,
+    without: &[&str],
+    all: bool,
 ) -> Result<NotedDomain, SourceFault>
     requires room { 0 < length buffer.old }
     requires reads { F.failed files.old < u64.MAX }
     ensures same { F.names files.new ≡ F.names files.old }
     ensures kept { F.told files.new ≡ F.told files.old }
-    ensures domain { GivesKeptOf (F.told files.old) (λ read. IsDomainOf read.domain) result files_of }
+    ensures domain { GivesKeptOf (F.told files.old) (λ read. IsDomainOf read.domain) result
+        (λ told. contents refused
+        (part_filed (left_out_files (map (λ n. n.now) without.now) told)) topology) }
+    ensures topology { IfOk result (λ read. read.domain.topology ≡ topology) }
     ensures rules { IfOk result (λ read. IsDomain read.domain) }
-    ensures notes { (told : List FileText) → F.told files.old ≡ Some told →
-        IfOk result (λ read. AreNotesOf told read.domain.topology read.notes.items) }
+    ensures notes { (told : List FileText) → F.told files.old ≡ Some told → IfOk result (λ read.
+        AreNotesOf all (left_out_files (map (λ n. n.now) without.now) told)
+        read.domain.topology read.notes.items) }
     ensures failures { F.failed files.new ≡ counted is_read result (F.failed files.old) }
 {
-    let topology = topology_of_files(alloc, files)?;
-    let listed = contents_of_files(alloc, files, buffer, &topology)?;
+    let listed = contents_of_files(alloc, files, buffer, &topology, without, all)?;
     let notes = listed.notes;
     let domain = Domain::of_wants(alloc, topology, listed.tables, listed.wants)?;
     Ok(NotedDomain { domain, notes })
 }
 
-/// Reads the domain that a folder's files mean: `topology`, `vif-<router>` and `cache-<router>` for
-/// each router, and `igmp-<lan>` for each LAN, each in the order of the topology. Each file may have
-/// 16,777,216 bytes, and is judged before the next one is asked for. Tables and report lists are read
-/// as they come, and of a cache the rows of listed flows are kept, with what is noted of all rows. The
-/// count of the source's failures has to be below `u64::MAX`.
+/// The domain that files tell with some routers left out, and what is noted of the caches.
+fn files_through<F: PieceSource>(
+    alloc: Global,
+    files: &mut F,
+    buffer: &mut [u8],
+    without: &[&str],
+    all: bool,
+) -> Result<NotedDomain, WithoutFault>
+    requires room { 0 < length buffer.old }
+    requires reads { F.failed files.old < u64.MAX }
+    ensures same { F.names files.new ≡ F.names files.old }
+    ensures kept { F.told files.new ≡ F.told files.old }
+    ensures domain { (told : List FileText) → F.told files.old ≡ Some told → IfOk result (λ read.
+        (input : InputValue) × IsDomainOf read.domain input
+        × (files_of (left_out_files (map (λ n. n.now) without.now) told) ≡ Ok input)) }
+    ensures routers { IfOk result (λ read.
+        AreRouters read.domain.topology (map (λ n. n.now) without.now)) }
+    ensures rules { IfOk result (λ read. IsDomain read.domain) }
+    ensures notes { (told : List FileText) → F.told files.old ≡ Some told → IfOk result (λ read.
+        AreNotesOf all (left_out_files (map (λ n. n.now) without.now) told)
+        read.domain.topology read.notes.items) }
+    ensures fault { (told : List FileText) → F.told files.old ≡ Some told → IfErr result (λ fault.
+        ¬ IsSilentWithout fault → files_without (map (λ n. n.now) without.now) told ≡ Err fault) }
+    ensures failures { F.failed files.new ≡ counted is_read_without result (F.failed files.old) }
+{
+    let topology = topology_of_files(alloc, files)?;
+    check_names(&topology, without)?;
+    Ok(rest_through(alloc, files, buffer, topology, without, all)?)
+}
+
+/// Reads the domain that a folder's files mean with the routers of these names left out: `topology`,
+/// `vif-<router>` and `cache-<router>` for each other router, and `igmp-<lan>` for each LAN, each in
+/// the order of the topology. A router that is left out has no vif and no row; its files aren't asked
+/// for. Each file may have 16,777,216 bytes, and is judged before the next one is asked for. Tables
+/// and report lists are read as they come, and of a cache the rows of listed flows are kept, with
+/// what is noted of all rows: of those that no flow has, the sources and groups of all or of the
+/// lowest. The count of the source's failures has to be below `u64::MAX`.
 ///
 /// # Errors
 ///
-/// The first fault in this order: `Read` where a file isn't there or can't be read, `Input` with
-/// `TooLarge` where it has too many bytes, and `Input` with what is wrong in it. Or `Input` with
-/// `Memory` where memory ran out.
-pub fn noted_domain_of<F: PieceSource>(
+/// The first fault in this order, of which the topology's comes first, then that of the first name
+/// that no router has, `NoSuchRouter`, and then those of the other files: `Read` where a file isn't
+/// there or can't be read, `Input` with `TooLarge` where it has too many bytes, and `Input` with what
+/// is wrong in it. Or `Input` with `Memory` where memory ran out.
+pub fn noted_domain_without<F: PieceSource>(
     alloc: Global,
     files: &mut F,
-) -> Result<NotedDomain, SourceFault>
+    without: &[&str],
+    all: bool,
+) -> Result<NotedDomain, WithoutFault>
     requires { F.failed files.old < u64.MAX }
     ensures same { F.names files.new ≡ F.names files.old }
     ensures kept { F.told files.new ≡ F.told files.old }
-    // The files mean a domain, and what was read says the same of each flow.
-    ensures means { IfOk result (λ read.
-        IfSome (F.told files.old) (λ told. FilesMeanListed told read.domain)) }
+    // With the routers left out the files mean a domain, and what was read says the same of each
+    // flow.
+    ensures means { IfOk result (λ read. IfSome (F.told files.old) (λ told.
+        FilesMeanListed (left_out_files (map (λ n. n.now) without.now) told) read.domain)) }
+    // Each name is that of a router.
+    ensures routers { IfOk result (λ read.
+        AreRouters read.domain.topology (map (λ n. n.now) without.now)) }
     ensures rules { IfOk result (λ read. IsDomain read.domain) }
-    // Files that mean a domain are read, and as that, unless the source fails or memory runs out.
+    // Files that mean a domain with the routers left out, of which each is one of its topology, are
+    // read, and as that, unless the source fails or memory runs out.
     ensures only { (told : List FileText) (domain : DomainValue) → F.told files.old ≡ Some told →
-        MeansFiles told domain → MatchResult result (λ read. SaysTheSame domain read.domain)
-        IsSilent }
-    // Each router's notes are of the rows in its own file, for the flows of the topology.
+        MeansFiles (left_out_files (map (λ n. n.now) without.now) told) domain →
+        AreRouters domain.topology (map (λ n. n.now) without.now) → MatchResult result
+        (λ read. SaysTheSame domain read.domain) IsSilentWithout }
+    // Each router's notes are of the rows in its own file, or of none where it is left out, for the
+    // flows of the topology.
     ensures notes { IfOk result (λ read. IfSome (F.told files.old) (λ told.
-        AreNotesOf told read.domain.topology read.notes.items)) }
+        AreNotesOf all (left_out_files (map (λ n. n.now) without.now) told)
+        read.domain.topology read.notes.items)) }
     // Which fault it is, unless the source fails or memory runs out.
     ensures fault { IfErr result (λ fault. IfSome (F.told files.old) (λ told.
-        ¬ IsSilent fault → files_of told ≡ Err fault)) }
+        ¬ IsSilentWithout fault → files_without (map (λ n. n.now) without.now) told ≡ Err fault)) }
     // A file is unread only where the source's failures rose in the call.
-    ensures failures { F.failed files.new ≡ counted is_read result (F.failed files.old) }
+    ensures failures { F.failed files.new ≡ counted is_read_without result (F.failed files.old) }
 {
     let mut buffer = Vec::from_elem(alloc, 0u8, PIECE)?;
-    files_through(alloc, files, &mut buffer)
+    files_through(alloc, files, &mut buffer, without, all)
 }

@@ -7,6 +7,7 @@ ghost use Rattle.mc_topology.specs.Names.{is_name};
 use crate::domain::PIECE;
 use crate::fault::InputFault;
 use crate::file_part::{cache_in, topology_in, vifs_in, wanted_in};
+use crate::left_out::is_left_out;
 use crate::source_fault::SourceFault;
 use crate::told::noted_flows;
 use mc_forward::FlowChannels;
@@ -105,7 +106,7 @@ fn judge_cache<F: PieceSource>(
     if !may_be_asked(files) {
         return Ok(());
     }
-    let fault = cache_in(alloc, files, buffer, listed, router, order).err();
+    let fault = cache_in(alloc, files, buffer, listed, router, order, false).err();
     put(alloc, files, &Slot::cache(router), fault, refused)
 }
 
@@ -128,12 +129,13 @@ fn judge_reports<F: PieceSource>(
     put(alloc, files, &Slot::reports(lan), fault, refused)
 }
 
-/// Judges the tables of all routers.
+/// Judges the tables of all routers but those that are left out.
 fn judge_routers<F: PieceSource>(
     alloc: Global,
     files: &mut F,
     buffer: &mut [u8],
     topology: &Topology,
+    without: &[&str],
     refused: &mut Vec<RefusedFile>,
 ) -> Result<(), Memory>
     requires room { 0 < length buffer.old }
@@ -143,6 +145,9 @@ fn judge_routers<F: PieceSource>(
     };
     for router in 0..topology.routers() {
         let name = topology.router_name(RouterNo(router));
+        if is_left_out(without, name) {
+            continue;
+        }
         let order = topology.order(RouterNo(router));
         judge_vifs(alloc, files, buffer, name, refused)?;
         judge_cache(alloc, files, buffer, &listed, name, order, refused)?;
@@ -169,7 +174,8 @@ fn judge_lans<F: PieceSource>(
 }
 
 /// Judges each file of a folder by itself, in the order of a domain's files, and tells those that are
-/// refused. A topology that is refused is told alone, since it names the others.
+/// refused. A topology that is refused is told alone, since it names the others. The files of routers
+/// with these names are left out, and not asked for.
 ///
 /// # Errors
 ///
@@ -177,6 +183,7 @@ fn judge_lans<F: PieceSource>(
 pub fn refused_files<F: PieceSource>(
     alloc: Global,
     files: &mut F,
+    without: &[&str],
 ) -> Result<Vec<RefusedFile>, Memory> {
     let mut refused = Vec::new(alloc);
     if !may_be_asked(files) {
@@ -185,7 +192,7 @@ pub fn refused_files<F: PieceSource>(
     match topology_in(alloc, files) {
         Ok(topology) => {
             let mut buffer = Vec::from_elem(alloc, 0u8, PIECE)?;
-            judge_routers(alloc, files, &mut buffer, &topology, &mut refused)?;
+            judge_routers(alloc, files, &mut buffer, &topology, without, &mut refused)?;
             judge_lans(alloc, files, &mut buffer, &topology, &mut refused)?;
         }
         Err(fault) => put_fault(alloc, files, &Slot::topology(), fault, &mut refused)?,

@@ -61,7 +61,8 @@ pub(crate) fn vifs_in<F: PieceSource>(
 }
 
 /// The forwarding cache of a router, in the file `cache-<router>`, of which the rows of listed
-/// sources and groups are kept, with what is noted of all rows for those.
+/// sources and groups are kept, with what is noted of all rows for those; and of the others the
+/// sources and groups of all rows or of the lowest.
 pub(crate) fn cache_in<F: PieceSource>(
     alloc: Global,
     files: &mut F,
@@ -69,6 +70,7 @@ pub(crate) fn cache_in<F: PieceSource>(
     listed: &NotedPairs,
     router: &str,
     order: Order,
+    all: bool,
 ) -> Result<NotedCache, SourceFault>
     requires name { IsTrue (is_name router.now) }
     requires room { 0 < length buffer.old }
@@ -77,10 +79,10 @@ pub(crate) fn cache_in<F: PieceSource>(
     ensures kept { F.told files.new ≡ F.told files.old }
     ensures cache { (n : ℕ) (pairs : List (ℕ × ℕ)) → AreSamePairs listed.now pairs →
         GivesKeptOf (F.told files.old) (λ kept noted. kept ≡ noted) result (λ told.
-        told_by Input (part_filed told n (cache_slot router.now)) (told_noted order pairs)) }
+        told_by Input (part_filed told n (cache_slot router.now)) (told_noted all order pairs)) }
     ensures failures { F.failed files.new ≡ counted is_read result (F.failed files.old) }
 {
-    let mut reader = NotedReader::new(alloc, order, listed.clone()?);
+    let mut reader = NotedReader::new(alloc, order, listed.clone()?, all);
     let name = feed_slot(alloc, files, &Slot::cache(router), buffer, &mut reader)?;
     Ok(cache_told(name, reader.finish())?)
 }

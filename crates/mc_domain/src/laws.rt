@@ -1,13 +1,17 @@
 //! What follows from the definitions alone, for whoever builds on them.
 
-ghost use Rattle.std.specs.Prelude.{◌≡◌, ℕ, false, is_some, List, None, Option};
+ghost use Rattle.std.specs.Prelude.{◌≡◌, ℕ, Bool, Contains, false, is_some, List, None, Option, Some};
+ghost use Rattle.std.specs.Prelude.{option_map, slice_get};
 ghost use Rattle.mc_text.specs.Bundle.{PartText, IsBundle};
 ghost use Rattle.mc_tables.specs.Notes.{NotesText};
 ghost use Rattle.mc_topology.specs.Topology.{TopologyValue};
 ghost use Rattle.mc_layout.specs.Files.{FileText};
 ghost use Rattle.mc_layout.specs.Packing.{IsPacked};
+ghost use Rattle.mc_forward.specs.Domains.{DomainValue};
 ghost use Rattle.mc_domain.specs.FilesInput.{FilesStand};
 ghost use Rattle.mc_domain.specs.Input.{InputValue, InputStands};
+ghost use Rattle.mc_domain.specs.LeftOut.{HasNothing, left_out_files};
+ghost use Rattle.mc_domain.specs.Meaning.{FilesMeanListed};
 ghost use Rattle.mc_domain.specs.NotesOfFiles.{AreNotesOf};
 
 /// The text of a bundle stands for one input at most, and one text of a certificate, where each has
@@ -29,8 +33,8 @@ pub fn files_stand_for_one_input()
 
 /// Of one folder's files and one topology one list of notes is told at most.
 pub fn notes_are_determined()
-    ensures { (files : List FileText) (t : TopologyValue) (a b : List NotesText) →
-        AreNotesOf files t a → AreNotesOf files t b → a ≡ b }
+    ensures { (all : Bool) (files : List FileText) (t : TopologyValue) (a b : List NotesText) →
+        AreNotesOf all files t a → AreNotesOf all files t b → a ≡ b }
 {}
 
 /// The bundle that is packed of files without a certificate stands for the input that the files
@@ -39,4 +43,13 @@ pub fn packed_files_stand_for_their_input()
     ensures { (files : List FileText) (parts : List PartText) (text : List ℕ) (v : InputValue)
         → FilesStand files v → IsPacked files false parts → IsBundle text parts
         → InputStands text v None }
+{}
+
+/// Of a domain that is read with routers left out, such a router has nothing: no vif, so that none is
+/// placed, and no row.
+pub fn left_out_routers_have_nothing()
+    ensures { (names : List (List ℕ)) (files : List FileText) (d : DomainValue) (router : ℕ)
+        (name : List ℕ) → FilesMeanListed (left_out_files names files) d → Contains names name
+        → option_map (λ r. r.name) (slice_get d.topology.routers router) ≡ Some name
+        → HasNothing d router }
 {}

@@ -13,16 +13,20 @@ mod fed_part;
 mod file_part;
 mod files;
 mod laws;
+mod left_out;
 mod piece_reader;
 mod slot_part;
 mod source_fault;
 mod told;
+mod without_fault;
 
-pub use domain::{DomainRead, NotedDomain, PIECE, domain_in, noted_domain_of};
+pub use domain::{DomainRead, NotedDomain, PIECE, domain_in, noted_domain_without};
 pub use each_file::{Refusal, RefusedFile, refused_files};
 pub use fault::InputFault;
 pub use laws::{
-    files_stand_for_one_input, notes_are_determined, packed_files_stand_for_their_input,
-    texts_stand_for_one_input,
+    files_stand_for_one_input, left_out_routers_have_nothing, notes_are_determined,
+    packed_files_stand_for_their_input, texts_stand_for_one_input,
 };
+pub use left_out::is_left_out;
 pub use source_fault::SourceFault;
+pub use without_fault::WithoutFault;

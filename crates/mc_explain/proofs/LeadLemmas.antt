@@ -14,13 +14,13 @@ use Rattle.mc_forward.specs.Domains.{DomainValue, IsDomain}
 use Rattle.mc_forward.specs.ListedTables.{DomainFacts, facts}
 use Rattle.mc_forward.proofs.DomainLemmas.{placed-listed}
 use Rattle.mc_explain.specs.declared.searched.Searched.{Searched}
-use Rattle.mc_explain.specs.declared.searched.Searched.TheVariants.{DoesNotSend, NoRow, NoSender}
+use Rattle.mc_explain.specs.declared.searched.Searched.TheVariants.{DoesNotSend, LeftOut, NoRow, NoSender}
 use Rattle.mc_explain.specs.declared.searched.Searched.TheVariants.{Unresolved}
 use Rattle.mc_explain.specs.declared.listed_interface.ListedInterface.{ListedInterface}
 use Rattle.mc_explain.specs.Searched.{Search, carried, device_lines, every_source_from, expected_lines}
-use Rattle.mc_explain.specs.Searched.{held_up, if_missed, is_unresolved, last_lines, lead, lines_by}
-use Rattle.mc_explain.specs.Searched.{lines_of_lan, net, router_lines, routers_on}
-use Rattle.mc_explain.specs.Searched.{row_for_every_source, row_lines, sends_by, sends_here}
+use Rattle.mc_explain.specs.Searched.{held_up, if_missed, is_left_out, is_unresolved, last_lines, lead}
+use Rattle.mc_explain.specs.Searched.{lines_by, lines_of_lan, may_send_here, net, router_lines}
+use Rattle.mc_explain.specs.Searched.{routers_on, row_for_every_source, row_lines, sends_by, table_lines}
 use Rattle.mc_explain.specs.Searched.{taken_lines, vif_line, vif_lines}
 
 -- each vif is placed on a LAN of the domain, or on none
@@ -140,7 +140,22 @@ last-inside : (s : Search) (lan : ℕ) (gs : List (ℕ × List ListedInterface))
     → AllInside s (last_lines s lan gs lines)
 last-inside s lan gs [] = inside-one s _ tt
 last-inside s lan gs (line ∷ lines) =
-    inside-unless s (list_any (sends_here s) gs) (NoSender lan ∷ []) (inside-one s (NoSender lan) tt)
+    inside-unless s (list_any (may_send_here s) gs) (NoSender lan ∷ []) (inside-one s (NoSender lan) tt)
+
+table-inside : (s : Search) (lan : ℕ) (g : ℕ × List ListedInterface) → PlacesInside s
+    → AllInside s (table_lines s lan g)
+table-inside s lan g ok =
+    inside-both s _ _ (row-inside s lan g.0 g.1 ok ((net s).row g.0))
+    (inside-each s (λ (i : ListedInterface). device_lines s lan i i.vif) g.1
+    (λ i. device-inside s lan i i.vif))
+
+router-inside : (s : Search) (lan : ℕ) (g : ℕ × List ListedInterface) → PlacesInside s
+    → AllInside s (router_lines s lan g)
+router-inside s lan g ok = by (is_left_out s.left_out g.0)
+  where
+    by : (b : Bool) → AllInside s (cond b (LeftOut lan g.0 ∷ []) (table_lines s lan g))
+    by true = inside-one s (LeftOut lan g.0) tt
+    by false = table-inside s lan g ok
 
 -- each line of a LAN
 pub lines-inside : (s : Search) (lan : ℕ) → PlacesInside s → AllInside s (lines_of_lan s lan)
@@ -148,9 +163,7 @@ lines-inside s lan ok =
     inside-both s (lines_by s lan (routers_on s lan)) _
     (inside-both s (flat_map (router_lines s lan) (routers_on s lan)) _
     (inside-each s (router_lines s lan) (routers_on s lan)
-    (λ g. inside-both s _ _ (row-inside s lan g.0 g.1 ok ((net s).row g.0))
-    (inside-each s (λ (i : ListedInterface). device_lines s lan i i.vif) g.1
-    (λ i. device-inside s lan i i.vif))))
+    (λ g. router-inside s lan g ok))
     (inside-each s (expected_lines s lan) (routers_on s lan) (λ g. inside-if s _ _ tt)))
     (last-inside s lan (routers_on s lan) (lines_by s lan (routers_on s lan)))
 

@@ -25,5 +25,8 @@ pub mod ShownLemmas
 pub mod UnlistedLemmas
 pub mod MergeLemmas
 pub mod OwnLemmas
+pub mod UnlistedPairLemmas
+pub mod LeftOutLemmas
 pub mod SearchLineLemmas
+pub mod SearchNameLemmas
 pub mod RowLineLemmas

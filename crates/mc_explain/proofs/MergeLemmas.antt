@@ -1,6 +1,6 @@
 -- The lowest of many pairs are found among the lowest of each part.
 use Rattle.std.proofs.Common.{◌≡◌, ℕ, zero, suc, ◌≤◌, Bool, true, false, cond, List, [], ◌∷◌, ◌++◌, take}
-use Rattle.std.proofs.Common.{T, map, flat_map, Some, refl, sym, ap, subst, ◌∙◌, arith}
+use Rattle.std.proofs.Common.{T, map, flat_map, Option, Some, None, refl, sym, ap, subst, ◌∙◌, arith}
 use Rattle.std.proofs.Common.{append-nil, append_assoc}
 use Rattle.std.specs.FinMap as fin
 use Rattle.std.specs.FinMap.Entries.{below_all}
@@ -12,7 +12,7 @@ use Rattle.std.specs.declared.cmp.Ordering.TheVariants.{Less, Equal, Greater}
 use Rattle.std.proofs.lemmas.Bool.{and_parts}
 use Rattle.std.proofs.lemmas.List.{take-take}
 use Rattle.mc_tables.specs.CacheTable.{key_cmp}
-use Rattle.mc_tables.specs.Notes.{in_order}
+use Rattle.mc_tables.specs.Notes.{in_order, shown_pairs}
 use Rattle.mc_tables.specs.NotesSoFar.{put_at, put_pair}
 use Rattle.mc_tables.proofs.CacheLemmas.{key_total}
 use Rattle.mc_tables.proofs.CacheMapLemmas.{key_antisymmetric}
@@ -184,14 +184,40 @@ same-found q ps =
     ap (fin.find key_cmp q) (entries-again (fin.entries m)) ∙ sym (fin.get-entries m q)
     ∙ fin.get-from_entries key_total (as_keys ps) q
 
+abbrev found-or : Option (Unit {0}) → Option (Unit {0}) → Option (Unit {0})
+found-or None other = other
+found-or (Some x) other = Some x
+
+find-both : (q : ℕ × ℕ) (xs ys : List (ℕ × ℕ)) → fin.find key_cmp q (as_keys (xs ++ ys))
+    ≡ found-or (fin.find key_cmp q (as_keys xs)) (fin.find key_cmp q (as_keys ys))
+find-both q [] ys = refl
+find-both q (x ∷ xs) ys =
+    elim (eq_by_cmp key_cmp q x) as (λ b.
+    cond b (Some (tt {0})) (fin.find key_cmp q (as_keys (xs ++ ys)))
+    ≡ found-or (cond b (Some (tt {0})) (fin.find key_cmp q (as_keys xs))) (fin.find key_cmp q (as_keys ys))) [
+      | true ↦ refl
+      | false ↦ find-both q xs ys
+    ]
+
+find-before : (q : ℕ × ℕ) (xs ys zs : List (ℕ × ℕ))
+    → fin.find key_cmp q (as_keys xs) ≡ fin.find key_cmp q (as_keys ys)
+    → fin.find key_cmp q (as_keys (xs ++ zs)) ≡ fin.find key_cmp q (as_keys (ys ++ zs))
+find-before q xs ys zs same = find-both q xs zs ∙ ap (λ (o : Option (Unit {0})).
+    found-or o (fin.find key_cmp q (as_keys zs))) same ∙ sym (find-both q ys zs)
+
+-- lists in which the same are found have the same in order
+same-keys : (xs ys : List (ℕ × ℕ))
+    → ((q : ℕ × ℕ) → fin.find key_cmp q (as_keys xs) ≡ fin.find key_cmp q (as_keys ys))
+    → in_order xs ≡ in_order ys
+same-keys xs ys same =
+    ap fin.keys (fin.same_map key_total key_antisymmetric (fin.from_entries {R = key_cmp} (as_keys xs))
+    (fin.from_entries {R = key_cmp} (as_keys ys)) (λ q.
+    fin.get-from_entries key_total (as_keys xs) q ∙ same q
+    ∙ sym (fin.get-from_entries key_total (as_keys ys) q)))
+
 pub in_order-again : (xs ys : List (ℕ × ℕ)) → in_order (xs ++ in_order ys) ≡ in_order (xs ++ ys)
 in_order-again xs ys =
-    ap fin.keys (fin.same_map key_total key_antisymmetric
-    (fin.from_entries {R = key_cmp} (as_keys (xs ++ in_order ys)))
-    (fin.from_entries {R = key_cmp} (as_keys (xs ++ ys))) (λ q.
-    fin.get-from_entries key_total (as_keys (xs ++ in_order ys)) q
-    ∙ find-behind q xs (in_order ys) ys (same-found q ys)
-    ∙ sym (fin.get-from_entries key_total (as_keys (xs ++ ys)) q)))
+    same-keys (xs ++ in_order ys) (xs ++ ys) (λ q. find-behind q xs (in_order ys) ys (same-found q ys))
 
 -- ---- the lowest of parts
 
@@ -211,7 +237,7 @@ lowest-before xs ys (z ∷ zs) same =
     (lowest_more xs z ∙ ap (λ (l : List (ℕ × ℕ)). take 20 (put_pair z l)) same ∙ sym (lowest_more ys z))
     ∙ ap lowest (append_assoc ys (z ∷ []) zs)
 
-pub lowest-of_parts : {A B : Type 0} (part : B → List (ℕ × ℕ)) (kept : A → List (ℕ × ℕ)) (told : B → A)
+lowest-of_parts : {A B : Type 0} (part : B → List (ℕ × ℕ)) (kept : A → List (ℕ × ℕ)) (told : B → A)
     → ((x : B) → kept (told x) ≡ lowest (part x)) → (qs : List (ℕ × ℕ)) (xs : List B)
     → lowest (qs ++ flat_map kept (map told xs)) ≡ lowest (qs ++ flat_map part xs)
 lowest-of_parts part kept told is qs [] = refl
@@ -221,3 +247,29 @@ lowest-of_parts part kept told is qs (x ∷ xs) =
     ∙ lowest-of_parts part kept told is (qs ++ lowest (part x)) xs
     ∙ lowest-before (qs ++ lowest (part x)) (qs ++ part x) (flat_map part xs) (lowest-again qs (part x))
     ∙ ap lowest (append_assoc qs (part x) (flat_map part xs))
+
+-- ---- all of parts
+
+ordered-again : (xs ys zs : List (ℕ × ℕ)) → in_order (xs ++ (in_order ys ++ zs)) ≡ in_order (xs ++ (ys ++ zs))
+ordered-again xs ys zs =
+    same-keys (xs ++ (in_order ys ++ zs)) (xs ++ (ys ++ zs)) (λ q.
+    find-behind q xs (in_order ys ++ zs) (ys ++ zs) (find-before q (in_order ys) ys zs (same-found q ys)))
+
+ordered-of_parts : {A B : Type 0} (part : B → List (ℕ × ℕ)) (kept : A → List (ℕ × ℕ)) (told : B → A)
+    → ((x : B) → kept (told x) ≡ in_order (part x)) → (qs : List (ℕ × ℕ)) (xs : List B)
+    → in_order (qs ++ flat_map kept (map told xs)) ≡ in_order (qs ++ flat_map part xs)
+ordered-of_parts part kept told is qs [] = refl
+ordered-of_parts part kept told is qs (x ∷ xs) =
+    ap (λ (l : List (ℕ × ℕ)). in_order (qs ++ (l ++ flat_map kept (map told xs)))) (is x)
+    ∙ ordered-again qs (part x) (flat_map kept (map told xs))
+    ∙ ap in_order (sym (append_assoc qs (part x) (flat_map kept (map told xs))))
+    ∙ ordered-of_parts part kept told is (qs ++ part x) xs
+    ∙ ap in_order (append_assoc qs (part x) (flat_map part xs))
+
+-- all, or the lowest
+pub shown-of_parts : {A B : Type 0} (all : Bool) (part : B → List (ℕ × ℕ)) (kept : A → List (ℕ × ℕ))
+    (told : B → A) → ((x : B) → kept (told x) ≡ shown_pairs all (in_order (part x))) → (xs : List B)
+    → shown_pairs all (in_order (flat_map kept (map told xs)))
+    ≡ shown_pairs all (in_order (flat_map part xs))
+shown-of_parts true part kept told is xs = ordered-of_parts part kept told is [] xs
+shown-of_parts false part kept told is xs = lowest-of_parts part kept told is [] xs

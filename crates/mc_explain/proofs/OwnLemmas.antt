@@ -12,7 +12,7 @@ use Rattle.std.specs.declared.cmp.Ordering.TheVariants.{Less, Equal, Greater}
 use Rattle.std.proofs.lemmas.Bool.{and_parts, eq-eqb, eqb-true, false≢true}
 use Rattle.mc_tables.specs.CacheTable.{RowText, key_cmp}
 use Rattle.mc_tables.specs.ListedRows.{is_listed}
-use Rattle.mc_tables.specs.Notes.{group_first, in_order, notes_of, unlisted_keys}
+use Rattle.mc_tables.specs.Notes.{group_first, in_order, notes_of, shown_pairs, unlisted_keys}
 use Rattle.mc_tables.proofs.CacheLemmas.{key_total}
 use Rattle.mc_tables.proofs.CacheMapLemmas.{key_antisymmetric}
 use Rattle.mc_topology.specs.Topology.{TopologyValue}
@@ -21,7 +21,7 @@ use Rattle.mc_theory.proofs.InLists.{in-append_cases, in-append_left, in-flat_ma
 use Rattle.mc_explain.specs.UnlistedText.{has_pair, has_row, lowest_of, routers_with}
 use Rattle.mc_explain.proofs.MergeLemmas.{AreAbove, above_least, as_keys}
 use Rattle.mc_explain.proofs.MergeLemmas.{in_order-again, in_order-ascends, into}
-use Rattle.mc_explain.proofs.MergeLemmas.{lowest-merge, lowest-of_parts, merge, picked, same-found}
+use Rattle.mc_explain.proofs.MergeLemmas.{lowest-merge, merge, picked, same-found, shown-of_parts}
 use Rattle.mc_explain.proofs.UnlistedLemmas.{lowest}
 
 -- ---- the first of two ascending lists as one
@@ -38,12 +38,12 @@ in-take_more (suc k) p [] h = absurd h
 in-take_more (suc k) p (x ∷ xs) (inl e) = inl e
 in-take_more (suc k) p (x ∷ xs) (inr h) = inr (in-take_more k p xs h)
 
-above-in : (a p : ℕ × ℕ) (l : List (ℕ × ℕ)) → AreAbove a l → In p l → key_cmp a p ≡ Less
+pub above-in : (a p : ℕ × ℕ) (l : List (ℕ × ℕ)) → AreAbove a l → In p l → key_cmp a p ≡ Less
 above-in a p [] all h = absurd h
 above-in a p (b ∷ l) all (inl e) = ap (key_cmp a) (sym e) ∙ all.0
 above-in a p (b ∷ l) all (inr h) = above-in a p l all.1 h
 
-not-itself : (a p : ℕ × ℕ) → a ≡ p → key_cmp a p ≡ Less → ⊥
+pub not-itself : (a p : ℕ × ℕ) → a ≡ p → key_cmp a p ≡ Less → ⊥
 not-itself a p e less =
     let equal : key_cmp a p ≡ Equal = ap (key_cmp a) (sym e) ∙ tied_itself key_total a in
     absurd (false≢true (ap is_eq (sym less ∙ equal)))
@@ -147,12 +147,12 @@ kept-by_part p xs ys inside h own =
 
 -- ---- the tests
 
-same_bool : (a b : Bool) → (a ≡ true → b ≡ true) → (b ≡ true → a ≡ true) → a ≡ b
+pub same_bool : (a b : Bool) → (a ≡ true → b ≡ true) → (b ≡ true → a ≡ true) → a ≡ b
 same_bool true b f g = sym (f refl)
 same_bool false true f g = g refl
 same_bool false false f g = refl
 
-in-listed : (p : ℕ × ℕ) (xs : List (ℕ × ℕ)) → In p xs → is_listed (Some xs) p ≡ true
+pub in-listed : (p : ℕ × ℕ) (xs : List (ℕ × ℕ)) → In p xs → is_listed (Some xs) p ≡ true
 in-listed p [] h = absurd h
 in-listed p (x ∷ xs) (inl e) =
     ap (λ (y : ℕ × ℕ). ((y.0 == p.0) && (y.1 == p.1)) || is_listed (Some xs) p) e
@@ -164,7 +164,7 @@ in-listed p (x ∷ xs) (inr h) =
       | false ↦ in-listed p xs h
     ]
 
-listed-in : (p : ℕ × ℕ) (xs : List (ℕ × ℕ)) → is_listed (Some xs) p ≡ true → In p xs
+pub listed-in : (p : ℕ × ℕ) (xs : List (ℕ × ℕ)) → is_listed (Some xs) p ≡ true → In p xs
 listed-in p [] e = absurd (false≢true e)
 listed-in p (x ∷ xs) e =
     elim ((x.0 == p.0) && (x.1 == p.1)) as (λ b. ((x.0 == p.0) && (x.1 == p.1)) ≡ b
@@ -175,35 +175,44 @@ listed-in p (x ∷ xs) e =
       | false ↦ λ is e. inr (listed-in p xs e)
     ] refl e
 
-filter-same : (f g : ℕ → Bool) (xs : List ℕ) → ((x : ℕ) → f x ≡ g x) → filter f xs ≡ filter g xs
+pub filter-same : (f g : ℕ → Bool) (xs : List ℕ) → ((x : ℕ) → f x ≡ g x) → filter f xs ≡ filter g xs
 filter-same f g [] same = refl
 filter-same f g (x ∷ xs) same =
     ap₂ (λ (b : Bool) (ys : List ℕ). cond b (x ∷ ys) ys) (same x) (filter-same f g xs same)
 
-has-same : (listed : List (ℕ × ℕ)) (pair : ℕ × ℕ) (caches : List (List RowText)) (router : ℕ)
-    → ((rows : List RowText) → In rows caches → is_listed (Some (notes_of listed rows).lowest) pair
+has-same : (all : Bool) (listed : List (ℕ × ℕ)) (pair : ℕ × ℕ) (caches : List (List RowText)) (router : ℕ)
+    → ((rows : List RowText) → In rows caches → is_listed (Some (notes_of all listed rows).lowest) pair
     ≡ is_listed (Some (map group_first (unlisted_keys listed rows))) pair)
-    → has_pair pair (slice_get (map (notes_of listed) caches) router)
+    → has_pair pair (slice_get (map (notes_of all listed) caches) router)
     ≡ has_row listed pair (slice_get caches router)
-has-same listed pair [] router each = refl
-has-same listed pair (rows ∷ caches) zero each = each rows (inl refl)
-has-same listed pair (rows ∷ caches) (suc router) each =
-    has-same listed pair caches router (λ own h. each own (inr h))
+has-same all listed pair [] router each = refl
+has-same all listed pair (rows ∷ caches) zero each = each rows (inl refl)
+has-same all listed pair (rows ∷ caches) (suc router) each =
+    has-same all listed pair caches router (λ own h. each own (inr h))
 
-pub routers-told : (t : TopologyValue) (listed : List (ℕ × ℕ)) (caches : List (List RowText))
-    (pair : ℕ × ℕ) → In pair (lowest_of (map (notes_of listed) caches))
-    → routers_with t (map (notes_of listed) caches) pair
+-- what a router's notes have of its own pairs, where a pair is shown
+own-listed : (all : Bool) (p : ℕ × ℕ) (xs ys : List (ℕ × ℕ)) → ((q : ℕ × ℕ) → In q ys → In q xs)
+    → In p (shown_pairs all (in_order xs))
+    → is_listed (Some (shown_pairs all (in_order ys))) p ≡ is_listed (Some ys) p
+own-listed true p xs ys inside shown =
+    same_bool (is_listed (Some (in_order ys)) p) (is_listed (Some ys) p)
+    (λ e. in-listed p ys (from-order p ys (listed-in p (in_order ys) e)))
+    (λ e. in-listed p (in_order ys) (to-order p ys (listed-in p ys e)))
+own-listed false p xs ys inside shown =
+    same_bool (is_listed (Some (lowest ys)) p) (is_listed (Some ys) p)
+    (λ e. in-listed p ys (from-order p ys (in-take 20 p (in_order ys) (listed-in p (lowest ys) e))))
+    (λ e. in-listed p (lowest ys) (kept-by_part p xs ys inside shown (listed-in p ys e)))
+
+pub routers-told : (all : Bool) (t : TopologyValue) (listed : List (ℕ × ℕ)) (caches : List (List RowText))
+    (pair : ℕ × ℕ) → In pair (lowest_of all (map (notes_of all listed) caches))
+    → routers_with t (map (notes_of all listed) caches) pair
     ≡ filter (λ router. has_row listed pair (slice_get caches router)) (below (length t.routers))
-routers-told t listed caches pair shown =
-    filter-same _ _ (below (length t.routers)) (λ router. has-same listed pair caches router (λ rows h.
-    let own = part rows in
-    same_bool (is_listed (Some (lowest own)) pair) (is_listed (Some own) pair)
-    (λ e. in-listed pair own (from-order pair own
-    (in-take 20 pair (in_order own) (listed-in pair (lowest own) e))))
-    (λ e. in-listed pair (lowest own) (kept-by_part pair (flat_map part caches) own
+routers-told all t listed caches pair shown =
+    filter-same _ _ (below (length t.routers)) (λ router. has-same all listed pair caches router (λ rows h.
+    own-listed all pair (flat_map part caches) (part rows)
     (λ q k. in-flat_map part rows q caches h k)
-    (subst (In pair) (lowest-of_parts part (λ n. n.lowest) (notes_of listed) (λ _. refl) [] caches) shown)
-    (listed-in pair own e)))))
+    (subst (In pair) (shown-of_parts all part (λ n. n.lowest) (notes_of all listed) (λ _. refl) caches)
+    shown)))
   where
     part : List RowText → List (ℕ × ℕ)
     part rows = map group_first (unlisted_keys listed rows)

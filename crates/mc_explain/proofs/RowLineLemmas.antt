@@ -1,5 +1,5 @@
 -- The lines that tell of unlisted rows, how they begin and that they have no line feed.
-use Rattle.std.proofs.Common.{◌≡◌, ◌==◌, ◌-◌, ℕ, true, false, cond, List, [], ◌∷◌, ◌++◌, length, map}
+use Rattle.std.proofs.Common.{◌≡◌, ◌==◌, ℕ, Bool, true, false, cond, List, [], ◌∷◌, ◌++◌, length, map}
 use Rattle.std.proofs.Common.{flat_map, codes, decimal, inl, inr, refl, ap, ap₂, sym, subst, ◌∙◌}
 use Rattle.std.proofs.Common.{append_assoc}
 use Rattle.std.proofs.lemmas.Grind.{flat_map-append}
@@ -9,27 +9,27 @@ use Rattle.mc_topology.specs.Topology.{TopologyValue, IsTopology}
 use Rattle.mc_theory.proofs.InLists.{in-append_cases, in-map_cases}
 use Rattle.mc_explain.specs.Indented.{AreIndented, IsFeedless, indented}
 use Rattle.mc_explain.specs.RouterText.{routers_text}
-use Rattle.mc_explain.specs.UnlistedLines.{AreOfRows, ended}
-use Rattle.mc_explain.specs.UnlistedText.{byte_order_text, further_text, is_multicast, lowest_of}
-use Rattle.mc_explain.specs.UnlistedText.{line_of_pair, pair_lines, routers_with, rows_of, rows_told}
-use Rattle.mc_explain.specs.UnlistedText.{unlisted_text}
+use Rattle.mc_explain.specs.UnlistedLines.{AreLines, AreOfRows, TellsOfRows, ended}
+use Rattle.mc_explain.specs.UnlistedText.{byte_order_text, further_rows, further_text, is_multicast}
+use Rattle.mc_explain.specs.UnlistedText.{line_of_pair, lowest_of, pair_lines, routers_with, unlisted_text}
 use Rattle.mc_explain.proofs.FeedLemmas.{address, number, said}
 use Rattle.mc_explain.proofs.IndentedLemmas.{GoesOn, feedless-from, line-begins, line-ends, line-last}
 use Rattle.mc_explain.proofs.IndentedLemmas.{line-more, line-says, no-lines}
 use Rattle.mc_explain.proofs.SearchLineLemmas.{routers-plain}
 
--- ---- lines one after the other
+-- ---- lines one after the other, which all begin in some way
 
-none-of_rows : AreOfRows []
-none-of_rows = record {
+pub none-that : (Begins : List ℕ → Type 0) → AreLines Begins []
+none-that Begins = record {
   lines = [];
   begins = λ line h. absurd h;
   feedless = λ line h. absurd h;
   spelled = refl;
 }
 
-both-of_rows : (xs ys : List ℕ) → AreOfRows xs → AreOfRows ys → AreOfRows (xs ++ ys)
-both-of_rows xs ys p q = record {
+pub both-that : (Begins : List ℕ → Type 0) (xs ys : List ℕ) → AreLines Begins xs → AreLines Begins ys
+    → AreLines Begins (xs ++ ys)
+both-that Begins xs ys p q = record {
   lines = p.lines ++ q.lines;
   begins = λ line h. elim (in-append_cases line p.lines q.lines h) [
     | inl left ↦ p.begins line left
@@ -43,11 +43,11 @@ both-of_rows xs ys p q = record {
       ∙ sym (flat_map-append ended p.lines q.lines);
 }
 
-each-of_rows : {A : Type 0} (f : A → List ℕ) (xs : List A) → ((x : A) → AreOfRows (f x))
-    → AreOfRows (flat_map f xs)
-each-of_rows f [] each = none-of_rows
-each-of_rows f (x ∷ xs) each =
-    both-of_rows (f x) (flat_map f xs) (each x) (each-of_rows f xs each)
+pub each-that : {A : Type 0} (Begins : List ℕ → Type 0) (f : A → List ℕ) (xs : List A)
+    → ((x : A) → AreLines Begins (f x)) → AreLines Begins (flat_map f xs)
+each-that Begins f [] each = none-that Begins
+each-that Begins f (x ∷ xs) each =
+    both-that Begins (f x) (flat_map f xs) (each x) (each-that Begins f xs each)
 
 -- ---- lines that begin with two spaces
 
@@ -118,18 +118,18 @@ further-of_rows : (more : ℕ) → AreOfRows (further_text more)
 further-of_rows more =
     elim (more == 0) as (λ b. AreOfRows (cond b []
     (codes "unlisted and " ++ (decimal more ++ codes " further rows\n")))) [
-      | true ↦ none-of_rows
+      | true ↦ none-that TellsOfRows
       | false ↦ pair-of_rows _
           (line-says (codes "and ") _ refl
           (line-more (decimal more) _ (number more)
           (line-says (codes " further rows") _ refl line-last)))
     ]
 
-pub unlisted-of_rows : (t : TopologyValue) (notes : List NotesText) → IsTopology t
-    → AreOfRows (unlisted_text t notes)
-unlisted-of_rows t notes ok =
-    both-of_rows (flat_map (pair_lines t notes) (lowest_of notes))
-    (further_text (rows_of notes - rows_told t notes (lowest_of notes)))
-    (each-of_rows (pair_lines t notes) (lowest_of notes)
+pub unlisted-of_rows : (all : Bool) (t : TopologyValue) (notes : List NotesText) → IsTopology t
+    → AreOfRows (unlisted_text all t notes)
+unlisted-of_rows all t notes ok =
+    both-that TellsOfRows (flat_map (pair_lines t notes) (lowest_of all notes))
+    (further_text (further_rows all t notes))
+    (each-that TellsOfRows (pair_lines t notes) (lowest_of all notes)
     (λ pair. line-of_pair t pair (routers_with t notes pair) ok))
-    (further-of_rows (rows_of notes - rows_told t notes (lowest_of notes)))
+    (further-of_rows (further_rows all t notes))

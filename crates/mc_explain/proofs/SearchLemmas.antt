@@ -198,27 +198,30 @@ held-first places copies cs first same =
     λ i lan. each lan i
 
 pub same-search : (view : FlowIn) (d : DomainValue) (flow : ℕ) (notes : List NotesText)
-    (places : List (Option Copy)) (copies cs : List Copy)
+    (left_out : List Bool) (places : List (Option Copy)) (copies cs : List Copy)
     → view ≡ record { domain = d; flow = flow } → IsFirstBy (λ (c : Copy). c.lan) places copies
     → copies ≡ cs
     → ◌≡◌ {A = Search} (record {
       domain = facts view.domain;
       flow = view.flow;
       notes = notes;
+      left_out = left_out;
       copy_on = held places;
     })
-    (record { domain = facts d; flow = flow; notes = notes; copy_on = copy_on cs })
-same-search view d flow notes places copies cs e first same =
+    (record { domain = facts d; flow = flow; notes = notes; left_out = left_out; copy_on = copy_on cs })
+same-search view d flow notes left_out places copies cs e first same =
     ap {B = Search} (λ (v : FlowIn). record {
       domain = facts v.domain;
       flow = v.flow;
       notes = notes;
+      left_out = left_out;
       copy_on = held places;
     }) e
     ∙ ap {B = Search} (λ (f : ℕ → Option Copy). record {
       domain = facts d;
       flow = flow;
       notes = notes;
+      left_out = left_out;
       copy_on = f;
     }) (held-first places copies cs first same)
 

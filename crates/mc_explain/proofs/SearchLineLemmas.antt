@@ -13,6 +13,7 @@ use Rattle.mc_theory.specs.Nets.{Row}
 use Rattle.mc_theory.specs.Nets.Row.{Exact, Open, NoRow as no_row}
 use Rattle.mc_forward.specs.ListedTables.{DomainFacts}
 use Rattle.mc_explain.specs.declared.searched.Searched.{Searched}
+use Rattle.mc_explain.specs.declared.searched.Searched.TheVariants.{LeftOut}
 use Rattle.mc_explain.specs.declared.searched.Searched.TheVariants.{NoVif, NotMulticast, NoRow}
 use Rattle.mc_explain.specs.declared.searched.Searched.TheVariants.{Unresolved, EverySource}
 use Rattle.mc_explain.specs.declared.searched.Searched.TheVariants.{FromUnplaced, DoesNotSend}
@@ -110,6 +111,8 @@ of_router-indented t lan router what ok none =
 
 line-indented : (d : DomainFacts) (notes : List NotesText) (k : ℕ) (f : Flow) (line : Searched)
     → IsTopology d.topology → AreIndented (line_text d notes k f line)
+line-indented d notes k f (LeftOut lan router) ok =
+    of_router-indented d.topology lan router (codes "is left out: its tables are not known") ok refl
 line-indented d notes k f (NoVif lan router interface) ok =
     placed d.topology lan router _ ok
     (line-says (codes " has no vif for ") _ refl

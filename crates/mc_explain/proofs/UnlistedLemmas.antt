@@ -1,6 +1,5 @@
 -- The lowest pairs of all routers, as the notes come.
-use Rattle.std.proofs.Common.{ℕ, ◌≤◌, List, [], ◌∷◌, ◌++◌, length, take, sym, subst}
-use Rattle.std.proofs.Common.{append-nil, append_assoc, length-take, arith}
+use Rattle.std.proofs.Common.{ℕ, List, [], ◌∷◌, ◌++◌, take, sym, subst, append-nil, append_assoc}
 use Rattle.std.specs.List.Sorted.{IsStrictlySortedBy}
 use Rattle.mc_tables.specs.CacheTable.{key_cmp}
 use Rattle.mc_tables.specs.Notes.{in_order}
@@ -26,6 +25,3 @@ ascend_on qs (p ∷ ps) up =
 
 pub lowest-ascends : (ps : List (ℕ × ℕ)) → IsStrictlySortedBy key_cmp (lowest ps)
 lowest-ascends ps = ascend_on [] ps (subst (IsStrictlySortedBy key_cmp) nothing_lowest none_ascend)
-
-pub lowest-few : (ps : List (ℕ × ℕ)) → length (lowest ps) ≤ 20
-lowest-few ps = omega (arith, length-take 20 (in_order ps))

@@ -12,12 +12,15 @@ pub mod Numbered
 pub mod Searched
 pub mod Looking
 pub mod SearchReach
+pub mod SearchNames
 pub mod RouterText
 pub mod ExpectingRouters
 pub mod ShownLines
 pub mod SearchText
 pub mod UnlistedText
 pub mod UnlistedLines
+pub mod UnlistedPairs
+pub mod LeftOutText
 pub use Rattle.mc_tables.specs.Notes
 pub use Rattle.mc_theory.specs.Nets
 pub use Rattle.mc_theory.specs.Flights

@@ -12,6 +12,7 @@ search_in l = record {
   domain = facts l.view.now.domain;
   flow = l.view.now.flow;
   notes = l.notes.now;
+  left_out = l.left_out.now;
   copy_on = held l.firsts.now.by_lan;
 }
 

@@ -10,6 +10,7 @@ use Rattle.mc_theory.specs.Nets.{Row}
 use Rattle.mc_theory.specs.Nets.Row.{Exact, Open, NoRow as no_row}
 use Rattle.mc_forward.specs.ListedTables.{DomainFacts}
 use Rattle.mc_explain.specs.declared.searched.Searched.{Searched}
+use Rattle.mc_explain.specs.declared.searched.Searched.TheVariants.{LeftOut}
 use Rattle.mc_explain.specs.declared.searched.Searched.TheVariants.{NoVif, NotMulticast, NoRow}
 use Rattle.mc_explain.specs.declared.searched.Searched.TheVariants.{Unresolved, EverySource}
 use Rattle.mc_explain.specs.declared.searched.Searched.TheVariants.{FromUnplaced, DoesNotSend}
@@ -86,6 +87,8 @@ expected_text t lan routers =
 
 -- by the routers' rows for a flow, with its number, and by what is noted of their caches
 abbrev pub line_text : DomainFacts → List NotesText → (number : ℕ) → Flow → Searched → List ℕ
+line_text d notes number f (LeftOut lan router) =
+    of_router d.topology lan router (codes "is left out: its tables are not known")
 line_text d notes number f (NoVif lan router interface) =
     place_text d.topology lan router ++ (codes " has no vif for "
     ++ (interface_text d.topology interface ++ codes "\n"))

@@ -1,8 +1,8 @@
 -- The search for a LAN that a packet missed: what is told of a LAN, by the tables of the routers that
 -- have an interface on it, and which LANs are looked at after it.
-use Rattle.std.specs.Prelude.{◌==◌, ◌||◌, ℕ, zero, suc, not, Bool, false, List, [], ◌∷◌}
+use Rattle.std.specs.Prelude.{◌==◌, ◌&&◌, ◌||◌, ℕ, zero, suc, not, Bool, false, List, [], ◌∷◌}
 use Rattle.std.specs.Prelude.{◌++◌, length, flat_map, Option, Some, None, is_some, slice_get}
-use Rattle.std.specs.Prelude.{if◌then◌else◌, option_map, unwrap_or}
+use Rattle.std.specs.Prelude.{if◌then◌else◌, option_map, slice_index_or, unwrap_or}
 use Rattle.std.specs.List.{filter_map, list_any}
 use Rattle.std.specs.FinSet as set
 use Rattle.mc_tables.specs.VifTable.{VifText}
@@ -16,6 +16,7 @@ use Rattle.mc_theory.specs.Findings.{taken_from}
 use Rattle.mc_theory.specs.Made.{pairs_of, threshold_of}
 use Rattle.mc_forward.specs.ListedTables.{DomainFacts}
 use Rattle.mc_explain.specs.declared.searched.Searched.{Searched}
+use Rattle.mc_explain.specs.declared.searched.Searched.TheVariants.{LeftOut}
 use Rattle.mc_explain.specs.declared.searched.Searched.TheVariants.{NoVif, NotMulticast, NoRow}
 use Rattle.mc_explain.specs.declared.searched.Searched.TheVariants.{Unresolved, EverySource}
 use Rattle.mc_explain.specs.declared.searched.Searched.TheVariants.{FromUnplaced, DoesNotSend}
@@ -28,15 +29,21 @@ use Rattle.mc_explain.specs.TopologyLans.{on_lan}
 
 -- ---- what is searched
 
--- a flow of a domain, what is noted of each router's cache, and the first copy on each LAN
+-- A flow of a domain, what is noted of each router's cache, which routers are left out, and the first
+-- copy on each LAN.
 pub record Search : Type 0 where
   pub domain : DomainFacts
   pub flow : ℕ
   pub notes : List NotesText
+  pub left_out : List Bool
   pub copy_on : ℕ → Option Copy
 
 abbrev pub net : Search → Net
 net s = s.domain.nets s.flow
+
+-- whether a router is marked as left out, so that its tables are not known
+abbrev pub is_left_out : List Bool → (router : ℕ) → Bool
+is_left_out marks router = slice_index_or marks router false
 
 -- whether a LAN carried a copy
 abbrev pub carried : Search → (lan : ℕ) → Bool
@@ -128,16 +135,24 @@ groups (i ∷ is) = join i (groups is)
 abbrev pub routers_on : Search → (lan : ℕ) → List (ℕ × List ListedInterface)
 routers_on s lan = groups (on_lan s.domain lan)
 
-abbrev pub router_lines : Search → (lan : ℕ) → ℕ × List ListedInterface → List Searched
-router_lines s lan g =
+-- by its tables: of its row, and of its devices
+abbrev pub table_lines : Search → (lan : ℕ) → ℕ × List ListedInterface → List Searched
+table_lines s lan g =
     row_lines s lan g.0 g.1 ((net s).row g.0) ++ flat_map (λ i. device_lines s lan i i.vif) g.1
 
--- a router whose row takes from the LAN
+-- of a router that is left out that alone is told
+abbrev pub router_lines : Search → (lan : ℕ) → ℕ × List ListedInterface → List Searched
+router_lines s lan g =
+    if is_left_out s.left_out g.0 then LeftOut lan g.0 ∷ [] else table_lines s lan g
+
+-- a router that isn't, and whose row takes from the LAN
+abbrev pub is_expecting : Search → (lan router : ℕ) → Bool
+is_expecting s lan router =
+    not (is_left_out s.left_out router)
+    && is_lan (taken_from (net s) router ((net s).row router)) lan
+
 abbrev pub expected_lines : Search → (lan : ℕ) → ℕ × List ListedInterface → List Searched
-expected_lines s lan g =
-    if is_lan (taken_from (net s) g.0 ((net s).row g.0)) lan
-    then ExpectedFromHere lan g.0 ∷ []
-    else []
+expected_lines s lan g = if is_expecting s lan g.0 then ExpectedFromHere lan g.0 ∷ [] else []
 
 -- a router whose row sends by a vif of a device that the topology has on the LAN
 abbrev pub sends_by_one : Option ℕ → List (ℕ × ℕ) → Bool
@@ -147,12 +162,16 @@ sends_by_one (Some vif) pairs = sends_by vif pairs
 abbrev pub sends_here : Search → ℕ × List ListedInterface → Bool
 sends_here s g = list_any (λ i. sends_by_one i.vif (pairs_of ((net s).row g.0))) g.1
 
+-- a router that may send onto the LAN: its row does so, or isn't known
+abbrev pub may_send_here : Search → ℕ × List ListedInterface → Bool
+may_send_here s g = is_left_out s.left_out g.0 || sends_here s g
+
 -- what is told behind these lines of the routers
 abbrev pub last_lines : Search → (lan : ℕ) → List (ℕ × List ListedInterface) → List Searched
     → List Searched
 last_lines s lan gs [] = NoRouter lan ∷ []
 last_lines s lan gs (line ∷ lines) =
-    if list_any (sends_here s) gs then [] else NoSender lan ∷ []
+    if list_any (may_send_here s) gs then [] else NoSender lan ∷ []
 
 abbrev pub lines_by : Search → (lan : ℕ) → List (ℕ × List ListedInterface) → List Searched
 lines_by s lan gs = flat_map (router_lines s lan) gs ++ flat_map (expected_lines s lan) gs

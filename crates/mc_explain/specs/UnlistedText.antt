@@ -1,30 +1,36 @@
 -- How the resolved rows are told whose source and group are no flow's.
 use Rattle.std.specs.Prelude.{ℕ, ◌-◌, ◌==◌, ◌&&◌, nat_le, Bool, false, List, [], ◌++◌, length, Option}
 use Rattle.std.specs.Prelude.{Some, None, if◌then◌else◌, codes, decimal, filter, flat_map, map, slice_get}
-use Rattle.std.specs.Prelude.{sum_by, take}
+use Rattle.std.specs.Prelude.{sum_by}
 use Rattle.mc_text.specs.Addr.{dotted, first_octet}
 use Rattle.mc_tables.specs.CacheTable.{RowText}
 use Rattle.mc_tables.specs.ListedRows.{is_listed}
-use Rattle.mc_tables.specs.Notes.{NotesText, group_first, in_order, unlisted_keys}
+use Rattle.mc_tables.specs.Notes.{NotesText, group_first, in_order, shown_pairs, unlisted_keys}
 use Rattle.mc_topology.specs.Topology.{TopologyValue}
 use Rattle.mc_theory.specs.Lists.{below}
 use Rattle.mc_explain.specs.RouterText.{routers_text}
 
 -- ---- the pairs of a group and a source
 
--- the 20 lowest of all routers: each one's notes have its own 20 lowest
-abbrev pub lowest_of : List NotesText → List (ℕ × ℕ)
-lowest_of notes = take 20 (in_order (flat_map (λ own. own.lowest) notes))
+-- all of all routers, or the 20 lowest: each one's notes have all its own, or its own 20 lowest
+abbrev pub lowest_of : (all : Bool) → List NotesText → List (ℕ × ℕ)
+lowest_of all notes = shown_pairs all (in_order (flat_map (λ own. own.lowest) notes))
 
--- whether a router's notes have a pair
+-- those of a router's notes, and whether a pair is among them
+abbrev pub pairs_in : Option NotesText → List (ℕ × ℕ)
+pairs_in None = []
+pairs_in (Some own) = own.lowest
+
 abbrev pub has_pair : ℕ × ℕ → Option NotesText → Bool
-has_pair pair None = false
-has_pair pair (Some own) = is_listed (Some own.lowest) pair
+has_pair pair notes = is_listed (Some (pairs_in notes)) pair
 
--- the routers whose notes have it, in order
+-- the routers whose notes have it, in order: those below a number, and all
+abbrev pub routers_below : List NotesText → (number : ℕ) → ℕ × ℕ → List ℕ
+routers_below notes number pair =
+    filter (λ router. has_pair pair (slice_get notes router)) (below number)
+
 abbrev pub routers_with : TopologyValue → List NotesText → ℕ × ℕ → List ℕ
-routers_with t notes pair =
-    filter (λ router. has_pair pair (slice_get notes router)) (below (length t.routers))
+routers_with t notes pair = routers_below notes (length t.routers) pair
 
 -- whether a router's cache has such a row whose source and group are not listed
 abbrev pub has_row : (listed : List (ℕ × ℕ)) → ℕ × ℕ → Option (List RowText) → Bool
@@ -57,9 +63,13 @@ pair_lines t notes pair = line_of_pair t pair (routers_with t notes pair)
 abbrev pub rows_of : List NotesText → ℕ
 rows_of notes = sum_by (λ own. own.unlisted) notes
 
--- those of some pairs
+-- those of some pairs, of which each router that has one has one row
 abbrev pub rows_told : TopologyValue → List NotesText → List (ℕ × ℕ) → ℕ
 rows_told t notes pairs = sum_by (λ pair. length (routers_with t notes pair)) pairs
+
+-- how many rows there are besides those of the pairs that are shown
+abbrev pub further_rows : (all : Bool) → TopologyValue → List NotesText → ℕ
+further_rows all t notes = rows_of notes - rows_told t notes (lowest_of all notes)
 
 abbrev pub further_text : ℕ → List ℕ
 further_text more =
@@ -67,7 +77,6 @@ further_text more =
 
 -- ---- all lines
 
-abbrev pub unlisted_text : TopologyValue → List NotesText → List ℕ
-unlisted_text t notes =
-    flat_map (pair_lines t notes) (lowest_of notes)
-    ++ further_text (rows_of notes - rows_told t notes (lowest_of notes))
+abbrev pub unlisted_text : (all : Bool) → TopologyValue → List NotesText → List ℕ
+unlisted_text all t notes =
+    flat_map (pair_lines t notes) (lowest_of all notes) ++ further_text (further_rows all t notes)

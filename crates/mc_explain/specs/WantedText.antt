@@ -6,6 +6,9 @@ use Rattle.mc_theory.specs.Lists.{below}
 use Rattle.mc_theory.specs.Flights.{Copy}
 use Rattle.mc_theory.specs.Findings.{copy_on}
 use Rattle.mc_forward.specs.ListedTables.{DomainFacts}
+use Rattle.mc_replay.specs.declared.finding.Finding.{Finding}
+use Rattle.mc_replay.specs.declared.finding.Finding.TheVariants.{Clean, Duplicate, Loop, Stray}
+use Rattle.mc_replay.specs.declared.finding.Finding.TheVariants.{Missed}
 
 -- ---- a list of LANs by their names, of which the first 8 are shown
 
@@ -47,6 +50,14 @@ is_missed_too d flow copies missed lan =
 abbrev pub missed_too : DomainFacts → (flow : ℕ) → List Copy → (missed : ℕ) → List ℕ
 missed_too d flow copies missed =
     filter (is_missed_too d flow copies missed) (below (length d.topology.lans))
+
+-- the same by what was found of the packet
+abbrev pub missed_besides : DomainFacts → (flow : ℕ) → List Copy → Finding → List ℕ
+missed_besides d flow copies (Missed lan) = missed_too d flow copies lan
+missed_besides d flow copies Clean = []
+missed_besides d flow copies (Duplicate lan) = []
+missed_besides d flow copies (Loop lan) = []
+missed_besides d flow copies (Stray router vif) = []
 
 -- nothing where there are none
 abbrev pub missed_too_text : TopologyValue → (lans : List ℕ) → List ℕ

@@ -41,9 +41,9 @@ impl fmt::Display for ShownByte {
 
 /// A device's name, as `eth1`.
 #[derive(Clone, Copy, Drop)]
-pub(crate) struct ShownName<'n> {
+pub struct ShownName<'n> {
     /// Its bytes.
-    pub(crate) name: &'n [u8],
+    pub name: &'n [u8],
 }
 
 impl<'n> fmt::Display for ShownName<'n> {

@@ -84,7 +84,7 @@ fn is_of(domain: &Domain, router: RouterNo, vif: u8, device: &[u8]) -> bool
 }
 
 /// The vif of a router that has this device.
-fn vif_with(domain: &Domain, router: RouterNo, device: &[u8]) -> Option<u8>
+pub fn vif_with(domain: &Domain, router: RouterNo, device: &[u8]) -> Option<u8>
     ensures { result ≡ vif_with (facts domain.now) router device.now }
 {
     for vif in 0..32u8 {

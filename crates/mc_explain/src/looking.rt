@@ -6,12 +6,14 @@ ghost use Rattle.mc_tables.specs.CacheTable.{IsEntry};
 ghost use Rattle.mc_forward.specs.Domains.{pairs_of, vif_of};
 ghost use Rattle.mc_explain.specs.Looking.{IsLooking, search_in};
 ghost use Rattle.mc_explain.specs.Searched.{device_lines, every_source_from, expected_lines};
-ghost use Rattle.mc_explain.specs.Searched.{is_unresolved, is_virtual, lead, lines_of_lan, net};
-ghost use Rattle.mc_explain.specs.Searched.{router_lines, routers_on, row_for_every_source};
-ghost use Rattle.mc_explain.specs.Searched.{row_lines, sends_by_one, sends_here, vif_line, vif_lines};
+ghost use Rattle.mc_explain.specs.Searched.{is_expecting, is_left_out, is_unresolved, is_virtual, lead};
+ghost use Rattle.mc_explain.specs.Searched.{lines_of_lan, may_send_here, net, router_lines};
+ghost use Rattle.mc_explain.specs.Searched.{routers_on, row_for_every_source, row_lines};
+ghost use Rattle.mc_explain.specs.Searched.{sends_by_one, sends_here, vif_line, vif_lines};
 
 use crate::firsts::Firsts;
 use crate::interfaces_of_lans::InterfacesOfLans;
+use crate::left_out_text::is_left_out;
 use crate::listed_interface::ListedInterface;
 use crate::routers_on_lan::RoutersOnLan;
 use crate::searched::Searched;
@@ -20,14 +22,15 @@ use mc_tables::{CacheNotes, Entry};
 use mc_text::Memory;
 use mc_topology::{Flow, LanNo, RouterNo};
 
-/// What is looked into: a flow of a domain, what is noted of each router's cache, the topology's
-/// interfaces of each LAN, and the first copies that LANs carried.
+/// What is looked into: a flow of a domain, what is noted of each router's cache, which routers are left
+/// out, the topology's interfaces of each LAN, and the first copies that LANs carried.
 #[derive(Clone, Copy, Drop)]
 pub(crate) struct Looking<'s> {
     pub(crate) view: &'s FlowView<'s>,
     /// The view's flow.
     pub(crate) flow: &'s Flow,
     pub(crate) notes: &'s [CacheNotes],
+    pub(crate) left_out: &'s [bool],
     pub(crate) interfaces: &'s InterfacesOfLans,
     pub(crate) firsts: &'s Firsts,
 }
@@ -44,6 +47,13 @@ fn is_sent_by(entry: &Entry<'_>, vif: Option<u8>) -> bool
 }
 
 impl<'s> Looking<'s> {
+    /// Whether a router is left out.
+    fn is_left_out(&self, router: RouterNo) -> bool
+        ensures { result ≡ is_left_out self.now.left_out.now router }
+    {
+        is_left_out(self.left_out, router)
+    }
+
     /// Whether a router's cache has an unresolved row for the flow.
     fn is_unresolved(&self, router: RouterNo) -> bool
         requires { IsLooking self.now }
@@ -221,6 +231,26 @@ impl<'s> Looking<'s> {
         RoutersOnLan::new(self.interfaces.on(lan))
     }
 
+    /// What is told of a router of the LAN.
+    fn tell_router(
+        &self,
+        told: &mut Vec<Searched>,
+        lan: LanNo,
+        router: RouterNo,
+        own: &[ListedInterface],
+    ) -> Result<(), Memory>
+        requires { IsLooking self.now }
+        ensures { OnOk result (told.new.items ≡ told.old.items
+            ++ router_lines (search_in self.now) lan (router, own.now)) }
+    {
+        if self.is_left_out(router) {
+            told.push(Searched::LeftOut { lan, router })?;
+            return Ok(());
+        }
+        self.tell_row(told, lan, router, own)?;
+        self.tell_devices(told, lan, own)
+    }
+
     /// What is told of the routers of the LAN, one by one.
     fn tell_routers(&self, told: &mut Vec<Searched>, lan: LanNo) -> Result<(), Memory>
         requires looking { IsLooking self.now }
@@ -230,10 +260,16 @@ impl<'s> Looking<'s> {
             (routers_on (search_in self.now) lan)) }
     {
         for own in self.routers_on(lan) {
-            self.tell_row(told, lan, own.router, own.interfaces)?;
-            self.tell_devices(told, lan, own.interfaces)?;
+            self.tell_router(told, lan, own.router, own.interfaces)?;
         }
         Ok(())
+    }
+
+    /// Whether a router has a row that takes from the LAN, and isn't left out.
+    fn is_expecting(&self, lan: LanNo, router: RouterNo) -> bool
+        ensures { result ≡ is_expecting (search_in self.now) lan router }
+    {
+        !self.is_left_out(router) && self.view.from_lan(Some((router, 0))) == Some(lan)
     }
 
     /// Which routers of the LAN have a row that takes from it.
@@ -246,7 +282,7 @@ impl<'s> Looking<'s> {
     {
         for own in self.routers_on(lan) {
             let router = own.router;
-            if self.view.from_lan(Some((router, 0))) == Some(lan) {
+            if self.is_expecting(lan, router) {
                 told.push(Searched::ExpectedFromHere { lan, router })?;
             }
         }
@@ -263,15 +299,22 @@ impl<'s> Looking<'s> {
         }
     }
 
-    /// Whether some router of the LAN has such a row.
-    fn is_sent_onto(&self, lan: LanNo) -> bool
+    /// Whether it does, or is left out.
+    fn may_send_here(&self, router: RouterNo, own: &[ListedInterface]) -> bool
+        ensures { result ≡ may_send_here (search_in self.now) (router, own.now) }
+    {
+        self.is_left_out(router) || self.sends_here(router, own)
+    }
+
+    /// Whether some router of the LAN may.
+    fn may_be_sent_onto(&self, lan: LanNo) -> bool
         requires looking { IsLooking self.now }
         requires lan { lan < length self.now.view.now.domain.topology.lans }
-        ensures { result ≡ list_any (sends_here (search_in self.now))
+        ensures { result ≡ list_any (may_send_here (search_in self.now))
             (routers_on (search_in self.now) lan) }
     {
         for own in self.routers_on(lan) {
-            if self.sends_here(own.router, own.interfaces) {
+            if self.may_send_here(own.router, own.interfaces) {
                 return true;
             }
         }
@@ -290,7 +333,7 @@ impl<'s> Looking<'s> {
         self.tell_expected(told, lan)?;
         if told.len() == before {
             told.push(Searched::NoRouter { lan })?;
-        } else if !self.is_sent_onto(lan) {
+        } else if !self.may_be_sent_onto(lan) {
             told.push(Searched::NoSender { lan })?;
         }
         Ok(())

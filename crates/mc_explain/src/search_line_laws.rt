@@ -1,6 +1,6 @@
 //! How the lines of searches begin, and those that tell of unlisted rows.
 
-ghost use Rattle.std.specs.Prelude.{ℕ, List};
+ghost use Rattle.std.specs.Prelude.{ℕ, Bool, List};
 ghost use Rattle.mc_tables.specs.Notes.{NotesText};
 ghost use Rattle.mc_topology.specs.declared.flow.Flow.{Flow};
 ghost use Rattle.mc_topology.specs.Topology.{IsTopology, TopologyValue};
@@ -17,6 +17,6 @@ pub fn searches_and_unlisted_rows_begin_so()
     ensures search { (d : DomainFacts) (notes : List NotesText) (number : ℕ) (f : Flow)
         (lines : List Searched) (sent_on took_none : List ℕ) → IsTopology d.topology →
         AreIndented (search_text d notes number f lines sent_on took_none) }
-    ensures unlisted { (t : TopologyValue) (notes : List NotesText) → IsTopology t →
-        AreOfRows (unlisted_text t notes) }
+    ensures unlisted { (all : Bool) (t : TopologyValue) (notes : List NotesText) → IsTopology t →
+        AreOfRows (unlisted_text all t notes) }
 {}

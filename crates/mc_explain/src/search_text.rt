@@ -391,6 +391,10 @@ fn push_line(text: &mut String, by: &Writing<'_>, line: Searched) -> Result<(), 
 {
     let topology = by.view.topology();
     match line {
+        Searched::LeftOut { lan, router } => {
+            let what = "is left out: its tables are not known";
+            push_of_router(text, topology, lan, router, what)
+        }
         Searched::NoVif {
             lan,
             router,

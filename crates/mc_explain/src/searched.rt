@@ -5,6 +5,13 @@ use mc_topology::{LanNo, RouterNo};
 /// A line of the search for a missed LAN. Rows are those that the routers have for the flow.
 #[derive(Clone, Copy, Debug, PartialEq, Eq)]
 pub enum Searched {
+    /// The router is left out, so that its tables are not known.
+    LeftOut {
+        /// The LAN.
+        lan: LanNo,
+        /// The router.
+        router: RouterNo,
+    },
     /// The router has no vif of the device that the topology has on the LAN.
     NoVif {
         /// The LAN.
@@ -101,7 +108,7 @@ pub enum Searched {
         /// The LAN.
         lan: LanNo,
     },
-    /// No router of the LAN has a row that sends onto it.
+    /// No router of the LAN has a row that sends onto it, and none of them is left out.
     NoSender {
         /// The LAN.
         lan: LanNo,

@@ -116,7 +116,8 @@ fn search_all(
 }
 
 /// Searches why a LAN carried no copy in a flight of a flow's packet with these events, by what is
-/// noted of each router's cache, the first router's first, and by the interfaces of the domain's LANs.
+/// noted of each router's cache, the first router's first, by a mark for each router that is left out,
+/// and by the interfaces of the domain's LANs. Routers beyond the marks are not left out.
 /// It takes time in proportion to the LANs, the copies, the interfaces of the LANs that are looked at,
 /// and for each of those its row.
 ///
@@ -127,6 +128,7 @@ pub fn search(
     alloc: Global,
     domain: &Domain,
     notes: &[CacheNotes],
+    left_out: &[bool],
     interfaces: &InterfacesOfLans,
     flight: &Flight<'_>,
     events: &[Event],
@@ -141,6 +143,7 @@ pub fn search(
       domain = facts domain.now;
       flow = flow;
       notes = notes.now;
+      left_out = left_out.now;
       copy_on = copy_on flight.now.flight.carried;
     }) events.now missed) }
 {
@@ -150,6 +153,7 @@ pub fn search(
         view: &view,
         flow: domain.topology().flow(flow),
         notes,
+        left_out,
         interfaces,
         firsts: &firsts,
     };

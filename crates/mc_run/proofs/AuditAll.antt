@@ -1,21 +1,21 @@
--- What is written of all flows and behind them, and what it says of the files.
+-- What is written of all flows, before and behind them, and what it says of the files.
 use Rattle.std.proofs.Common.{◌≡◌, ℕ, Bool, List, ◌++◌, length, Option, Some, None, Result, Err}
-use Rattle.std.proofs.Common.{sym, ap, subst, ◌∙◌, append_assoc}
-use Rattle.std.specs.Prelude.{◌==◌, IfOk, IfSome, flat_map}
+use Rattle.std.proofs.Common.{refl, sym, ap, subst, ◌∙◌, append_assoc}
+use Rattle.std.specs.Prelude.{◌==◌, ◌&&◌, IfOk, IfSome, flat_map}
 use Rattle.mc_layout.specs.Files.{FileText}
 use Rattle.mc_tables.specs.Notes.{NotesText}
 use Rattle.mc_topology.specs.Topology.{TopologyValue}
 use Rattle.mc_forward.specs.Domains.{DomainValue}
-use Rattle.mc_forward.specs.ListedTables.{SaysTheSame}
+use Rattle.mc_forward.specs.ListedTables.{SaysTheSame, facts}
+use Rattle.mc_cert.specs.Certificate.{Tree}
+use Rattle.mc_domain.specs.LeftOut.{AreRouters, left_out_files}
 use Rattle.mc_domain.specs.Meaning.{FilesMeanListed, OfDomain}
 use Rattle.mc_domain.specs.NotesOfFiles.{AreNotesOf}
-use Rattle.mc_explain.specs.UnlistedText.{unlisted_text}
-use Rattle.mc_run.specs.AuditEnd.{are_right, count, is_right, is_unwanted, is_wrong}
-use Rattle.mc_run.specs.AuditEnd.{strict_lines, summary_by, summary_line}
+use Rattle.mc_run.specs.AuditEnd.{are_right, begin_lines, count as count_of, end_by, is_right}
+use Rattle.mc_run.specs.AuditEnd.{is_unwanted, is_wrong, verdict_told}
 use Rattle.mc_run.specs.AuditPieces.{AreFlowsPushed, yes_of}
-use Rattle.mc_run.specs.AuditRun.{IsAudited, MeansNoted, NotedValue}
-use Rattle.mc_run.specs.CheckRun.{SaysYes}
-use Rattle.mc_run.specs.VerdictText.{last_line}
+use Rattle.mc_run.specs.AuditRun.{AuditSaysYes, IsAudited, MeansNoted, NotedValue, is_whole, is_yes}
+use Rattle.mc_run.specs.AuditRun.{left_out}
 use Rattle.mc_run.specs.declared.audit_options.AuditOptions.{AuditOptions}
 use Rattle.mc_run.specs.declared.audit_said.AuditAnswer.{AuditAnswer}
 use Rattle.mc_run.specs.declared.fault.RunFault.{RunFault}
@@ -27,74 +27,79 @@ use Rattle.mc_run.proofs.AuditFlows.{none_wrong}
 
 -- ---- one text
 
-four : (a b c l r : List ℕ) → ((((a ++ b) ++ c) ++ r) ++ l) ≡ a ++ ((b ++ (c ++ r)) ++ l)
-four a b c l r =
-    ap (λ xs. xs ++ l) (append_assoc (a ++ b) c r ∙ append_assoc a b (c ++ r))
-    ∙ append_assoc a (b ++ (c ++ r)) l
+-- whether a list of names is empty, as it is counted
+abbrev none_left_out : (v : NotedValue) (k : ℕ) → length v.without ≡ k
+    → (length v.without == 0) ≡ (k == 0)
+none_left_out v k same = ap (λ (n : ℕ). n == 0) same
 
-pub all_audited : (v : NotedValue) (o : AuditOptions) (s : Standings) (t : TopologyValue)
-    (flows : ℕ) (every : Bool) (lines unlisted summary strict text : List ℕ)
-    → t ≡ v.domain.topology
-    → AreFlowsPushed v o (length v.domain.topology.flows) s lines
-    → unlisted ≡ lines ++ unlisted_text t v.notes → flows ≡ length t.flows
-    → summary ≡ unlisted ++ summary_by flows s.right s.wrong s.unwanted
-    → strict ≡ summary ++ strict_lines o.strict (s.wrong == 0) s.unwanted → every ≡ (s.wrong == 0)
-    → text ≡ strict ++ last_line every → IsAudited v o every text
-all_audited v o s t flows every lines unlisted summary strict text same to puts_unlisted size
-    puts_summary puts_strict is_yes puts_last =
+pub all_audited : (v : NotedValue) (o : AuditOptions) (s : Standings) (told : List Tree)
+    (marks : List Bool) (count : ℕ) (every : Bool) (begin lines text : List ℕ)
+    → marks ≡ left_out v → length v.without ≡ count → begin ≡ begin_lines o (facts v.domain) marks
+    → AreFlowsPushed v o (length v.domain.topology.flows) s told begin lines
+    → every ≡ ((count == 0) && (s.wrong == 0))
+    → text ≡ lines ++ (end_by o v.domain.topology v.notes marks every
+    (length v.domain.topology.flows) s.right s.wrong s.unwanted ++ verdict_told o.json every)
+    → IsAudited v o every text
+all_audited v o s told marks count every begin lines text same size begins to is ends =
     let answers = to.answers in
-    let all : (s.wrong == 0) ≡ are_right answers =
-    ap (λ (n : ℕ). n == 0) to.wrong ∙ none_wrong answers in
+    let t = v.domain.topology in
     let ours = flat_map (λ a. a.lines) answers in
-    let told = unlisted_text v.domain.topology v.notes in
-    let counts = summary_line answers in
-    let asked = strict_lines o.strict (are_right answers) (count is_unwanted answers) in
-    let last = last_line (are_right answers) in
-    let first : unlisted ≡ ours ++ told =
-    puts_unlisted ∙ ap (λ (u : TopologyValue). lines ++ unlisted_text u v.notes) same
-    ∙ ap (λ xs. xs ++ told) to.spelled in
-    let number : flows ≡ length answers =
-    size ∙ ap (λ (u : TopologyValue). length u.flows) same ∙ sym to.count_is in
-    let second : summary ≡ (ours ++ told) ++ counts =
-    puts_summary ∙ ap (λ xs. xs ++ summary_by flows s.right s.wrong s.unwanted) first
-    ∙ ap (λ (n : ℕ). (ours ++ told) ++ summary_by n s.right s.wrong s.unwanted) number
-    ∙ ap (λ (n : ℕ). (ours ++ told) ++ summary_by (length answers) n s.wrong s.unwanted) to.right
-    ∙ ap (λ (n : ℕ). (ours ++ told)
-    ++ summary_by (length answers) (count is_right answers) n s.unwanted) to.wrong
-    ∙ ap (λ (n : ℕ). (ours ++ told)
-    ++ summary_by (length answers) (count is_right answers) (count is_wrong answers) n)
-    to.unwanted in
-    let third : strict ≡ ((ours ++ told) ++ counts) ++ asked =
-    puts_strict ∙ ap (λ xs. xs ++ strict_lines o.strict (s.wrong == 0) s.unwanted) second
-    ∙ ap (λ (b : Bool). ((ours ++ told) ++ counts) ++ strict_lines o.strict b s.unwanted) all
-    ∙ ap (λ (n : ℕ). ((ours ++ told) ++ counts)
-    ++ strict_lines o.strict (are_right answers) n) to.unwanted in
+    let right : (s.wrong == 0) ≡ are_right answers =
+    ap (λ (n : ℕ). n == 0) to.wrong ∙ none_wrong answers in
+    let answer : every ≡ is_yes v answers =
+    is ∙ ap (λ (b : Bool). b && (s.wrong == 0)) (sym (none_left_out v count size))
+    ∙ ap (λ (b : Bool). is_whole v && b) right in
+    let first : begin ≡ begin_lines o (facts v.domain) (left_out v) =
+    begins ∙ ap (begin_lines o (facts v.domain)) same in
+    let end = λ (ms : List Bool) (b : Bool) (n r w u : ℕ).
+    end_by o t v.notes ms b n r w u ++ verdict_told o.json b in
+    let last : end marks every (length t.flows) s.right s.wrong s.unwanted
+    ≡ end (left_out v) (is_yes v answers) (length answers) (count_of is_right answers)
+    (count_of is_wrong answers) (count_of is_unwanted answers) =
+    ap (λ (ms : List Bool). end ms every (length t.flows) s.right s.wrong s.unwanted) same
+    ∙ ap (λ (b : Bool). end (left_out v) b (length t.flows) s.right s.wrong s.unwanted) answer
+    ∙ ap (λ (n : ℕ). end (left_out v) (is_yes v answers) n s.right s.wrong s.unwanted)
+    (sym to.count_is)
+    ∙ ap (λ (n : ℕ). end (left_out v) (is_yes v answers) (length answers) n s.wrong s.unwanted)
+    to.right
+    ∙ ap (λ (n : ℕ). end (left_out v) (is_yes v answers) (length answers)
+    (count_of is_right answers) n s.unwanted) to.wrong
+    ∙ ap (λ (n : ℕ). end (left_out v) (is_yes v answers) (length answers)
+    (count_of is_right answers) (count_of is_wrong answers) n) to.unwanted in
+    let behind = end (left_out v) (is_yes v answers) (length answers) (count_of is_right answers)
+    (count_of is_wrong answers) (count_of is_unwanted answers) in
     record {
       answers = answers;
       are_answers = record { count = to.count_is; each = to.each };
-      answer = is_yes ∙ all;
-      spelled = puts_last ∙ ap (λ xs. xs ++ last_line every) third
-          ∙ ap (λ (b : Bool). (((ours ++ told) ++ counts) ++ asked) ++ last_line b) (is_yes ∙ all)
-          ∙ four ours told counts last asked;
+      answer = answer;
+      spelled = ends ∙ ap (λ xs. lines ++ xs) last ∙ ap (λ xs. xs ++ behind) to.spelled
+          ∙ ap (λ xs. (xs ++ ours) ++ behind) first
+          ∙ append_assoc (begin_lines o (facts v.domain) (left_out v)) ours behind;
     }
 
 -- ---- the files
 
 -- what holds of the domain that was read, with its notes, holds of what the files mean
-pub noted_same : (Holds : NotedValue → Type 0) (told : Option (List FileText)) (d : DomainValue)
-    (notes : List NotesText)
-    → ((whole : DomainValue) → SaysTheSame whole d → Holds (record { domain = d; notes = notes })
-    → Holds (record { domain = whole; notes = notes }))
-    → IfSome told (λ files. FilesMeanListed files d)
-    → IfSome told (λ files. AreNotesOf files d.topology notes)
-    → Holds (record { domain = d; notes = notes }) → IfSome told (OfDomain MeansNoted Holds)
-noted_same Holds None d notes moves means noted holds = tt
-noted_same Holds (Some files) d notes moves means noted holds = record {
-  domain = record { domain = means.whole; notes = notes };
-  means = (
-    means.means,
-    subst (λ (t : TopologyValue). AreNotesOf files t notes) (sym means.same.topology) noted,
-  );
+pub noted_same : (Holds : NotedValue → Type 0) (o : AuditOptions) (names : List (List ℕ))
+    (told : Option (List FileText)) (d : DomainValue) (notes : List NotesText)
+    → ((whole : DomainValue) → SaysTheSame whole d
+    → Holds (record { domain = d; notes = notes; without = names })
+    → Holds (record { domain = whole; notes = notes; without = names }))
+    → IfSome told (λ files. FilesMeanListed (left_out_files names files) d)
+    → AreRouters d.topology names
+    → IfSome told (λ files. AreNotesOf o.unlisted (left_out_files names files) d.topology notes)
+    → Holds (record { domain = d; notes = notes; without = names })
+    → IfSome told (OfDomain (MeansNoted o names) Holds)
+noted_same Holds o names None d notes moves means routers noted holds = tt
+noted_same Holds o names (Some files) d notes moves means routers noted holds = record {
+  domain = record { domain = means.whole; notes = notes; without = names };
+  means = record {
+    means = means.means;
+    routers = subst (λ (t : TopologyValue). AreRouters t names) (sym means.same.topology) routers;
+    notes = subst (λ (t : TopologyValue).
+        AreNotesOf o.unlisted (left_out_files names files) t notes) (sym means.same.topology) noted;
+    without = refl;
+  };
   holds = moves means.whole means.same holds;
 }
 
@@ -110,10 +115,10 @@ pub write_so : (Q : Type 0) (r : Result AuditAnswer RunFault) (s : Result Bool R
 write_so Q r s same follows fails = follows (sym same ∙ ap yes_of fails)
 
 pub yes_so : (Q : Type 0) (r : Result AuditAnswer RunFault) (s : Result Bool RunFault)
-    (old new : Option (List ℕ)) → yes_of r ≡ s → (SaysYes s old new → Q)
-    → SaysYes (yes_of r) old new → Q
+    (old new : Option (List ℕ)) → yes_of r ≡ s → (AuditSaysYes s old new → Q)
+    → AuditSaysYes (yes_of r) old new → Q
 yes_so Q r s old new same follows says =
-    follows (subst (λ (t : Result Bool RunFault). SaysYes t old new) same says)
+    follows (subst (λ (t : Result Bool RunFault). AuditSaysYes t old new) same says)
 
 -- what is said is what was to be said
 pub said_parts : (s t : Result Said RunFault) (y : Result Bool RunFault) (old new : Option (List ℕ))

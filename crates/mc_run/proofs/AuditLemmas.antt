@@ -3,40 +3,44 @@ use Rattle.std.proofs.Common.{◌≡◌, ℕ, zero, suc, inl, inr, Bool, true, f
 use Rattle.std.proofs.Common.{length}
 use Rattle.std.proofs.Common.{Option, Some, None, Result, Ok, Err, refl, sym, ap, subst, ◌∙◌, arith}
 use Rattle.std.proofs.Common.{append_assoc}
-use Rattle.std.specs.Prelude.{◌&&◌, ◌↔◌, ◌⊎◌, IfErr, IfOk, IfSome, IsTrue, flat_map, map}
-use Rattle.std.specs.Prelude.{slice_get}
+use Rattle.std.specs.Prelude.{◌&&◌, ◌==◌, ◌↔◌, ◌⊎◌, IfErr, IfOk, IfSome, IsTrue, flat_map, map}
+use Rattle.std.specs.Prelude.{slice_get, take}
 use Rattle.std.specs.String.{string_bytes}
-use Rattle.std.proofs.lemmas.Bool.{false≢true}
+use Rattle.std.proofs.lemmas.Bool.{false≢true, ne_eqb}
 use Rattle.std.proofs.lemmas.List.{length-map}
 use Rattle.mc_layout.specs.Files.{FileText}
 use Rattle.mc_topology.specs.declared.flow.Flow.{Flow}
 use Rattle.mc_theory.specs.Certificates.{IsRight}
 use Rattle.mc_theory.specs.Headline.{HeadlineHolds}
 use Rattle.mc_forward.specs.Domains.{DomainValue, net_of}
-use Rattle.mc_forward.specs.ListedTables.{facts}
+use Rattle.mc_forward.specs.ListedTables.{DomainFacts, facts}
 use Rattle.mc_forward.proofs.EachLemmas.{some-at}
 use Rattle.mc_cert.specs.Certificate.{Tree, tree_at}
 use Rattle.mc_explain.specs.WantedText.{wanting}
 use Rattle.mc_maker.specs.Examined.{IfCertified, is_certified}
 use Rattle.mc_maker.specs.declared.examination.Examined.{Examined}
 use Rattle.mc_maker.specs.declared.examination.Examined.TheVariants.{Certified, Found}
-use Rattle.mc_run.specs.AuditEnd.{FlowAnswer, are_right, end_lines}
+use Rattle.mc_json.specs.FlowData.{wrong_of}
+use Rattle.mc_json.specs.WhyData.{why_data}
+use Rattle.mc_run.specs.AuditEnd.{FlowAnswer, are_right, begin_lines, end_lines, verdict_told}
 use Rattle.mc_run.specs.AuditPieces.{said_of}
 use Rattle.mc_run.specs.Failures.{is_write}
 use Rattle.mc_run.specs.AuditRun.{AreAnswers, HeadlineOf, IsAnswer, IsAudited, IsAuditText, IsChecked}
 use Rattle.mc_run.specs.AuditRun.{KeepsByLists, MeansNoted, NotedValue, SaysFlowRight, SaysOfEach}
-use Rattle.mc_run.specs.AuditRun.{SaysWhatIsFound, SaysWhichAreRight, SaysYesOf, TellsOfEach}
-use Rattle.mc_run.specs.AuditRun.{TellsWhichAreRight}
-use Rattle.mc_run.specs.AuditText.{Explanation, answer_lines, events_told, explanation_lines}
-use Rattle.mc_run.specs.AuditText.{right_lines}
+use Rattle.mc_run.specs.AuditRun.{SaysNoCertificate, SaysWhatIsFound, SaysWhichAreRight, SaysYesOf}
+use Rattle.mc_run.specs.AuditRun.{TellsOfEach, TellsWhichAreRight, is_whole, is_yes, left_out}
+use Rattle.mc_run.specs.AuditRun.{ways_told}
+use Rattle.mc_run.specs.AuditText.{Explanation, events_told, explanation_lines}
+use Rattle.mc_run.specs.AuditTold.{answer_lines, right_told, wrong_by, wrong_told}
 use Rattle.mc_run.specs.AuditReasons.{IsExplanation}
 use Rattle.mc_tables.specs.Notes.{NotesText}
 use Rattle.mc_maker.specs.Flown.{IsFlown}
 use Rattle.mc_maker.specs.declared.flown.Flown.{Flown}
-use Rattle.mc_domain.specs.Meaning.{MeansFiles, OfDomain}
+use Rattle.mc_replay.specs.declared.travel.Travel.{Travel}
+use Rattle.mc_domain.specs.LeftOut.{left_out_files}
+use Rattle.mc_domain.specs.Meaning.{MeansFiles}
 use Rattle.mc_run.specs.MakeRun.{AreExamined, AreRight, IsExamined, are_certified, found_line}
 use Rattle.mc_run.specs.MakeRun.{lists_of, no_certificate_line}
-use Rattle.mc_run.specs.VerdictText.{last_line}
 use Rattle.mc_run.specs.declared.audit_options.AuditOptions.{AuditOptions}
 use Rattle.mc_run.specs.declared.audit_said.AuditSaid.{AuditSaid}
 use Rattle.mc_run.specs.declared.fault.RunFault.{RunFault}
@@ -81,6 +85,15 @@ listed_at (Certified entries ∷ xs) zero x all at P holds =
     subst (λ (y : Examined). IfCertified P y) same holds
 listed_at (Certified entries ∷ xs) (suc k) x all at P holds = listed_at xs k x all at P holds
 
+-- what both say each says
+whole_of : (a b : Bool) → (a && b) ≡ true → a ≡ true
+whole_of true b both = refl
+whole_of false b both = absurd (false≢true both)
+
+right_of : (a b : Bool) → (a && b) ≡ true → b ≡ true
+right_of true b both = both
+right_of false b both = absurd (false≢true both)
+
 -- where all flows are certified, the headline holds of each
 pub audit_keeps : (v : NotedValue) (o : AuditOptions) (all : Bool) (written : List ℕ)
     → IsAudited v o all written → all ≡ true → KeepsByLists v.domain
@@ -96,7 +109,8 @@ audit_keeps v o all written a is =
           let x = some-at xs flow
           (omega (arith, lt, length-map a.answers (λ (b : FlowAnswer). b.examined) ∙ size)) in
           let there = mapped-at (λ (b : FlowAnswer). b.examined) a.answers flow x.0 x.1 in
-          listed_at xs flow x.0 (all_right a.answers ∙ sym a.answer ∙ is) x.1
+          listed_at xs flow x.0 (all_right a.answers
+          ∙ right_of (is_whole v) (are_right a.answers) (sym a.answer ∙ is)) x.1
           (λ es. HeadlineHolds (net_of v.domain flow) (length es))
           (subst (λ (y : Examined). IfCertified
           (λ es. HeadlineHolds (net_of v.domain flow) (length es)) y) there.2
@@ -110,21 +124,25 @@ lines_all : (answers : List FlowAnswer)
 lines_all [] = refl
 lines_all (a ∷ answers) = ap (λ more. a.lines ++ more) (lines_all answers)
 
--- the lines, what stands behind them, and last whether all flows are right
+-- what stands before the lines, they, what stands behind them, and last whether all is well
 lines_spelled : (v : NotedValue) (o : AuditOptions) (all : Bool) (written : List ℕ)
-    (a : IsAudited v o all written) → written ≡ flat_map (λ ls. ls) (map (λ b. b.lines) a.answers)
-    ++ (end_lines o v.domain.topology v.notes a.answers ++ last_line all)
+    (a : IsAudited v o all written)
+    → written ≡ begin_lines o (facts v.domain) (left_out v)
+    ++ (flat_map (λ ls. ls) (map (λ b. b.lines) a.answers)
+    ++ (end_lines o v.domain.topology v.notes (left_out v) all a.answers ++ verdict_told o.json all))
 lines_spelled v o all written a =
-    let end = end_lines o v.domain.topology v.notes a.answers in
+    let begin = begin_lines o (facts v.domain) (left_out v) in
+    let end = λ (b : Bool). end_lines o v.domain.topology v.notes (left_out v) b a.answers
+    ++ verdict_told o.json b in
     a.spelled
-    ∙ ap (λ ls. ls ++ (end ++ last_line (are_right a.answers))) (lines_all a.answers)
-    ∙ ap (λ b. flat_map (λ ls. ls) (map (λ c. c.lines) a.answers) ++ (end ++ last_line b))
-    (sym a.answer)
+    ∙ ap (λ ls. begin ++ (ls ++ end (is_yes v a.answers))) (lines_all a.answers)
+    ∙ ap (λ b. begin ++ (flat_map (λ ls. ls) (map (λ c. c.lines) a.answers) ++ end b)) (sym a.answer)
 
 -- what holds of each flow's answer holds of the lines at its place
 told_each : (P : ℕ → Flow → List ℕ → Type 0) (v : NotedValue) (o : AuditOptions)
     (answers : List FlowAnswer) → AreAnswers v o answers
-    → ((flow : ℕ) (a : FlowAnswer) (is : IsAnswer v o flow a) → P flow is.listed a.lines)
+    → ((told : List Tree) (flow : ℕ) (a : FlowAnswer) (is : IsAnswer v o told flow a)
+    → P flow is.listed a.lines)
     → (flow : ℕ) (f : Flow) (ls : List ℕ) → slice_get v.domain.topology.flows flow ≡ Some f
     → slice_get (map (λ a. a.lines) answers) flow ≡ Some ls → P flow f ls
 told_each P v o answers are holds flow f ls listed told =
@@ -133,69 +151,90 @@ told_each P v o answers are holds flow f ls listed told =
     let stands = is.stands in
     let same : is.listed ≡ f = cc in
     subst (λ (g : Flow). P flow g ls) same
-    (subst (λ (xs : List ℕ). P flow is.listed xs) here.2 (holds flow here.0 is))
+    (subst (λ (xs : List ℕ). P flow is.listed xs) here.2
+    (holds (ways_told o (take flow answers)) flow here.0 is))
 
-line_right : (o : AuditOptions) (d : DomainValue) (notes : List NotesText) (flow : ℕ) (f : Flow)
+-- what is said of a flow that isn't right begins so
+none_said : (o : AuditOptions) (d : DomainFacts) (notes : List NotesText) (flow : ℕ) (f : Flow)
+    (ttl : ℕ) (travel : Travel) (e : Explanation) (lines : List ℕ)
+    → lines ≡ wrong_told o d notes flow f ttl travel e → SaysNoCertificate o.json flow f lines
+none_said o d notes flow f ttl travel e lines is = by o.json is
+  where
+    by : (json : Bool) → lines ≡ wrong_by json o.travels d notes flow f ttl travel e
+        → SaysNoCertificate json flow f lines
+    by true is = (
+      wrong_of d.topology ttl travel.finding travel.events.items e.also
+          (why_data d notes flow f e.told e.search) o.travels,
+      is,
+    )
+    by false is = (
+      found_line d.topology ttl travel.finding
+          ++ (explanation_lines d notes flow f e ++ events_told o.travels d.topology travel),
+      is ∙ append_assoc (no_certificate_line f) (found_line d.topology ttl travel.finding)
+          (explanation_lines d notes flow f e ++ events_told o.travels d.topology travel),
+    )
+
+line_right : (v : NotedValue) (o : AuditOptions) (told : List Tree) (flow : ℕ) (f : Flow)
     (x : Examined) (e : Explanation) (wanted lines : List ℕ)
-    → (IsTrue (is_certified x) ↔ IsRight (net_of d flow))
-    → lines ≡ answer_lines o (facts d) notes flow f x e wanted
-    → SaysFlowRight o d.topology f (net_of d flow) wanted lines
-line_right o d notes flow f (Certified entries) e wanted lines right is = record {
-  right = λ _. (length entries.items, is);
+    → (IsTrue (is_certified x) ↔ IsRight (net_of v.domain flow))
+    → wanted ≡ wanting (facts v.domain) flow
+    → lines ≡ answer_lines o (is_whole v) (facts v.domain) v.notes told flow f x e wanted
+    → SaysFlowRight v o flow f lines
+line_right v o told flow f (Certified entries) e wanted lines right wants is = record {
+  right = λ _. (
+    told,
+    entries.items,
+    is ∙ ap (λ (w : List ℕ).
+        right_told o (is_whole v) v.domain.topology told flow f entries.items w) wants,
+  );
   wrong = λ not. absurd (not (right.0 refl));
 }
-line_right o d notes flow f (Found ttl travel) e wanted lines right is =
-    let why = explanation_lines (facts d) notes flow f e in
-    let events = events_told o.travels d.topology travel in
-    record {
-      right = λ so. absurd (false≢true (right.1 so));
-      wrong = λ _. (
-        found_line d.topology ttl travel.finding ++ (why ++ events),
-        is ∙ append_assoc (no_certificate_line f) (found_line d.topology ttl travel.finding)
-            (why ++ events),
-      );
-    }
+line_right v o told flow f (Found ttl travel) e wanted lines right wants is = record {
+  right = λ so. absurd (false≢true (right.1 so));
+  wrong = λ _. none_said o (facts v.domain) v.notes flow f ttl travel e lines is;
+}
 
 -- each flow's lines say whether it is right, and the answer whether all are
 pub audit_right : (v : NotedValue) (o : AuditOptions) (all : Bool) (written : List ℕ)
-    → IsAudited v o all written → TellsWhichAreRight v.domain o all written
+    → IsAudited v o all written → TellsWhichAreRight v o all written
 audit_right v o all written a =
     let d = v.domain in
     let answers = a.answers in
     let are = a.are_answers in
     record {
+      begin = begin_lines o (facts d) (left_out v);
       lines = map (λ b. b.lines) answers;
-      end = end_lines o d.topology v.notes answers;
+      end = end_lines o d.topology v.notes (left_out v) all answers;
+      right = are_right answers;
       count = length-map answers (λ (b : FlowAnswer). b.lines) ∙ are.count;
-      each = told_each (λ flow f ls.
-          SaysFlowRight o d.topology f (net_of d flow) (wanting (facts d) flow) ls) v o answers are
-          (λ flow b is. subst (λ (w : List ℕ).
-          SaysFlowRight o d.topology is.listed (net_of d flow) w b.lines) is.wanted
-          (line_right o d v.notes flow is.listed b.examined is.explanation b.wanted b.lines
-          is.checked.examined.right is.spelled));
+      each = told_each (λ flow f ls. SaysFlowRight v o flow f ls) v o answers are
+          (λ told flow b is. line_right v o told flow is.listed b.examined is.explanation b.wanted
+          b.lines is.checked.examined.right is.wanted is.spelled);
       spelled = lines_spelled v o all written a;
-      answer = subst (AreRight d) (all_right answers ∙ sym a.answer)
+      are_right = subst (AreRight d) (all_right answers)
           (certified_right d (examinations answers) (examined_of v o answers are));
+      answer = a.answer;
     }
 
 -- ---- what each flow's lines say
 
-line_so : (v : NotedValue) (o : AuditOptions) (flow : ℕ) (f : Flow) (x : Examined) (flown : Flown)
-    (e : Explanation) (wanted lines : List ℕ) → IsFlown v.domain flow flown
-    → IsChecked v.domain flow x → IsExplanation v.domain v.notes flow flown e
+line_so : (v : NotedValue) (o : AuditOptions) (told : List Tree) (flow : ℕ) (f : Flow) (x : Examined)
+    (flown : Flown) (e : Explanation) (wanted lines : List ℕ) → IsFlown v.domain flow flown
+    → IsChecked v.domain flow x → IsExplanation v.domain v.notes (left_out v) flow flown e
     → wanted ≡ wanting (facts v.domain) flow
-    → lines ≡ answer_lines o (facts v.domain) v.notes flow f x e wanted
+    → lines ≡ answer_lines o (is_whole v) (facts v.domain) v.notes told flow f x e wanted
     → SaysYesOf v o flow f lines ⊎ SaysWhatIsFound v o flow f lines
-line_so v o flow f (Certified entries) flown e wanted lines flies checked explained wants is =
+line_so v o told flow f (Certified entries) flown e wanted lines flies checked explained wants is =
     inl (record {
       list = entries.items;
+      told = told;
       right = checked.examined.right.0 refl;
       accepted = checked.examined.accepted;
       headline = checked.headline;
-      spelled = is
-          ∙ ap (λ w. right_lines o.faults v.domain.topology f (length entries.items) w) wants;
+      spelled = is ∙ ap (λ (w : List ℕ).
+          right_told o (is_whole v) v.domain.topology told flow f entries.items w) wants;
     })
-line_so v o flow f (Found ttl travel) flown e wanted lines flies checked explained wants is =
+line_so v o told flow f (Found ttl travel) flown e wanted lines flies checked explained wants is =
     inr (record {
       ttl = ttl;
       travel = travel;
@@ -217,61 +256,69 @@ audit_each v o all written a =
     let answers = a.answers in
     let are = a.are_answers in
     record {
+      begin = begin_lines o (facts v.domain) (left_out v);
       lines = map (λ b. b.lines) answers;
-      end = end_lines o v.domain.topology v.notes answers;
+      end = end_lines o v.domain.topology v.notes (left_out v) all answers;
       count = length-map answers (λ (b : FlowAnswer). b.lines) ∙ are.count;
       each = told_each (λ flow f ls. SaysYesOf v o flow f ls ⊎ SaysWhatIsFound v o flow f ls) v o answers
-          are (λ flow b is. line_so v o flow is.listed b.examined is.flown is.explanation b.wanted
-          b.lines is.flies is.checked is.explained is.wanted is.spelled);
+          are (λ told flow b is. line_so v o told flow is.listed b.examined is.flown is.explanation
+          b.wanted b.lines is.flies is.checked is.explained is.wanted is.spelled);
       spelled = lines_spelled v o all written a;
     }
 
 -- ---- so it is of what the run has to say
 
--- what follows of a domain with its notes follows of the files
-noted_meant : (Holds : NotedValue → Type 0) (More : DomainValue → Type 0)
-    → ((v : NotedValue) → Holds v → More v.domain) → (files : List FileText)
-    → OfDomain MeansNoted Holds files → OfDomain MeansFiles More files
-noted_meant Holds More follows files is = record {
-  domain = is.domain.domain;
-  means = is.means.0;
-  holds = follows is.domain is.holds;
-}
+pub right_said : (told : Option (List FileText)) (o : AuditOptions) (names : List (List ℕ))
+    (s : Result Said RunFault) → AreSaid told (IsAuditText o names) s
+    → AreSaid told (SaysWhichAreRight o names) s
+right_said told o names s =
+    said_so told (IsAuditText o names) (SaysWhichAreRight o names) s (λ files all written.
+    more_meant (MeansNoted o names) (λ v. IsAudited v o all written)
+    (λ v. TellsWhichAreRight v o all written) (λ v. audit_right v o all written) files)
 
-pub right_said : (told : Option (List FileText)) (o : AuditOptions) (s : Result Said RunFault)
-    → AreSaid told (IsAuditText o) s → AreSaid told (SaysWhichAreRight o) s
-right_said told o s =
-    said_so told (IsAuditText o) (SaysWhichAreRight o) s (λ files all written.
-    noted_meant (λ v. IsAudited v o all written) (λ d. TellsWhichAreRight d o all written)
-    (λ v. audit_right v o all written) files)
-
-pub each_said : (told : Option (List FileText)) (o : AuditOptions) (s : Result Said RunFault)
-    → AreSaid told (IsAuditText o) s → AreSaid told (SaysOfEach o) s
-each_said told o s =
-    said_so told (IsAuditText o) (SaysOfEach o) s (λ files all written.
-    more_meant MeansNoted (λ v. IsAudited v o all written) (λ v. TellsOfEach v o all written)
+pub each_said : (told : Option (List FileText)) (o : AuditOptions) (names : List (List ℕ))
+    (s : Result Said RunFault) → AreSaid told (IsAuditText o names) s
+    → AreSaid told (SaysOfEach o names) s
+each_said told o names s =
+    said_so told (IsAuditText o names) (SaysOfEach o names) s (λ files all written.
+    more_meant (MeansNoted o names) (λ v. IsAudited v o all written) (λ v. TellsOfEach v o all written)
     (λ v. audit_each v o all written) files)
 
-pub headline_kept : (told : Option (List FileText)) (o : AuditOptions) (s : Result Said RunFault)
-    → AreSaid told (IsAuditText o) s
+-- where nothing is left out, the files are as they are
+no_names : (files : List FileText) (names : List (List ℕ)) (d : DomainValue) → (length names == 0) ≡ true
+    → MeansFiles (left_out_files names files) d → MeansFiles files d
+no_names files [] d none means = means
+no_names files (name ∷ names) d none means = absurd (not_none (length names) none)
+  where
+    not_none : (n : ℕ) → (suc n == 0) ≡ true → ⊥
+    not_none n same = false≢true (sym (ne_eqb (suc n) 0 (λ e. omega (arith, e))) ∙ same)
+
+pub headline_kept : (told : Option (List FileText)) (o : AuditOptions) (names : List (List ℕ))
+    (s : Result Said RunFault) → AreSaid told (IsAuditText o names) s
     → IfOk s (λ said. IsTrue said.yes → IfSome told HeadlineOf)
-headline_kept told o (Err fault) says = tt
-headline_kept None o (Ok said) says = λ yes. tt
-headline_kept (Some files) o (Ok said) says = λ yes. record {
-  domain = says.domain.domain;
-  means = says.means.0;
-  holds = audit_keeps says.domain o said.yes (string_bytes said.text) says.holds yes;
-}
+headline_kept told o names (Err fault) says = tt
+headline_kept None o names (Ok said) says = λ yes. tt
+headline_kept (Some files) o names (Ok said) says = λ yes.
+    let v = says.domain in
+    let whole : (length names == 0) ≡ true =
+    ap (λ (ns : List (List ℕ)). length ns == 0) (sym says.means.without)
+    ∙ whole_of (is_whole v) (are_right says.holds.answers) (sym says.holds.answer ∙ yes) in
+    record {
+      domain = v.domain;
+      means = no_names files names v.domain whole says.means.means;
+      holds = audit_keeps v o said.yes (string_bytes said.text) says.holds yes;
+    }
 
 -- ---- the text, and the number beside it
 
 -- what is to be said is right of what was handed
-pub said_alone : (told : Option (List FileText)) (o : AuditOptions) (r : Result AuditSaid RunFault)
+pub said_alone : (told : Option (List FileText)) (o : AuditOptions) (names : List (List ℕ))
+    (r : Result AuditSaid RunFault)
     → IfOk r (λ audit. IfSome told (λ files.
-    IsAuditText o files audit.said.yes (string_bytes audit.said.text)))
-    → AreSaid told (IsAuditText o) (said_of r)
-said_alone told o (Ok audit) says = says
-said_alone told o (Err fault) says = tt
+    IsAuditText o names files audit.said.yes (string_bytes audit.said.text)))
+    → AreSaid told (IsAuditText o names) (said_of r)
+said_alone told o names (Ok audit) says = says
+said_alone told o names (Err fault) says = tt
 
 -- and is no fault of the output's
 pub no_write_said : (r : Result AuditSaid RunFault) → IfErr r (λ fault. is_write fault ≡ false)

@@ -4,7 +4,8 @@ pub mod AuditLemmas
 pub mod AuditLines
 pub mod CertifiedLemmas
 pub mod CheckLemmas
-pub mod LookLemmas
+pub mod EndsLemmas
+mod LookLemmas
 pub mod MakeLemmas
 pub mod MissedLemmas
 pub mod PackingLemmas

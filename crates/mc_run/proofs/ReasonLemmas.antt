@@ -1,18 +1,19 @@
--- What was written to explain a finding explains it.
-use Rattle.std.proofs.Common.{◌≡◌, ℕ, ◌<◌, List, ◌++◌, length, Option, Some, None, Result, Ok}
+-- What explains a finding, and how that is written.
+use Rattle.std.proofs.Common.{◌≡◌, ℕ, ◌<◌, Bool, List, ◌++◌, length, Option, Some, None, Result, Ok}
 use Rattle.std.proofs.Common.{Err, refl, sym, ap, subst, ◌∙◌, append_assoc}
 use Rattle.std.specs.Prelude.{OnOk, slice_get}
-use Rattle.mc_tables.specs.Notes.{NotesText}
 use Rattle.mc_topology.specs.declared.flow.Flow.{Flow}
+use Rattle.mc_topology.specs.Topology.{TopologyValue}
 use Rattle.mc_theory.specs.Events.{Event}
 use Rattle.mc_theory.specs.Findings.{IsTravel}
-use Rattle.mc_theory.specs.Flights.{Copy, start}
+use Rattle.mc_theory.specs.Flights.{start}
 use Rattle.mc_forward.specs.Domains.{DomainValue, net_of}
-use Rattle.mc_forward.specs.ListedTables.{DomainFacts, facts}
+use Rattle.mc_forward.specs.ListedTables.{facts}
 use Rattle.mc_replay.specs.FindingValues.{finding_value}
 use Rattle.mc_replay.specs.declared.finding.Finding.{Finding}
 use Rattle.mc_replay.specs.declared.finding.Finding.TheVariants.{Missed}
 use Rattle.mc_replay.specs.declared.travel.Ended.{Ended}
+use Rattle.mc_replay.specs.declared.travel.Travel.{Travel}
 use Rattle.mc_maker.specs.Examined.{first_choices}
 use Rattle.mc_maker.specs.Flown.{HasEnded, IsFlown}
 use Rattle.mc_maker.specs.declared.flown.Flown.{Flown}
@@ -20,14 +21,19 @@ use Rattle.mc_maker.specs.declared.flown.Flown.TheVariants.{AtGreatest, AtLeast}
 use Rattle.mc_explain.specs.Explained.{IsExplained}
 use Rattle.mc_explain.specs.ExplanationText.{told_lines}
 use Rattle.mc_explain.specs.SearchReach.{IsSearched}
-use Rattle.mc_explain.specs.SearchText.{search_text}
-use Rattle.mc_explain.specs.WantedText.{missed_too_text}
+use Rattle.mc_explain.specs.Searched.{Search}
+use Rattle.mc_explain.specs.WantedText.{missed_besides, missed_too_text}
 use Rattle.mc_explain.specs.declared.searching.LanSearch.{LanSearch}
 use Rattle.mc_explain.specs.declared.told.Told.{Told}
-use Rattle.mc_run.specs.AuditPieces.{IsExplanationPushed}
-use Rattle.mc_run.specs.AuditReasons.{IsExplanation, IsSearchOn, missed_besides, search_by}
-use Rattle.mc_run.specs.AuditRun.{NotedValue}
-use Rattle.mc_run.specs.AuditText.{Explanation, searched_lines}
+use Rattle.mc_json.specs.FlowData.{found_line, wrong_line}
+use Rattle.mc_json.specs.WhyData.{why_data}
+use Rattle.mc_run.specs.AuditObjects.{wrong_object}
+use Rattle.mc_run.specs.AuditPieces.{explanation_in}
+use Rattle.mc_run.specs.AuditReasons.{IsExplanation, IsSearchOn, search_by}
+use Rattle.mc_run.specs.AuditRun.{NotedValue, left_out}
+use Rattle.mc_run.specs.AuditText.{Explanation, events_told, explanation_lines, searched_lines}
+use Rattle.mc_run.specs.AuditText.{wrong_lines}
+use Rattle.mc_run.specs.MakeRun.{found_lines}
 use Rattle.mc_run.proofs.MissedLemmas.{missed_within}
 
 -- ---- a search
@@ -43,108 +49,133 @@ lan_missed d flow ttl lan ended has same =
     (subst (λ (x : Finding). IsTravel n count first_choices.numbers first_choices.last run.picks
     (start n ttl) (finding_value x)) same run.travel)
 
--- what is told of a LAN is told where the travel missed one
-pub search_told : {A X : Type 0} (d : DomainFacts) (notes : List NotesText) (flow : ℕ)
-    (copies : List Copy) (events : List Event) (finding : Finding) (lan : ℕ) (found : LanSearch)
-    (flows : List Flow) (r : Result A X) (old new : List ℕ) → finding ≡ Missed lan
-    → IsSearched (search_by d notes flow copies) events lan found
-    → OnOk r ((f : Flow) → slice_get flows flow ≡ Some f
-    → new ≡ old ++ search_text d notes flow f found.lines.items found.reach.sent_on.items
-    found.reach.took_none.items)
-    → OnOk r ((f : Flow) → slice_get flows flow ≡ Some f → (x : Option LanSearch)
-    × IsSearchOn (search_by d notes flow copies) events finding x
-    × (new ≡ old ++ searched_lines d notes flow f x))
-search_told d notes flow copies events finding lan found flows (Err e) old new same is puts = tt
-search_told d notes flow copies events finding lan found flows (Ok a) old new same is puts =
-    λ f at. (
-      Some found,
-      subst (λ (x : Finding). IsSearchOn (search_by d notes flow copies) events x (Some found))
-          (sym same) is,
-      puts f at,
-    )
+-- what is found of a LAN is found where the travel missed one
+pub search_found : (s : Search) (events read : List Event) (finding : Finding) (lan : ℕ)
+    (found : LanSearch) → finding ≡ Missed lan → read ≡ events → IsSearched s read lan found
+    → IsSearchOn s events finding (Some found)
+search_found s events read finding lan found same whole is =
+    subst (λ (x : Finding). IsSearchOn s events x (Some found)) (sym same)
+    (subst (λ (es : List Event). IsSearched s es lan found) whole is)
 
--- ---- all of it
+-- ---- what explains it
+
+-- a travel that ended so is one of the domain's flow
+pub greatest_ended : (d : DomainValue) (flow : ℕ) (x : Flown) (ended : Ended) → x ≡ AtGreatest ended
+    → IsFlown d flow x → HasEnded d flow 255 ended
+greatest_ended d flow x ended same flies = subst (λ (y : Flown). IsFlown d flow y) same flies
+
+pub least_ended : (d : DomainValue) (flow : ℕ) (x : Flown) (greatest least : Ended)
+    → x ≡ AtLeast greatest least → IsFlown d flow x → HasEnded d flow (net_of d flow).ttl least
+least_ended d flow x greatest least same flies =
+    (let both : IsFlown d flow (AtLeast greatest least) =
+    subst (λ (y : Flown). IsFlown d flow y) same flies in both.2)
 
 -- which LANs were missed besides is told of the domain's flow
-besides : (d : DomainValue) (flow ttl : ℕ) (ended : Ended) (old new : List ℕ)
-    → HasEnded d flow ttl ended
-    → new ≡ old ++ missed_too_text ended.flight.domain.topology (missed_besides
-    (facts ended.flight.domain) ended.flight.flow ended.flight.flight.carried ended.travel.finding)
-    → new ≡ old ++ missed_too_text d.topology (missed_besides (facts d) flow
-    ended.flight.flight.carried ended.travel.finding)
-besides d flow ttl ended old new has puts =
+besides : (d : DomainValue) (flow ttl : ℕ) (ended : Ended) → HasEnded d flow ttl ended
+    → missed_besides (facts ended.flight.domain) ended.flight.flow ended.flight.flight.carried
+    ended.travel.finding
+    ≡ missed_besides (facts d) flow ended.flight.flight.carried ended.travel.finding
+besides d flow ttl ended has =
     let cs = ended.flight.flight.carried in
     let x = ended.travel.finding in
-    puts
-    ∙ ap (λ (e : DomainValue). old ++ missed_too_text e.topology
-    (missed_besides (facts e) ended.flight.flow cs x)) has.domain
-    ∙ ap (λ (n : ℕ). old ++ missed_too_text d.topology (missed_besides (facts d) n cs x))
-    has.flow_flown
+    ap (λ (e : DomainValue). missed_besides (facts e) ended.flight.flow cs x) has.domain
+    ∙ ap (λ (n : ℕ). missed_besides (facts d) n cs x) has.flow_flown
 
-pub greatest_explained : {A X : Type 0} (v : NotedValue) (flow : ℕ) (x : Flown) (ended : Ended)
-    (r : Result A X) (old one two new : List ℕ) → x ≡ AtGreatest ended → IsFlown v.domain flow x
-    → ((f : Flow) → slice_get v.domain.topology.flows flow ≡ Some f → (told : List Told)
-    × IsExplained v.domain flow x told
-    × (one ≡ old ++ told_lines (facts v.domain) v.notes flow f told))
-    → ((f : Flow) → slice_get v.domain.topology.flows flow ≡ Some f → (s : Option LanSearch)
-    × IsSearchOn (search_by (facts v.domain) v.notes flow ended.flight.flight.carried)
-    ended.travel.events.items ended.travel.finding s
-    × (two ≡ one ++ searched_lines (facts v.domain) v.notes flow f s))
-    → OnOk r (new ≡ two ++ missed_too_text ended.flight.domain.topology (missed_besides
-    (facts ended.flight.domain) ended.flight.flow ended.flight.flight.carried ended.travel.finding))
-    → OnOk r ((f : Flow) → slice_get v.domain.topology.flows flow ≡ Some f
-    → IsExplanationPushed v flow f x old new)
-greatest_explained v flow x ended (Err e) old one two new same flies reasons searched puts = tt
-greatest_explained v flow x ended (Ok a) old one two new same flies reasons searched puts =
-    λ f at.
-    let d = v.domain in
-    let has : HasEnded d flow 255 ended = subst (λ (y : Flown). IsFlown d flow y) same flies in
-    let why = reasons f at in
-    let search = searched f at in
-    let also = missed_besides (facts d) flow ended.flight.flight.carried ended.travel.finding in
-    let e : Explanation = record { told = why.0; search = search.0; also = also } in
-    let first = told_lines (facts d) v.notes flow f why.0 in
-    let second = searched_lines (facts d) v.notes flow f search.0 in
-    let third = missed_too_text d.topology also in
-    record {
-      explanation = e;
-      explained = subst (λ (y : Flown). IsExplanation d v.notes flow y e) (sym same) (record {
-        told = subst (λ (y : Flown). IsExplained d flow y why.0) same why.1;
-        search = search.1;
-        also = refl;
-      });
-      spelled = besides d flow 255 ended two new has puts ∙ ap (λ xs. xs ++ third) search.2
-          ∙ ap (λ xs. (xs ++ second) ++ third) why.2
-          ∙ append_assoc (old ++ first) second third ∙ append_assoc old first (second ++ third);
-    }
+pub greatest_explained : (v : NotedValue) (flow : ℕ) (x : Flown) (ended : Ended) (told : List Told)
+    (found : Option LanSearch) → x ≡ AtGreatest ended → IsFlown v.domain flow x
+    → IsExplained v.domain flow x told
+    → IsSearchOn (search_by (facts v.domain) v.notes (left_out v) flow ended.flight.flight.carried)
+    ended.travel.events.items ended.travel.finding found
+    → IsExplanation v.domain v.notes (left_out v) flow x (explanation_in ended told found)
+greatest_explained v flow x ended told found same flies why search =
+    subst (λ (y : Flown). IsExplanation v.domain v.notes (left_out v) flow y
+    (explanation_in ended told found)) (sym same) (record {
+      told = subst (λ (y : Flown). IsExplained v.domain flow y told) same why;
+      search = search;
+      also = besides v.domain flow 255 ended (greatest_ended v.domain flow x ended same flies);
+    })
 
-pub least_explained : {A X : Type 0} (v : NotedValue) (flow : ℕ) (x : Flown) (greatest least : Ended)
-    (r : Result A X) (old one new : List ℕ) → x ≡ AtLeast greatest least → IsFlown v.domain flow x
-    → ((f : Flow) → slice_get v.domain.topology.flows flow ≡ Some f → (told : List Told)
-    × IsExplained v.domain flow x told
-    × (one ≡ old ++ told_lines (facts v.domain) v.notes flow f told))
-    → OnOk r (new ≡ one ++ missed_too_text least.flight.domain.topology (missed_besides
-    (facts least.flight.domain) least.flight.flow least.flight.flight.carried least.travel.finding))
+pub least_explained : (v : NotedValue) (flow : ℕ) (x : Flown) (greatest least : Ended)
+    (told : List Told) → x ≡ AtLeast greatest least → IsFlown v.domain flow x
+    → IsExplained v.domain flow x told
+    → IsExplanation v.domain v.notes (left_out v) flow x (explanation_in least told None)
+least_explained v flow x greatest least told same flies why =
+    subst (λ (y : Flown). IsExplanation v.domain v.notes (left_out v) flow y
+    (explanation_in least told None)) (sym same) (record {
+      told = subst (λ (y : Flown). IsExplained v.domain flow y told) same why;
+      search = refl;
+      also = besides v.domain flow (net_of v.domain flow).ttl least
+          (least_ended v.domain flow x greatest least same flies);
+    })
+
+-- ---- how it is written
+
+-- as text
+pub explained : {A X : Type 0} (v : NotedValue) (flow : ℕ) (ended : Ended) (told : List Told)
+    (found : Option LanSearch) (r : Result A X) (old one two new : List ℕ)
+    → ended.flight.domain ≡ v.domain
+    → ((f : Flow) → slice_get v.domain.topology.flows flow ≡ Some f
+    → one ≡ old ++ told_lines (facts v.domain) v.notes flow f told)
+    → ((f : Flow) → slice_get v.domain.topology.flows flow ≡ Some f
+    → two ≡ one ++ searched_lines (facts v.domain) v.notes flow f found)
+    → OnOk r (new ≡ two ++ missed_too_text ended.flight.domain.topology
+    (missed_besides (facts ended.flight.domain) ended.flight.flow ended.flight.flight.carried
+    ended.travel.finding))
     → OnOk r ((f : Flow) → slice_get v.domain.topology.flows flow ≡ Some f
-    → IsExplanationPushed v flow f x old new)
-least_explained v flow x greatest least (Err e) old one new same flies reasons puts = tt
-least_explained v flow x greatest least (Ok a) old one new same flies reasons puts =
+    → new ≡ old ++ explanation_lines (facts v.domain) v.notes flow f
+    (explanation_in ended told found))
+explained v flow ended told found (Err e) old one two new here first second third = tt
+explained v flow ended told found (Ok a) old one two new here first second third =
     λ f at.
-    let d = v.domain in
-    let both : IsFlown d flow (AtLeast greatest least) =
-    subst (λ (y : Flown). IsFlown d flow y) same flies in
-    let why = reasons f at in
-    let also = missed_besides (facts d) flow least.flight.flight.carried least.travel.finding in
-    let e : Explanation = record { told = why.0; search = None; also = also } in
-    let first = told_lines (facts d) v.notes flow f why.0 in
-    let third = missed_too_text d.topology also in
-    record {
-      explanation = e;
-      explained = subst (λ (y : Flown). IsExplanation d v.notes flow y e) (sym same) (record {
-        told = subst (λ (y : Flown). IsExplained d flow y why.0) same why.1;
-        search = refl;
-        also = refl;
-      });
-      spelled = besides d flow (net_of d flow).ttl least one new both.2 puts
-          ∙ ap (λ xs. xs ++ third) why.2 ∙ append_assoc old first third;
-    }
+    let also = (explanation_in ended told found).also in
+    let lines = told_lines (facts v.domain) v.notes flow f told in
+    let search = searched_lines (facts v.domain) v.notes flow f found in
+    let missed = missed_too_text v.domain.topology also in
+    third ∙ ap (λ (d : DomainValue). two ++ missed_too_text d.topology also) here
+    ∙ ap (λ xs. xs ++ missed) (second f at) ∙ ap (λ xs. (xs ++ search) ++ missed) (first f at)
+    ∙ append_assoc (old ++ lines) search missed ∙ append_assoc old lines (search ++ missed)
+
+pub wrong_written : {A X : Type 0} (v : NotedValue) (flow ttl : ℕ) (travels : Bool) (travel : Travel)
+    (e : Explanation) (t : TopologyValue) (f : Flow) (r : Result A X) (old one two new : List ℕ)
+    → t ≡ v.domain.topology → slice_get t.flows flow ≡ Some f
+    → one ≡ old ++ found_lines t f ttl travel.finding
+    → ((g : Flow) → slice_get v.domain.topology.flows flow ≡ Some g
+    → two ≡ one ++ explanation_lines (facts v.domain) v.notes flow g e)
+    → OnOk r (new ≡ two ++ events_told travels t travel)
+    → OnOk r ((g : Flow) → slice_get v.domain.topology.flows flow ≡ Some g
+    → new ≡ old ++ wrong_lines travels (facts v.domain) v.notes flow g ttl travel e)
+wrong_written v flow ttl travels travel e t f (Err x) old one two new same here first second third = tt
+wrong_written v flow ttl travels travel e t f (Ok a) old one two new same here first second third =
+    λ g at.
+    let there = subst (λ (u : TopologyValue). slice_get u.flows flow ≡ Some f) same here in
+    let is : f ≡ g = cc in
+    let begun = found_lines v.domain.topology g ttl travel.finding in
+    let why = explanation_lines (facts v.domain) v.notes flow g e in
+    let events = events_told travels v.domain.topology travel in
+    let puts : one ≡ old ++ begun =
+    first ∙ ap (λ (u : TopologyValue). old ++ found_lines u f ttl travel.finding) same
+    ∙ ap (λ (h : Flow). old ++ found_lines v.domain.topology h ttl travel.finding) is in
+    third ∙ ap (λ (u : TopologyValue). two ++ events_told travels u travel) same
+    ∙ ap (λ xs. xs ++ events) (second g at) ∙ ap (λ xs. (xs ++ why) ++ events) puts
+    ∙ append_assoc (old ++ begun) why events ∙ append_assoc old begun (why ++ events)
+
+-- in JSON
+pub object_written : {A X : Type 0} (v : NotedValue) (flow ttl : ℕ) (travels : Bool) (ended : Ended)
+    (told : List Told) (found seen : Option LanSearch) (r : Result A X) (old new : List ℕ)
+    → ended.flight.domain ≡ v.domain → found ≡ seen
+    → OnOk r ((f : Flow) → slice_get v.domain.topology.flows flow ≡ Some f
+    → new ≡ old ++ found_line flow f ended ttl (why_data (facts v.domain) v.notes flow f told seen)
+    travels)
+    → OnOk r ((f : Flow) → slice_get v.domain.topology.flows flow ≡ Some f
+    → new ≡ old ++ wrong_object travels (facts v.domain) v.notes flow f ttl ended.travel
+    (explanation_in ended told found))
+object_written v flow ttl travels ended told found seen (Err e) old new here same puts = tt
+object_written v flow ttl travels ended told found seen (Ok a) old new here same puts =
+    λ f at.
+    let also = (explanation_in ended told found).also in
+    puts f at
+    ∙ ap (λ (d : DomainValue). old ++ wrong_line (facts d) flow f ttl ended.travel.finding
+    ended.travel.events.items also (why_data (facts v.domain) v.notes flow f told seen) travels) here
+    ∙ ap (λ (s : Option LanSearch). old ++ wrong_line (facts v.domain) flow f ttl ended.travel.finding
+    ended.travel.events.items also (why_data (facts v.domain) v.notes flow f told s) travels)
+    (sym same)

@@ -1,8 +1,8 @@
 -- What a run shows of what it was handed, of its devices, and of what it says.
 use Rattle.std.proofs.Common.{◌≡◌, ℕ, Bool, true, false, List, [], ◌∷◌, ◌++◌, length, take, drop}
-use Rattle.std.proofs.Common.{inl, inr, Option, Some, None, Result, Ok, Err}
+use Rattle.std.proofs.Common.{◌⊎◌, inl, inr, Option, Some, None, Result, Ok, Err}
 use Rattle.std.proofs.Common.{refl, sym, ap, subst, ◌∙◌, arith, append_assoc}
-use Rattle.std.specs.Prelude.{◌+◌, cond, IfErr, IfOk, IfSome, IsTrue, Vec, codes, is_some}
+use Rattle.std.specs.Prelude.{◌+◌, ◌<◌, cond, IfErr, IfOk, IfSome, IsTrue, Vec, codes, is_some}
 use Rattle.std.specs.declared.alloc.Global.{Global}
 use Rattle.std.specs.String.{string_bytes}
 use Rattle.std.specs.Io.KnownBytes.{Appends}
@@ -26,7 +26,8 @@ use Rattle.mc_domain.specs.SourceFault.{IsSilent}
 use Rattle.mc_domain.specs.declared.source_fault.SourceFault.{SourceFault}
 use Rattle.mc_domain.specs.declared.source_fault.SourceFault.TheVariants as source
 use Rattle.mc_run.specs.InputMeaning.{IsRefusedFor, MeansListedWith, MeansWithLists}
-use Rattle.mc_run.specs.CheckRun.{IsLineStart, SaysYes, WroteYes}
+use Rattle.mc_run.specs.AuditRun.{AuditSaysYes, yes_object}
+use Rattle.mc_run.specs.CheckRun.{IsLineStart, SaysYes, WroteAtStart}
 use Rattle.mc_text.specs.Device.{counted}
 use Rattle.mc_run.specs.Failures.{IsNoDeviceFault, is_read, is_write}
 use Rattle.mc_run.specs.Said.{Answers, IsSaid, Writes, WritesPart}
@@ -223,62 +224,105 @@ pub cancel : (xs ys zs : List ℕ) → xs ++ ys ≡ xs ++ zs → ys ≡ zs
 cancel [] ys zs same = same
 cancel (x ∷ xs) ys zs same = cancel xs ys zs cc
 
--- the bytes `verdict yes` stand in a text, at a line's start
-abbrev pub HasYes : List ℕ → Type 0
-HasYes text =
-    (front rest : List ℕ) × IsLineStart front × (text ≡ front ++ (codes "verdict yes" ++ rest))
+-- with these words a line says yes: those of text, or an object
+abbrev pub AreYes : (words : List ℕ) → Type 0
+AreYes words = (words ≡ codes "verdict yes") ⊎ (words ≡ yes_object)
+
+-- these words stand in a text, at a line's start
+abbrev pub HasLine : (words text : List ℕ) → Type 0
+HasLine words text =
+    (front rest : List ℕ) × IsLineStart front × (text ≡ front ++ (words ++ rest))
+
+are_some : (words : List ℕ) → AreYes words → 0 < length words
+are_some words (inl is) = omega (arith, ap (λ (w : List ℕ). length w) is)
+are_some words (inr is) = omega (arith, ap (λ (w : List ℕ). length w) is)
 
 -- nothing was written where the output is as it was
-not_wrote : (old : Option (List ℕ)) → WroteYes old old → ⊥
-not_wrote None wrote = wrote
-not_wrote (Some xs) (front, rest, starts, same) =
+not_wrote : (words : List ℕ) (old : Option (List ℕ)) → AreYes words → WroteAtStart words old old → ⊥
+not_wrote words None are wrote = wrote
+not_wrote words (Some xs) are (front, rest, starts, same) =
     let size = ap (λ (bytes : List ℕ). length bytes) same in
+    let some = are_some words are in
     absurd (omega (
       arith,
       size,
-      length-append xs (front ++ (codes "verdict yes" ++ rest)),
-      length-append front (codes "verdict yes" ++ rest),
-      length-append (codes "verdict yes") rest,
+      length-append xs (front ++ (words ++ rest)),
+      length-append front (words ++ rest),
+      length-append words rest,
     ))
 
 -- where they were written, with a text or a part of it, they stand in the text
-wrote_yes : (text : List ℕ) (k : ℕ) (old new : Option (List ℕ)) → Appends old new (take k text)
-    → WroteYes old new → HasYes text
-wrote_yes text k None new puts wrote = absurd wrote
-wrote_yes text k (Some xs) None puts wrote = absurd wrote
-wrote_yes text k (Some xs) (Some ys) puts (front, rest, starts, is) =
-    let more = codes "verdict yes" ++ rest in
+wrote_line : (words text : List ℕ) (k : ℕ) (old new : Option (List ℕ)) → Appends old new (take k text)
+    → WroteAtStart words old new → HasLine words text
+wrote_line words text k None new puts wrote = absurd wrote
+wrote_line words text k (Some xs) None puts wrote = absurd wrote
+wrote_line words text k (Some xs) (Some ys) puts (front, rest, starts, is) =
+    let more = words ++ rest in
     let part : take k text ≡ front ++ more = cancel xs _ _ (sym puts ∙ is) in
-    let whole : text ≡ front ++ (codes "verdict yes" ++ (rest ++ drop k text)) =
+    let whole : text ≡ front ++ (words ++ (rest ++ drop k text)) =
     sym (take-append-drop k text) ∙ ap (λ zs. zs ++ drop k text) part
-    ∙ append_assoc front more (drop k text) in
+    ∙ append_assoc front more (drop k text)
+    ∙ ap (λ zs. front ++ zs) (append_assoc words rest (drop k text)) in
     (front, rest ++ drop k text, starts, whole)
 
--- Where a text with these bytes says yes, and yes has its headline, so has a run that says yes.
-pub headline_said : {X : Type 0} (told : Option X) (Says : X → Bool → List ℕ → Type 0)
+-- Where what is said says yes with a line of these words, and yes has its headline,
+abbrev pub SaysYesBy : {X : Type 0} → (words : List ℕ) → (X → Bool → List ℕ → Type 0) → Type 0
+SaysYesBy {X} words Says =
+    (x : X) (answer : Bool) (written : List ℕ) → Says x answer written → HasLine words written
+    → answer ≡ true
+
+-- so has a run that wrote them,
+wrote_so : {X : Type 0} (words : List ℕ) (told : Option X) (Says : X → Bool → List ℕ → Type 0)
     (Headline : X → Type 0) (s : Result Said RunFault) (r : Result Bool RunFault)
-    (old new : Option (List ℕ))
-    → ((x : X) (answer : Bool) (written : List ℕ) → Says x answer written → HasYes written
-    → answer ≡ true)
-    → AreSaid told Says s → IfOk s (λ said. IsTrue said.yes → IfSome told Headline)
-    → IsSaid s r old new → SaysYes r old new → IfSome told Headline
-headline_said None Says Headline s r old new last says keeps is says_yes = tt
-headline_said (Some x) Says Headline (Ok said) (Ok answer) old new last says keeps is (inl ok) =
-    let true_is : answer ≡ true = cc in
-    keeps (sym is.0 ∙ true_is)
-headline_said (Some x) Says Headline (Ok said) (Ok answer) old new last says keeps is (inr wrote) =
+    (old new : Option (List ℕ)) → AreYes words → SaysYesBy words Says → AreSaid told Says s
+    → IfOk s (λ said. IsTrue said.yes → IfSome told Headline) → IsSaid s r old new
+    → WroteAtStart words old new → IfSome told Headline
+wrote_so words None Says Headline s r old new are last says keeps is wrote = tt
+wrote_so words (Some x) Says Headline (Ok said) (Ok answer) old new are last says keeps is wrote =
     let text = string_bytes said.text in
     let whole = subst (λ (b : List ℕ). Appends old new b)
     (sym (take_all (length text) text (omega arith))) is.1 in
-    keeps (last x said.yes text says (wrote_yes text (length text) old new whole wrote))
-headline_said (Some x) Says Headline (Ok said) (Err fault) old new last says keeps is (inl ok) =
-    absurd cc
-headline_said (Some x) Says Headline (Ok said) (Err fault) old new last says keeps is (inr wrote) =
+    keeps (last x said.yes text says (wrote_line words text (length text) old new whole wrote))
+wrote_so words (Some x) Says Headline (Ok said) (Err fault) old new are last says keeps is wrote =
     let text = string_bytes said.text in
-    keeps (last x said.yes text says (wrote_yes text is.1.0 old new is.1.2 wrote))
-headline_said (Some x) Says Headline (Err cause) (Ok answer) old new last says keeps is says_yes =
+    keeps (last x said.yes text says (wrote_line words text is.1.0 old new is.1.2 wrote))
+wrote_so words (Some x) Says Headline (Err cause) (Ok answer) old new are last says keeps is wrote =
     absurd is
-headline_said (Some x) Says Headline (Err cause) (Err fault) old new last says keeps is (inl ok) =
-    absurd cc
-headline_said (Some x) Says Headline (Err cause) (Err fault) old new last says keeps is (inr wrote) =
-    absurd (not_wrote old (subst (λ (o : Option (List ℕ)). WroteYes old o) is.1 wrote))
+wrote_so words (Some x) Says Headline (Err cause) (Err fault) old new are last says keeps is wrote =
+    absurd (not_wrote words old are
+    (subst (λ (o : Option (List ℕ)). WroteAtStart words old o) is.1 wrote))
+
+-- and one that answers true.
+true_so : (Keeps : Type 0) (s : Result Said RunFault) (r : Result Bool RunFault)
+    (old new : Option (List ℕ)) → IfOk s (λ said. IsTrue said.yes → Keeps) → IsSaid s r old new
+    → r ≡ Ok true → Keeps
+true_so Keeps (Ok said) (Ok answer) old new keeps is ok =
+    let true_is : answer ≡ true = cc in
+    keeps (sym is.0 ∙ true_is)
+true_so Keeps (Ok said) (Err fault) old new keeps is ok = absurd cc
+true_so Keeps (Err cause) (Ok answer) old new keeps is ok = absurd is
+true_so Keeps (Err cause) (Err fault) old new keeps is ok = absurd cc
+
+-- So has a check that says yes,
+pub headline_said : {X : Type 0} (told : Option X) (Says : X → Bool → List ℕ → Type 0)
+    (Headline : X → Type 0) (s : Result Said RunFault) (r : Result Bool RunFault)
+    (old new : Option (List ℕ)) → SaysYesBy (codes "verdict yes") Says → AreSaid told Says s
+    → IfOk s (λ said. IsTrue said.yes → IfSome told Headline) → IsSaid s r old new
+    → SaysYes r old new → IfSome told Headline
+headline_said told Says Headline s r old new last says keeps is (inl ok) =
+    true_so (IfSome told Headline) s r old new keeps is ok
+headline_said told Says Headline s r old new last says keeps is (inr wrote) =
+    wrote_so (codes "verdict yes") told Says Headline s r old new (inl refl) last says keeps is wrote
+
+-- and an audit, which says it with a line of the one words or the other.
+pub headline_told : {X : Type 0} (told : Option X) (Says : X → Bool → List ℕ → Type 0)
+    (Headline : X → Type 0) (s : Result Said RunFault) (r : Result Bool RunFault)
+    (old new : Option (List ℕ)) → SaysYesBy (codes "verdict yes") Says → SaysYesBy yes_object Says
+    → AreSaid told Says s → IfOk s (λ said. IsTrue said.yes → IfSome told Headline)
+    → IsSaid s r old new → AuditSaysYes r old new → IfSome told Headline
+headline_told told Says Headline s r old new last object says keeps is (inl ok) =
+    true_so (IfSome told Headline) s r old new keeps is ok
+headline_told told Says Headline s r old new last object says keeps is (inr (inl wrote)) =
+    wrote_so (codes "verdict yes") told Says Headline s r old new (inl refl) last says keeps is wrote
+headline_told told Says Headline s r old new last object says keeps is (inr (inr wrote)) =
+    wrote_so yes_object told Says Headline s r old new (inr refl) object says keeps is wrote

@@ -1,7 +1,7 @@
 -- What a run says of one domain holds of another one that says the same of each flow.
 use Rattle.std.proofs.Common.{◌≡◌, ℕ, ◌<◌, Bool, List, ◌++◌, length, Option, Some, ap, refl, sym}
 use Rattle.std.proofs.Common.{subst, subst₂, ◌∙◌}
-use Rattle.std.specs.Prelude.{◌↔◌, ◌⊎◌, All, IsTrue, flat_map, slice_get}
+use Rattle.std.specs.Prelude.{◌↔◌, ◌⊎◌, ◌==◌, ◌&&◌, All, IsTrue, flat_map, slice_get, take}
 use Rattle.mc_tables.specs.Notes.{NotesText}
 use Rattle.mc_topology.specs.Topology.{TopologyValue}
 use Rattle.mc_theory.specs.Nets.{Net}
@@ -29,15 +29,17 @@ use Rattle.mc_explain.specs.Explained.{ExplainsAtLeast, ExplainsFinding, IsExpla
 use Rattle.mc_explain.specs.WantedText.{wanting}
 use Rattle.mc_explain.specs.declared.searching.LanSearch.{LanSearch}
 use Rattle.mc_explain.specs.declared.told.Told.{Told}
-use Rattle.mc_run.specs.AuditEnd.{FlowAnswer, are_right, end_lines}
+use Rattle.mc_run.specs.AuditEnd.{FlowAnswer, are_right, begin_lines, end_lines, left_out_marks}
+use Rattle.mc_run.specs.AuditEnd.{verdict_told}
 use Rattle.mc_run.specs.AuditReasons.{IsExplanation, IsSearchFor, also_missed}
-use Rattle.mc_run.specs.AuditRun.{AreAnswers, HasUnwanted, IsAnswer, IsAudited, IsChecked}
-use Rattle.mc_run.specs.AuditText.{Explanation, answer_lines}
+use Rattle.mc_run.specs.AuditRun.{AreAnswers, HasUnwanted, IsAnswer, IsAudited, IsChecked, ways_told}
+use Rattle.mc_run.specs.AuditText.{Explanation}
+use Rattle.mc_run.specs.AuditTold.{answer_lines}
 use Rattle.mc_run.specs.CheckRun.{IsTextOfVerdicts, KeepsHeadline}
 use Rattle.mc_run.specs.MakeRun.{AreExamined, IsExamined, IsTextOfMade}
 use Rattle.mc_run.specs.MakeRun.{made_text}
 use Rattle.mc_run.specs.ReplayRun.{IsTextOfTravel, replay_text}
-use Rattle.mc_run.specs.VerdictText.{AreVerdicts, IsVerdict, check_text, last_line}
+use Rattle.mc_run.specs.VerdictText.{AreVerdicts, IsVerdict, check_text}
 use Rattle.mc_run.specs.declared.audit_options.AuditOptions.{AuditOptions}
 
 -- what holds of a domain by its topology and its flows' nets alone holds of one that says the same
@@ -246,12 +248,12 @@ same_told same flow (flown.AtLeast greatest least) told is =
     over (λ t n. ExplainsAtLeast (n flow) greatest.flight.flight least.flight.flight
     (finding_value least.travel.finding) told) same is
 
-same_search : (whole : DomainValue) (f : DomainFacts) (notes : List NotesText) (flow : ℕ)
-    (x : Flown) (search : Option LanSearch) → IsSearchFor f notes flow x search
-    → IsSearchFor f notes flow (flown_in whole x) search
-same_search whole f notes flow (flown.Certified entries) search is = is
-same_search whole f notes flow (flown.AtGreatest ended) search is = is
-same_search whole f notes flow (flown.AtLeast greatest least) search is = is
+same_search : (whole : DomainValue) (f : DomainFacts) (notes : List NotesText) (marks : List Bool)
+    (flow : ℕ) (x : Flown) (search : Option LanSearch) → IsSearchFor f notes marks flow x search
+    → IsSearchFor f notes marks flow (flown_in whole x) search
+same_search whole f notes marks flow (flown.Certified entries) search is = is
+same_search whole f notes marks flow (flown.AtGreatest ended) search is = is
+same_search whole f notes marks flow (flown.AtLeast greatest least) search is = is
 
 same_also : (whole : DomainValue) (f : DomainFacts) (flow : ℕ) (x : Flown)
     → also_missed f flow (flown_in whole x) ≡ also_missed f flow x
@@ -260,22 +262,24 @@ same_also whole f flow (flown.AtGreatest ended) = refl
 same_also whole f flow (flown.AtLeast greatest least) = refl
 
 same_explanation : {whole d : DomainValue} → SaysTheSame whole d → (notes : List NotesText)
-    (flow : ℕ) (x : Flown) (e : Explanation) → IsExplanation d notes flow x e
-    → IsExplanation whole notes flow (flown_in whole x) e
-same_explanation {whole = whole} {d = d} same notes flow x e is = record {
+    (names : List (List ℕ)) (flow : ℕ) (x : Flown) (e : Explanation)
+    → IsExplanation d notes (left_out_marks d.topology names) flow x e
+    → IsExplanation whole notes (left_out_marks whole.topology names) flow (flown_in whole x) e
+same_explanation {whole = whole} {d = d} same notes names flow x e is = record {
   told = same_told same flow x e.told is.told;
-  search = same_search whole (facts whole) notes flow x e.search
-      (by_facts (λ f. IsSearchFor f notes flow x e.search) same is.search);
+  search = same_search whole (facts whole) notes (left_out_marks whole.topology names) flow x e.search
+      (by_facts (λ f. IsSearchFor f notes (left_out_marks f.topology names) flow x e.search) same
+      is.search);
   also = by_facts (λ f. e.also ≡ also_missed f flow x) same is.also
       ∙ sym (same_also whole (facts whole) flow x);
 }
 
 -- the same is answered of the flow,
 same_answer : {whole d : DomainValue} → SaysTheSame whole d → (notes : List NotesText)
-    (o : AuditOptions) (flow : ℕ) (a : FlowAnswer)
-    → IsAnswer (record { domain = d; notes = notes }) o flow a
-    → IsAnswer (record { domain = whole; notes = notes }) o flow a
-same_answer {whole = whole} {d = d} same notes o flow a is = record {
+    (names : List (List ℕ)) (o : AuditOptions) (told : List Tree) (flow : ℕ) (a : FlowAnswer)
+    → IsAnswer (record { domain = d; notes = notes; without = names }) o told flow a
+    → IsAnswer (record { domain = whole; notes = notes; without = names }) o told flow a
+same_answer {whole = whole} {d = d} same notes names o told flow a is = record {
   listed = is.listed;
   flown = flown_in whole is.flown;
   explanation = is.explanation;
@@ -283,42 +287,46 @@ same_answer {whole = whole} {d = d} same notes o flow a is = record {
   flies = same_flown same flow is.flown is.flies;
   examined = is.examined ∙ sym (same_examined_by same flow is.flown);
   checked = same_checked same flow a.examined is.checked;
-  explained = same_explanation same notes flow is.flown is.explanation is.explained;
+  explained = same_explanation same notes names flow is.flown is.explanation is.explained;
   wanted = by_facts (λ f. a.wanted ≡ wanting f flow) same is.wanted;
-  spelled = by_facts (λ f. a.lines
-      ≡ answer_lines o f notes flow is.listed a.examined is.explanation a.wanted) same is.spelled;
+  spelled = by_facts (λ f. a.lines ≡ answer_lines o (length names == 0) f notes told flow is.listed
+      a.examined is.explanation a.wanted) same is.spelled;
 }
 
 -- and of each flow,
 same_answers : {whole d : DomainValue} → SaysTheSame whole d → (notes : List NotesText)
-    (o : AuditOptions) (answers : List FlowAnswer)
-    → AreAnswers (record { domain = d; notes = notes }) o answers
-    → AreAnswers (record { domain = whole; notes = notes }) o answers
-same_answers same notes o answers are = record {
+    (names : List (List ℕ)) (o : AuditOptions) (answers : List FlowAnswer)
+    → AreAnswers (record { domain = d; notes = notes; without = names }) o answers
+    → AreAnswers (record { domain = whole; notes = notes; without = names }) o answers
+same_answers same notes names o answers are = record {
   count = over (λ t n. length answers ≡ length t.flows) same are.count;
-  each = λ flow a at. same_answer same notes o flow a (are.each flow a at);
+  each = λ flow a at. same_answer same notes names o (ways_told o (take flow answers)) flow a
+      (are.each flow a at);
 }
 
 -- and what is written of all is the same,
 pub same_audited : {whole d : DomainValue} → SaysTheSame whole d → (notes : List NotesText)
-    (o : AuditOptions) (all : Bool) (written : List ℕ)
-    → IsAudited (record { domain = d; notes = notes }) o all written
-    → IsAudited (record { domain = whole; notes = notes }) o all written
-same_audited same notes o all written is = record {
+    (names : List (List ℕ)) (o : AuditOptions) (all : Bool) (written : List ℕ)
+    → IsAudited (record { domain = d; notes = notes; without = names }) o all written
+    → IsAudited (record { domain = whole; notes = notes; without = names }) o all written
+same_audited same notes names o all written is = record {
   answers = is.answers;
-  are_answers = same_answers same notes o is.answers is.are_answers;
+  are_answers = same_answers same notes names o is.answers is.are_answers;
   answer = is.answer;
-  spelled = over (λ t n. written ≡ flat_map (λ a. a.lines) is.answers
-      ++ (end_lines o t notes is.answers ++ last_line (are_right is.answers))) same is.spelled;
+  spelled = by_facts (λ f. written ≡ begin_lines o f (left_out_marks f.topology names)
+      ++ (flat_map (λ a. a.lines) is.answers
+      ++ (end_lines o f.topology notes (left_out_marks f.topology names)
+      ((length names == 0) && are_right is.answers) is.answers
+      ++ verdict_told o.json ((length names == 0) && are_right is.answers)))) same is.spelled;
 }
 
 -- and how many flows are right and unwanted
 pub same_unwanted : {whole d : DomainValue} → SaysTheSame whole d → (notes : List NotesText)
-    (o : AuditOptions) (unwanted : ℕ)
-    → HasUnwanted (record { domain = d; notes = notes }) o unwanted
-    → HasUnwanted (record { domain = whole; notes = notes }) o unwanted
-same_unwanted same notes o unwanted is = record {
+    (names : List (List ℕ)) (o : AuditOptions) (unwanted : ℕ)
+    → HasUnwanted (record { domain = d; notes = notes; without = names }) o unwanted
+    → HasUnwanted (record { domain = whole; notes = notes; without = names }) o unwanted
+same_unwanted same notes names o unwanted is = record {
   answers = is.answers;
-  are_answers = same_answers same notes o is.answers is.are_answers;
+  are_answers = same_answers same notes names o is.answers is.are_answers;
   counted = is.counted;
 }

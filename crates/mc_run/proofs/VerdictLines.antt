@@ -1,10 +1,9 @@
--- The lines of a verdict text: `verdict yes` begins none but the last, and that only where every
--- verdict is yes.
-use Rattle.std.proofs.Common.{◌≡◌, ℕ, Bool, true, false}
+-- Lines that don't say yes, as those of flows in a verdict text.
+use Rattle.std.proofs.Common.{◌≡◌, ℕ, Bool, true, false, cond}
 use Rattle.std.proofs.Common.{eqb, List, [], ◌∷◌, ◌++◌, ◌⊎◌, inl, inr}
-use Rattle.std.proofs.Common.{refl, sym, ap, subst, ◌∙◌, arith, append_assoc, append-nil}
+use Rattle.std.proofs.Common.{refl, sym, ap, subst, ◌∙◌, append_assoc, append-nil}
 use Rattle.std.specs.Prelude.{codes, slice_index, decimal}
-use Rattle.std.specs.Prelude.{drop}
+use Rattle.std.proofs.lemmas.Bool.{eq-eqb, false≢true}
 use Rattle.mc_text.specs.Addr.{dotted}
 use Rattle.mc_text.proofs.BundleWords.{Without}
 use Rattle.mc_explain.proofs.FeedLemmas.{address, lan-plain, number, plain, router-plain, words}
@@ -17,8 +16,9 @@ use Rattle.mc_check.specs.declared.verdict.Reason.TheVariants.{Stray, Extra, Wro
 use Rattle.mc_check.specs.declared.verdict.Reason.TheVariants.{Unfed, Missed, Low}
 use Rattle.mc_check.specs.declared.verdict.Verdict.{Verdict}
 use Rattle.mc_check.specs.declared.verdict.Verdict.TheVariants.{Yes, No}
-use Rattle.mc_run.specs.VerdictText.{flow_words, flow_line, flow_lines, last_line}
 use Rattle.mc_run.specs.CheckRun.{IsLineStart}
+use Rattle.mc_run.specs.VerdictText.{flow_words, flow_line, flow_lines}
+use Rattle.mc_run.proofs.RunLemmas.{AreYes}
 
 -- ---- no line feed stands in a verdict and a flow's words
 
@@ -73,23 +73,20 @@ flow_body t f v ok =
     words (flow_words f) _ (words (codes "flow ") _ (plain (codes "flow ") refl) source) last
 
 -- a flow's line is its body and a line feed
-pub line-body : (t : TopologyValue) (f : Flow) (v : Verdict) (more : List ℕ)
-    → flow_line t f v ++ more ≡ body t f v ++ (10 ∷ more)
-line-body t f v more =
-    append_assoc (flow_words f) (codes " " ++ (verdict_text t v ++ codes "\n")) more
-    ∙ ap (λ xs. flow_words f ++ (32 ∷ xs)) (append_assoc (verdict_text t v) (codes "\n") more)
-    ∙ sym (append_assoc (flow_words f) (codes " " ++ verdict_text t v) (10 ∷ more))
+pub line-body : (t : TopologyValue) (f : Flow) (v : Verdict)
+    → flow_line t f v ≡ body t f v ++ codes "\n"
+line-body t f v = sym (append_assoc (flow_words f) (codes " " ++ verdict_text t v) (codes "\n"))
 
 -- ---- where lines begin
 
 -- A text whose first line feed stands after xs, and which has one after ys: ys is xs, or goes on
 -- after it.
-pub record GoesOn (xs tail ys more : List ℕ) : Type 0 where
-  pub rest : List ℕ
-  pub begins : ys ≡ xs ++ (10 ∷ rest)
-  pub goes_on : tail ≡ rest ++ (10 ∷ more)
+record GoesOn (xs tail ys more : List ℕ) : Type 0 where
+  rest : List ℕ
+  begins : ys ≡ xs ++ (10 ∷ rest)
+  goes_on : tail ≡ rest ++ (10 ∷ more)
 
-pub first_feed : (xs tail ys more : List ℕ) → Without 10 xs → xs ++ (10 ∷ tail) ≡ ys ++ (10 ∷ more)
+first_feed : (xs tail ys more : List ℕ) → Without 10 xs → xs ++ (10 ∷ tail) ≡ ys ++ (10 ∷ more)
     → (tail ≡ more) ⊎ GoesOn xs tail ys more
 first_feed [] tail [] more none same = inl (cc)
 first_feed [] tail (y ∷ ys) more none same =
@@ -111,71 +108,114 @@ first_feed (x ∷ xs) tail (y ∷ ys) more none same =
       })
     ]
 
-none_at : (b : ℕ) (xs : List ℕ) → [] ≡ b ∷ xs → ⊥
-none_at b xs same = absurd cc
+-- a line begins after lines behind lines
+starts_both : (xs ys : List ℕ) → IsLineStart xs → IsLineStart ys → IsLineStart (xs ++ ys)
+starts_both xs ys starts (inl none) =
+    subst IsLineStart (sym (ap (λ zs. xs ++ zs) none ∙ append-nil xs)) starts
+starts_both xs ys starts (inr (before, is)) =
+    inr (xs ++ before, ap (λ zs. xs ++ zs) is ∙ sym (append_assoc xs before (codes "\n")))
 
-none_after : (ys more : List ℕ) → [] ≡ ys ++ (10 ∷ more) → ⊥
-none_after [] more same = none_at 10 more same
-none_after (y ∷ ys) more same = none_at y (ys ++ (10 ∷ more)) same
+-- what stands behind some lines has these words at a line's start
+pub record IsLeft (begin tail rest : List ℕ) : Type 0 where
+  pub front : List ℕ
+  pub starts : IsLineStart front
+  pub is : tail ≡ front ++ (begin ++ rest)
 
--- the last line begins with `verdict yes` only if all are yes, and ends with it
-pub last_says : (all : Bool) (front rest : List ℕ) → IsLineStart front
-    → last_line all ≡ front ++ (codes "verdict yes" ++ rest) → (all ≡ true) × (rest ≡ codes "\n")
-last_says true front rest (inl none) same =
-    let here : codes "verdict yes\n" ≡ codes "verdict yes" ++ rest =
-    same ∙ ap (λ xs. xs ++ (codes "verdict yes" ++ rest)) none in
-    (refl, sym (ap (λ (xs : List ℕ). drop 11 xs) here))
-last_says true front rest (inr (before, is)) same =
-    let more = codes "verdict yes" ++ rest in
-    let whole : codes "verdict yes" ++ (10 ∷ []) ≡ before ++ (10 ∷ more) =
-    same ∙ ap (λ xs. xs ++ more) is ∙ append_assoc before (10 ∷ []) more in
-    elim (first_feed (codes "verdict yes") [] before more (plain (codes "verdict yes") refl) whole) [
-      | inl e ↦ absurd (none_at _ _ e)
-      | inr g ↦ absurd (none_after g.rest more g.goes_on)
-    ]
-last_says false front rest (inl none) same =
-    let here : codes "verdict no\n" ≡ codes "verdict yes" ++ rest =
-    same ∙ ap (λ xs. xs ++ (codes "verdict yes" ++ rest)) none in
-    let bad : 110 ≡ 121 = ap (λ (xs : List ℕ). slice_index xs 8) here in
-    absurd (omega (arith, bad))
-last_says false front rest (inr (before, is)) same =
-    let more = codes "verdict yes" ++ rest in
-    let whole : codes "verdict no" ++ (10 ∷ []) ≡ before ++ (10 ∷ more) =
-    same ∙ ap (λ xs. xs ++ more) is ∙ append_assoc before (10 ∷ []) more in
-    elim (first_feed (codes "verdict no") [] before more (plain (codes "verdict no") refl) whole) [
-      | inl e ↦ absurd (none_at _ _ e)
-      | inr g ↦ absurd (none_after g.rest more g.goes_on)
+-- where words stand at a line's start in a line or behind it, they begin the line or stand behind it
+pub in_line : (begin xs tail front rest : List ℕ) → Without 10 xs → IsLineStart front
+    → xs ++ (10 ∷ tail) ≡ front ++ (begin ++ rest)
+    → (xs ++ (10 ∷ tail) ≡ begin ++ rest) ⊎ IsLeft begin tail rest
+in_line begin xs tail front rest none (inl empty) same =
+    inl (same ∙ ap (λ ys. ys ++ (begin ++ rest)) empty)
+in_line begin xs tail front rest none (inr (before, is)) same =
+    let more = begin ++ rest in
+    let whole : xs ++ (10 ∷ tail) ≡ before ++ (10 ∷ more) =
+    same ∙ ap (λ ys. ys ++ more) is ∙ append_assoc before (10 ∷ []) more in
+    elim (first_feed xs tail before more none whole) [
+      | inl e ↦ inr (record { front = []; starts = inl refl; is = e })
+      | inr g ↦ inr (record {
+        front = g.rest ++ (10 ∷ []);
+        starts = inr (g.rest, refl);
+        is = g.goes_on ∙ sym (append_assoc g.rest (10 ∷ []) more);
+      })
     ]
 
-apart : (xs ys : List ℕ) → (let f : List ℕ = 102 ∷ xs in f) ≡ 118 ∷ ys → ⊥
-apart xs ys same = let bad : 102 ≡ 118 = ap (λ (zs : List ℕ). slice_index zs 0) same in absurd
-    (omega (arith, bad))
+-- ---- lines that don't say yes
 
-pub lines_say : (t : TopologyValue) (fs : List Flow) (vs : List Verdict) (all : Bool)
-    (front rest : List ℕ) → IsTopology t → IsLineStart front
-    → flow_lines t fs vs ++ last_line all ≡ front ++ (codes "verdict yes" ++ rest)
-    → (all ≡ true) × (rest ≡ codes "\n")
-lines_say t [] vs all front rest ok starts same = last_says all front rest starts same
-lines_say t (f ∷ fs) [] all front rest ok starts same = last_says all front rest starts same
-lines_say t (f ∷ fs) (v ∷ vs) all front rest ok (inl none) same =
-    absurd (apart _ _ (same ∙ ap (λ xs. xs ++ (codes "verdict yes" ++ rest)) none))
-lines_say t (f ∷ fs) (v ∷ vs) all front rest ok (inr (before, is)) same =
-    let more = codes "verdict yes" ++ rest in
-    let tail = flow_lines t fs vs ++ last_line all in
-    let whole : body t f v ++ (10 ∷ tail) ≡ before ++ (10 ∷ more) =
-    sym (line-body t f v tail)
-    ∙ sym (append_assoc (flow_line t f v) (flow_lines t fs vs) (last_line all))
-    ∙ same ∙ ap (λ xs. xs ++ more) is ∙ append_assoc before (10 ∷ []) more in
-    elim (first_feed (body t f v) tail before more (flow_body t f v ok) whole) [
-      | inl e ↦ lines_say t fs vs all [] rest ok (inl refl) e
-      | inr g ↦ lines_say t fs vs all (g.rest ++ (10 ∷ [])) rest ok (inr (g.rest, refl))
-          (g.goes_on ∙ sym (append_assoc g.rest (10 ∷ []) more))
-    ]
+-- These are whole lines, and none of them says yes: where words that do so stand at a line's start in
+-- them or behind them, they stand behind them.
+pub record AreOther (xs : List ℕ) : Type 0 where
+  pub starts : IsLineStart xs
+  pub left : (begin front rest tail : List ℕ) → AreYes begin → IsLineStart front
+      → xs ++ tail ≡ front ++ (begin ++ rest) → IsLeft begin tail rest
 
--- after a line, and what a line begins after
-pub behind : (line rest xs : List ℕ) → line ≡ xs ++ codes "\n" → IsLineStart rest
-    → IsLineStart (line ++ rest)
-behind line rest xs is (inl none) =
-    inr (xs, ap (λ ys. line ++ ys) none ∙ append-nil line ∙ is)
-behind line rest xs is (inr (before, same)) =
-    inr (line ++ before, ap (λ ys. line ++ ys) same ∙ sym (append_assoc line before (codes "\n")))
+pub none_other : AreOther []
+none_other = record {
+  starts = inl refl;
+  left = λ begin front rest tail are starts same.
+      record { front = front; starts = starts; is = same };
+}
+
+pub both_other : (xs ys : List ℕ) → AreOther xs → AreOther ys → AreOther (xs ++ ys)
+both_other xs ys p q = record {
+  starts = starts_both xs ys p.starts q.starts;
+  left = λ begin front rest tail are starts same.
+      let l = p.left begin front rest (ys ++ tail) are starts (sym (append_assoc xs ys tail) ∙ same) in
+      q.left begin l.front rest tail are l.starts l.is;
+}
+
+-- a line that such words don't begin
+pub line_other : (xs : List ℕ) → Without 10 xs
+    → ((begin tail rest : List ℕ) → AreYes begin → xs ++ (10 ∷ tail) ≡ begin ++ rest → ⊥)
+    → AreOther (xs ++ codes "\n")
+line_other xs none other = record {
+  starts = inr (xs, refl);
+  left = λ begin front rest tail are starts same.
+      elim (in_line begin xs tail front rest none starts (sym (append_assoc xs (codes "\n") tail) ∙ same)) [
+        | inl begins ↦ absurd (other begin tail rest are begins)
+        | inr left ↦ left
+      ];
+}
+
+-- the first byte is another than theirs
+abbrev pub BeginsOther : List ℕ → Type 0
+BeginsOther [] = ⊥
+BeginsOther (b ∷ xs) = (eqb b 118 ≡ false) × (eqb b 123 ≡ false)
+
+other_byte : (xs begin tail rest : List ℕ) → BeginsOther xs → AreYes begin
+    → xs ++ (10 ∷ tail) ≡ begin ++ rest → ⊥
+other_byte [] begin tail rest other are same = other
+other_byte (b ∷ xs) begin tail rest other (inl is) same =
+    let here : b ≡ 118 =
+    ap (λ (zs : List ℕ). slice_index zs 0) (same ∙ ap (λ w. w ++ rest) is) in
+    false≢true (sym other.0 ∙ eq-eqb b 118 here)
+other_byte (b ∷ xs) begin tail rest other (inr is) same =
+    let here : b ≡ 123 =
+    ap (λ (zs : List ℕ). slice_index zs 0) (same ∙ ap (λ w. w ++ rest) is) in
+    false≢true (sym other.1 ∙ eq-eqb b 123 here)
+
+-- a line of which that is so
+pub text_other : (line xs : List ℕ) → BeginsOther xs → Without 10 xs → line ≡ xs ++ codes "\n"
+    → AreOther line
+text_other line xs other none is =
+    subst AreOther (sym is)
+    (line_other xs none (λ begin tail rest are same. other_byte xs begin tail rest other are same))
+
+pub either_other : (b : Bool) (xs ys : List ℕ) → AreOther xs → AreOther ys → AreOther (cond b xs ys)
+either_other true xs ys p q = p
+either_other false xs ys p q = q
+
+-- ---- the lines of flows
+
+pub verdict_other : (t : TopologyValue) (f : Flow) (v : Verdict) → IsTopology t
+    → AreOther (flow_line t f v)
+verdict_other t f v ok =
+    text_other (flow_line t f v) (body t f v) (refl, refl) (flow_body t f v ok) (line-body t f v)
+
+pub verdicts_other : (t : TopologyValue) (fs : List Flow) (vs : List Verdict) → IsTopology t
+    → AreOther (flow_lines t fs vs)
+verdicts_other t [] vs ok = none_other
+verdicts_other t (f ∷ fs) [] ok = none_other
+verdicts_other t (f ∷ fs) (v ∷ vs) ok =
+    both_other (flow_line t f v) (flow_lines t fs vs) (verdict_other t f v ok)
+    (verdicts_other t fs vs ok)

@@ -1,13 +1,22 @@
--- What stands behind the lines of all flows: which sources and groups stand in the caches and aren't
--- listed, and how many flows are right.
-use Rattle.std.specs.Prelude.{ℕ, ◌==◌, ◌+◌, ◌&&◌, not, Bool, List, [], ◌++◌, codes, decimal, filter}
-use Rattle.std.specs.Prelude.{length, if◌then◌else◌}
-use Rattle.std.specs.List.{list_all}
+-- What stands before and behind the lines of all flows: in JSON the domain and the words of the call;
+-- which sources and groups stand in the caches and aren't listed, which routers were left out, and how
+-- many flows are right.
+use Rattle.std.specs.Prelude.{ℕ, ◌==◌, ◌+◌, ◌&&◌, not, Bool, List, [], ◌∷◌, ◌++◌, codes, decimal, filter}
+use Rattle.std.specs.Prelude.{flat_map, length, map, if◌then◌else◌}
+use Rattle.std.specs.List.{list_all, list_any}
+use Rattle.std.specs.Str.{bytes_eq}
 use Rattle.mc_tables.specs.Notes.{NotesText}
-use Rattle.mc_topology.specs.Topology.{TopologyValue}
+use Rattle.mc_topology.specs.Topology.{TopologyValue, router_name}
+use Rattle.mc_theory.specs.Lists.{below}
+use Rattle.mc_forward.specs.ListedTables.{DomainFacts}
 use Rattle.mc_maker.specs.Examined.{is_certified}
 use Rattle.mc_maker.specs.declared.examination.Examined.{Examined}
+use Rattle.mc_explain.specs.LeftOutText.{left_out_routers, left_out_text, without_text}
 use Rattle.mc_explain.specs.UnlistedText.{unlisted_text}
+use Rattle.mc_json.specs.DomainData.{domain_data}
+use Rattle.mc_json.specs.EndData.{summary_data, unlisted_lines, verdict_data, without_line}
+use Rattle.mc_json.specs.RowData.{line_of}
+use Rattle.mc_run.specs.VerdictText.{last_line}
 use Rattle.mc_run.specs.declared.audit_options.AuditOptions.{AuditOptions}
 use Rattle.mc_run.specs.declared.standing.Standing.{Standing}
 use Rattle.mc_run.specs.declared.standing.Standing.TheVariants.{Wanted, Unwanted, Wrong}
@@ -52,11 +61,6 @@ summary_by flows right wrong unwanted =
     ++ (codes " wrong " ++ (decimal wrong
     ++ (codes " unwanted " ++ (decimal unwanted ++ codes "\n")))))))
 
-abbrev pub summary_line : List FlowAnswer → List ℕ
-summary_line answers =
-    summary_by (length answers) (count is_right answers) (count is_wrong answers)
-    (count is_unwanted answers)
-
 -- where a yes isn't enough if a flow is wanted by nobody
 abbrev pub strict_lines : (strict all : Bool) → (unwanted : ℕ) → List ℕ
 strict_lines strict all unwanted =
@@ -64,8 +68,68 @@ strict_lines strict all unwanted =
     then codes "  strict: " ++ (decimal unwanted ++ codes " flows that nobody wants, status 1\n")
     else []
 
--- what stands before the last line
-abbrev pub end_lines : AuditOptions → TopologyValue → List NotesText → List FlowAnswer → List ℕ
-end_lines o t notes answers =
-    unlisted_text t notes
-    ++ (summary_line answers ++ strict_lines o.strict (are_right answers) (count is_unwanted answers))
+-- ---- routers that are left out
+
+abbrev pub is_among : (names : List (List ℕ)) → (name : List ℕ) → Bool
+is_among names name = list_any (λ other. bytes_eq other name) names
+
+-- a mark for each router, in order: whether it has one of the names
+abbrev pub left_out_marks : TopologyValue → (names : List (List ℕ)) → List Bool
+left_out_marks t names = map (λ r. is_among names (router_name t r)) (below (length t.routers))
+
+-- ---- what stands before the lines of flows
+
+abbrev pub word_if : Bool → (word : List ℕ) → List (List ℕ)
+word_if asked word = if asked then word ∷ [] else []
+
+abbrev pub words_of_router : TopologyValue → (router : ℕ) → List (List ℕ)
+words_of_router t router = codes "--without" ∷ router_name t router ∷ []
+
+-- the words that ask for these options, and leave the marked routers out
+abbrev pub option_words : AuditOptions → TopologyValue → (left_out : List Bool) → List (List ℕ)
+option_words o t left_out =
+    word_if o.travels (codes "--travel")
+    ++ (word_if o.faults (codes "--faults")
+    ++ (word_if o.unlisted (codes "--unlisted")
+    ++ (word_if o.strict (codes "--strict")
+    ++ (word_if o.json (codes "--json")
+    ++ flat_map (words_of_router t) (left_out_routers t left_out)))))
+
+-- in JSON the domain and these words, and nothing in text
+abbrev pub begin_lines : AuditOptions → DomainFacts → (left_out : List Bool) → List ℕ
+begin_lines o d left_out =
+    if o.json then line_of (domain_data d (option_words o d.topology left_out)) else []
+
+-- ---- what stands behind them, before the last line
+
+-- of so many flows, of which so many stand how, where all is right and nothing left out, or not
+abbrev pub end_text : AuditOptions → TopologyValue → List NotesText → (left_out : List Bool)
+    → (all : Bool) → (flows right wrong unwanted : ℕ) → List ℕ
+end_text o t notes left_out all flows right wrong unwanted =
+    unlisted_text o.unlisted t notes
+    ++ (without_text t left_out
+    ++ (summary_by flows right wrong unwanted
+    ++ (left_out_text t left_out ++ strict_lines o.strict all unwanted)))
+
+abbrev pub end_objects : AuditOptions → TopologyValue → List NotesText → (left_out : List Bool)
+    → (right wrong unwanted : ℕ) → List ℕ
+end_objects o t notes left_out right wrong unwanted =
+    unlisted_lines o.unlisted t notes
+    ++ (without_line t left_out ++ line_of (summary_data right unwanted wrong))
+
+abbrev pub end_by : AuditOptions → TopologyValue → List NotesText → (left_out : List Bool)
+    → (all : Bool) → (flows right wrong unwanted : ℕ) → List ℕ
+end_by o t notes left_out all flows right wrong unwanted =
+    if o.json then end_objects o t notes left_out right wrong unwanted
+    else end_text o t notes left_out all flows right wrong unwanted
+
+-- as the flows stand
+abbrev pub end_lines : AuditOptions → TopologyValue → List NotesText → (left_out : List Bool)
+    → (all : Bool) → List FlowAnswer → List ℕ
+end_lines o t notes left_out all answers =
+    end_by o t notes left_out all (length answers) (count is_right answers) (count is_wrong answers)
+    (count is_unwanted answers)
+
+-- the last line
+abbrev pub verdict_told : (json all : Bool) → List ℕ
+verdict_told json all = if json then line_of (verdict_data all) else last_line all

@@ -1,14 +1,17 @@
 -- What is written piece by piece of a domain that is audited.
-use Rattle.std.specs.Prelude.{◌≡◌, ℕ, Bool, List, ◌++◌, flat_map, length, slice_get, Some, Result, Ok}
-use Rattle.std.specs.Prelude.{Err}
+use Rattle.std.specs.Prelude.{◌≡◌, ℕ, Bool, List, ◌++◌, flat_map, length, map, slice_get, Some, take}
+use Rattle.std.specs.Prelude.{Option, Result, Ok, Err}
 use Rattle.mc_forward.specs.ListedTables.{facts}
-use Rattle.mc_topology.specs.declared.flow.Flow.{Flow}
+use Rattle.mc_cert.specs.Certificate.{Tree}
+use Rattle.mc_replay.specs.declared.travel.Ended.{Ended}
 use Rattle.mc_explain.specs.TopologyLans.{on_lans}
-use Rattle.mc_maker.specs.declared.flown.Flown.{Flown}
+use Rattle.mc_explain.specs.WantedText.{missed_besides}
+use Rattle.mc_explain.specs.declared.searching.LanSearch.{LanSearch}
+use Rattle.mc_explain.specs.declared.told.Told.{Told}
 use Rattle.mc_run.specs.AuditEnd.{FlowAnswer, count, is_right, is_unwanted, is_wrong}
-use Rattle.mc_run.specs.AuditReasons.{IsExplanation}
-use Rattle.mc_run.specs.AuditRun.{IsAnswer, NotedValue}
-use Rattle.mc_run.specs.AuditText.{Explanation, explanation_lines, standing_of}
+use Rattle.mc_run.specs.AuditRun.{IsAnswer, NotedValue, left_out, ways_told}
+use Rattle.mc_run.specs.AuditText.{Explanation}
+use Rattle.mc_run.specs.AuditTold.{standing_of, ways_with}
 use Rattle.mc_run.specs.declared.audit_options.AuditOptions.{AuditOptions}
 use Rattle.mc_run.specs.declared.audited_domain.AuditedDomain.{AuditedDomain}
 use Rattle.mc_run.specs.declared.audit_said.AuditAnswer.{AuditAnswer}
@@ -20,37 +23,48 @@ use Rattle.mc_run.specs.declared.standing.Standings.{Standings}
 
 -- what is audited, as a value
 abbrev pub noted : AuditedDomain → NotedValue
-noted a = record { domain = a.domain.now; notes = a.notes.now }
+noted a = record {
+  domain = a.domain.now;
+  notes = a.notes.now;
+  without = map (λ name. name.now) a.without.now;
+}
 
--- the interfaces are those of its LANs
-abbrev pub HasInterfaces : AuditedDomain → Type 0
-HasInterfaces a = a.interfaces.now ≡ on_lans (facts a.domain.now)
+-- the interfaces are those of its LANs, and the marks those of its routers
+pub record IsReady (a : AuditedDomain) : Type 0 where
+  pub interfaces : a.interfaces.now ≡ on_lans (facts a.domain.now)
+  pub left_out : a.left_out.now ≡ left_out (noted a)
 
--- What explains a finding was written behind what was written before.
-pub record IsExplanationPushed (v : NotedValue) (flow : ℕ) (f : Flow) (flown : Flown)
-    (old new : List ℕ) : Type 0 where
-  pub explanation : Explanation
-  pub explained : IsExplanation v.domain v.notes flow flown explanation
-  pub spelled : new ≡ old ++ explanation_lines (facts v.domain) v.notes flow f explanation
+-- what explains the finding of a travel that ended so, beside these lines and this search
+abbrev pub explanation_in : Ended → List Told → Option LanSearch → Explanation
+explanation_in ended told search = record {
+  told = told;
+  search = search;
+  also = missed_besides (facts ended.flight.domain) ended.flight.flow ended.flight.flight.carried
+      ended.travel.finding;
+}
 
--- The lines of a flow were, and it stands so.
+-- The lines of a flow were written behind what was written before, where these ways had been told, and
+-- it stands so.
 pub record IsFlowPushed (v : NotedValue) (o : AuditOptions) (flow : ℕ) (standing : Standing)
-    (old new : List ℕ) : Type 0 where
-  pub told : FlowAnswer
-  pub is : IsAnswer v o flow told
-  pub stands : standing ≡ standing_of told.examined told.wanted
-  pub spelled : new ≡ old ++ told.lines
+    (told new_told : List Tree) (old new : List ℕ) : Type 0 where
+  pub answer : FlowAnswer
+  pub is : IsAnswer v o told flow answer
+  pub stands : standing ≡ standing_of answer.examined answer.wanted
+  pub ways : new_told ≡ ways_with o told answer.examined answer.wanted
+  pub spelled : new ≡ old ++ answer.lines
 
--- The lines of the first flows were written, and so many of them stand how.
+-- The lines of the first flows were, and so many of them stand how.
 pub record AreFlowsPushed (v : NotedValue) (o : AuditOptions) (k : ℕ) (s : Standings)
-    (text : List ℕ) : Type 0 where
+    (told : List Tree) (old new : List ℕ) : Type 0 where
   pub answers : List FlowAnswer
   pub count_is : length answers ≡ k
-  pub each : (flow : ℕ) (a : FlowAnswer) → slice_get answers flow ≡ Some a → IsAnswer v o flow a
+  pub each : (flow : ℕ) (a : FlowAnswer) → slice_get answers flow ≡ Some a
+      → IsAnswer v o (ways_told o (take flow answers)) flow a
   pub right : s.right ≡ count is_right answers
   pub wrong : s.wrong ≡ count is_wrong answers
   pub unwanted : s.unwanted ≡ count is_unwanted answers
-  pub spelled : text ≡ flat_map (λ a. a.lines) answers
+  pub ways : told ≡ ways_told o answers
+  pub spelled : new ≡ old ++ flat_map (λ a. a.lines) answers
 
 -- ---- what an audit has to say
 

@@ -1,5 +1,5 @@
 -- What explains what is found of a flow, by the flights of its packets.
-use Rattle.std.specs.Prelude.{◌≡◌, ℕ, List, [], Option, Some, None}
+use Rattle.std.specs.Prelude.{◌≡◌, ℕ, Bool, List, [], Option, Some, None}
 use Rattle.mc_tables.specs.Notes.{NotesText}
 use Rattle.mc_theory.specs.Events.{Event}
 use Rattle.mc_theory.specs.Findings.{copy_on}
@@ -14,19 +14,11 @@ use Rattle.mc_maker.specs.declared.flown.Flown.TheVariants.{Certified, AtGreates
 use Rattle.mc_explain.specs.Explained.{IsExplained}
 use Rattle.mc_explain.specs.SearchReach.{IsSearched}
 use Rattle.mc_explain.specs.Searched.{Search}
-use Rattle.mc_explain.specs.WantedText.{missed_too}
+use Rattle.mc_explain.specs.WantedText.{missed_besides}
 use Rattle.mc_explain.specs.declared.searching.LanSearch.{LanSearch}
 use Rattle.mc_run.specs.AuditText.{Explanation}
 
--- where a LAN is missed, the others that want the flow and carried none of these copies
-abbrev pub missed_besides : DomainFacts → (flow : ℕ) → List Copy → Finding → List ℕ
-missed_besides d flow copies (Missed lan) = missed_too d flow copies lan
-missed_besides d flow copies Clean = []
-missed_besides d flow copies (Duplicate lan) = []
-missed_besides d flow copies (Loop lan) = []
-missed_besides d flow copies (Stray router vif) = []
-
--- by the copies of the packet of which it is told
+-- the LANs that were missed besides, by the copies of the packet of which it is told
 abbrev pub also_missed : DomainFacts → (flow : ℕ) → Flown → List ℕ
 also_missed d flow (Certified entries) = []
 also_missed d flow (AtGreatest ended) =
@@ -34,10 +26,17 @@ also_missed d flow (AtGreatest ended) =
 also_missed d flow (AtLeast greatest least) =
     missed_besides d flow least.flight.flight.carried least.travel.finding
 
--- what a search goes by for a flow whose packet was carried as these copies
-abbrev pub search_by : DomainFacts → List NotesText → (flow : ℕ) → List Copy → Search
-search_by d notes flow copies =
-    record { domain = d; flow = flow; notes = notes; copy_on = copy_on copies }
+-- what a search goes by for a flow whose packet was carried as these copies, where the marked routers
+-- are left out
+abbrev pub search_by : DomainFacts → List NotesText → (left_out : List Bool) → (flow : ℕ) → List Copy
+    → Search
+search_by d notes left_out flow copies = record {
+  domain = d;
+  flow = flow;
+  notes = notes;
+  left_out = left_out;
+  copy_on = copy_on copies;
+}
 
 -- a search, where a LAN is missed
 abbrev pub IsSearchOn : Search → List Event → Finding → Option LanSearch → Type 0
@@ -49,17 +48,17 @@ IsSearchOn s events (Loop lan) search = search ≡ None
 IsSearchOn s events (Stray router vif) search = search ≡ None
 
 -- by a packet with TTL 255
-abbrev pub IsSearchFor : DomainFacts → List NotesText → (flow : ℕ) → Flown → Option LanSearch
-    → Type 0
-IsSearchFor d notes flow (Certified entries) search = search ≡ None
-IsSearchFor d notes flow (AtGreatest ended) search =
-    IsSearchOn (search_by d notes flow ended.flight.flight.carried) ended.travel.events.items
-    ended.travel.finding search
-IsSearchFor d notes flow (AtLeast greatest least) search = search ≡ None
+abbrev pub IsSearchFor : DomainFacts → List NotesText → (left_out : List Bool) → (flow : ℕ) → Flown
+    → Option LanSearch → Type 0
+IsSearchFor d notes left_out flow (Certified entries) search = search ≡ None
+IsSearchFor d notes left_out flow (AtGreatest ended) search =
+    IsSearchOn (search_by d notes left_out flow ended.flight.flight.carried)
+    ended.travel.events.items ended.travel.finding search
+IsSearchFor d notes left_out flow (AtLeast greatest least) search = search ≡ None
 
 -- This explains what was found of a domain's flow, whose packets flew so.
-pub record IsExplanation (d : DomainValue) (notes : List NotesText) (flow : ℕ) (flown : Flown)
-    (x : Explanation) : Type 0 where
+pub record IsExplanation (d : DomainValue) (notes : List NotesText) (left_out : List Bool) (flow : ℕ)
+    (flown : Flown) (x : Explanation) : Type 0 where
   pub told : IsExplained d flow flown x.told
-  pub search : IsSearchFor (facts d) notes flow flown x.search
+  pub search : IsSearchFor (facts d) notes left_out flow flown x.search
   pub also : x.also ≡ also_missed (facts d) flow flown

@@ -1,11 +1,9 @@
 -- What `mcaudit audit` answers and writes, and what its yes is worth.
-use Rattle.std.specs.Prelude.{◌≡◌, ℕ, Bool, List, ◌++◌, flat_map, length}
-use Rattle.std.specs.Prelude.{slice_get, Some, ◌⊎◌}
+use Rattle.std.specs.Prelude.{◌≡◌, ◌==◌, ◌&&◌, ◌⊎◌, ℕ, Bool, true, false, List, [], ◌++◌, codes}
+use Rattle.std.specs.Prelude.{flat_map, fold, length, slice_get, take, Option, Some, Result, Ok}
 use Rattle.mc_layout.specs.Files.{FileText}
 use Rattle.mc_tables.specs.Notes.{NotesText}
 use Rattle.mc_topology.specs.declared.flow.Flow.{Flow}
-use Rattle.mc_topology.specs.Topology.{TopologyValue}
-use Rattle.mc_theory.specs.Nets.{Net}
 use Rattle.mc_theory.specs.Certificates.{IsAccepted, IsRight}
 use Rattle.mc_theory.specs.Headline.{HeadlineHolds}
 use Rattle.mc_forward.specs.Domains.{DomainValue, net_of}
@@ -18,23 +16,35 @@ use Rattle.mc_maker.specs.declared.examination.Examined.{Examined}
 use Rattle.mc_maker.specs.declared.flown.Flown.{Flown}
 use Rattle.mc_explain.specs.WantedText.{wanting}
 use Rattle.mc_domain.specs.Meaning.{MeansFiles, OfDomain}
+use Rattle.mc_domain.specs.LeftOut.{AreRouters, left_out_files}
 use Rattle.mc_domain.specs.NotesOfFiles.{AreNotesOf}
-use Rattle.mc_run.specs.AuditText.{Explanation, answer_lines, events_told, explanation_lines}
-use Rattle.mc_run.specs.AuditText.{right_lines}
-use Rattle.mc_run.specs.AuditEnd.{FlowAnswer, are_right, count, end_lines, is_unwanted}
+use Rattle.mc_json.specs.FlowData.{Wrong, wrong_data}
+use Rattle.mc_json.specs.RowData.{line_of}
+use Rattle.mc_run.specs.AuditEnd.{FlowAnswer, are_right, begin_lines, count, end_lines, is_unwanted}
+use Rattle.mc_run.specs.AuditEnd.{left_out_marks, verdict_told}
 use Rattle.mc_run.specs.AuditReasons.{IsExplanation}
-use Rattle.mc_run.specs.CheckRun.{KeepsHeadline}
-use Rattle.mc_run.specs.MakeRun.{AreExamined, AreRight, IsExamined, found_lines, lists_of}
-use Rattle.mc_run.specs.MakeRun.{no_certificate_line}
-use Rattle.mc_run.specs.VerdictText.{last_line}
+use Rattle.mc_run.specs.AuditText.{Explanation}
+use Rattle.mc_run.specs.AuditTold.{answer_lines, right_told, ways_with, wrong_told}
+use Rattle.mc_run.specs.CheckRun.{KeepsHeadline, WroteAtStart, WroteYes}
+use Rattle.mc_run.specs.MakeRun.{AreExamined, AreRight, IsExamined, lists_of, no_certificate_line}
 use Rattle.mc_run.specs.declared.audit_options.AuditOptions.{AuditOptions}
+use Rattle.mc_run.specs.declared.fault.RunFault.{RunFault}
 
 -- ---- what is said of a domain
 
--- a domain, and what is noted of each router's cache
+-- a domain, what is noted of each router's cache, and the names of the routers that are left out
 pub record NotedValue : Type 0 where
   pub domain : DomainValue
   pub notes : List NotesText
+  pub without : List (List ℕ)
+
+-- a mark for each router: whether it is left out
+abbrev pub left_out : NotedValue → List Bool
+left_out v = left_out_marks v.domain.topology v.without
+
+-- none is
+abbrev pub is_whole : NotedValue → Bool
+is_whole v = length v.without == 0
 
 -- What is said of a flow: it is examined, and where it is certified, the checker accepts its list,
 -- so that the headline holds of it, with no more copies than the list has entries.
@@ -42,9 +52,11 @@ pub record IsChecked (d : DomainValue) (flow : ℕ) (x : Examined) : Type 0 wher
   pub examined : IsExamined d flow x
   pub headline : IfCertified (λ es. HeadlineHolds (net_of d flow) (length es)) x
 
--- What is told of the flow with this number: what its examination says, by the flights of its
--- packets, what explains that, and which LANs want it; and these are its lines.
-pub record IsAnswer (v : NotedValue) (o : AuditOptions) (flow : ℕ) (a : FlowAnswer) : Type 0 where
+-- What is told of the flow with this number, behind others that told these ways: what its
+-- examination says, by the flights of its packets, what explains that, and which LANs want it; and
+-- these are its lines.
+pub record IsAnswer (v : NotedValue) (o : AuditOptions) (told : List Tree) (flow : ℕ) (a : FlowAnswer)
+    : Type 0 where
   pub listed : Flow
   pub flown : Flown
   pub explanation : Explanation
@@ -52,31 +64,55 @@ pub record IsAnswer (v : NotedValue) (o : AuditOptions) (flow : ℕ) (a : FlowAn
   pub flies : IsFlown v.domain flow flown
   pub examined : a.examined ≡ examined_by v.domain flow flown
   pub checked : IsChecked v.domain flow a.examined
-  pub explained : IsExplanation v.domain v.notes flow flown explanation
+  pub explained : IsExplanation v.domain v.notes (left_out v) flow flown explanation
   pub wanted : a.wanted ≡ wanting (facts v.domain) flow
-  pub spelled : a.lines
-      ≡ answer_lines o (facts v.domain) v.notes flow listed a.examined explanation a.wanted
+  pub spelled : a.lines ≡ answer_lines o (is_whole v) (facts v.domain) v.notes told flow listed
+      a.examined explanation a.wanted
+
+-- the ways that the lines of these flows tell, each once, in the order of first use
+abbrev pub ways_told : AuditOptions → List FlowAnswer → List Tree
+ways_told o = fold (λ told a. ways_with o told a.examined a.wanted) []
 
 -- one for each flow of the domain's topology, in order
 pub record AreAnswers (v : NotedValue) (o : AuditOptions) (answers : List FlowAnswer) : Type 0 where
   pub count : length answers ≡ length v.domain.topology.flows
-  pub each : (flow : ℕ) (a : FlowAnswer) → slice_get answers flow ≡ Some a → IsAnswer v o flow a
+  pub each : (flow : ℕ) (a : FlowAnswer) → slice_get answers flow ≡ Some a
+      → IsAnswer v o (ways_told o (take flow answers)) flow a
 
--- What is written of all flows and behind that, and whether all are right.
+-- whether all flows are right, and nothing is left out
+abbrev pub is_yes : NotedValue → List FlowAnswer → Bool
+is_yes v answers = is_whole v && are_right answers
+
+-- what is written of all flows, before and behind that
+abbrev pub audit_text : NotedValue → AuditOptions → List FlowAnswer → List ℕ
+audit_text v o answers =
+    begin_lines o (facts v.domain) (left_out v)
+    ++ (flat_map (λ a. a.lines) answers
+    ++ (end_lines o v.domain.topology v.notes (left_out v) (is_yes v answers) answers
+    ++ verdict_told o.json (is_yes v answers)))
+
+-- This is written, and whether all flows are right and nothing is left out.
 pub record IsAudited (v : NotedValue) (o : AuditOptions) (all : Bool) (written : List ℕ)
     : Type 0 where
   pub answers : List FlowAnswer
   pub are_answers : AreAnswers v o answers
-  pub answer : all ≡ are_right answers
-  pub spelled : written ≡ flat_map (λ a. a.lines) answers
-      ++ (end_lines o v.domain.topology v.notes answers ++ last_line (are_right answers))
+  pub answer : all ≡ is_yes v answers
+  pub spelled : written ≡ audit_text v o answers
 
--- the files mean a domain with these notes, and this is written of it
-abbrev pub MeansNoted : List FileText → NotedValue → Type 0
-MeansNoted files v = MeansFiles files v.domain × AreNotesOf files v.domain.topology v.notes
+-- The files mean a domain with these notes, where the routers of these names are left out, which are
+-- all the domain's.
+pub record MeansNoted (o : AuditOptions) (names : List (List ℕ)) (files : List FileText)
+    (v : NotedValue) : Type 0 where
+  pub means : MeansFiles (left_out_files names files) v.domain
+  pub routers : AreRouters v.domain.topology names
+  pub notes : AreNotesOf o.unlisted (left_out_files names files) v.domain.topology v.notes
+  pub without : v.without ≡ names
 
-abbrev pub IsAuditText : AuditOptions → List FileText → Bool → List ℕ → Type 0
-IsAuditText o files all written = OfDomain MeansNoted (λ v. IsAudited v o all written) files
+-- and this is written of it
+abbrev pub IsAuditText : AuditOptions → (names : List (List ℕ)) → List FileText → Bool → List ℕ
+    → Type 0
+IsAuditText o names files all written =
+    OfDomain (MeansNoted o names) (λ v. IsAudited v o all written) files
 
 -- of the domain's flows so many are right and wanted by no LAN
 pub record HasUnwanted (v : NotedValue) (o : AuditOptions) (unwanted : ℕ) : Type 0 where
@@ -86,41 +122,52 @@ pub record HasUnwanted (v : NotedValue) (o : AuditOptions) (unwanted : ℕ) : Ty
 
 -- ---- what that says of the flows
 
--- The lines say of a flow that it has a certificate, with so many copies, where it is right (where
+-- this begins what is said of a flow that isn't right, with whatever was found
+abbrev pub SaysNoCertificate : (json : Bool) → (flow : ℕ) → Flow → (lines : List ℕ) → Type 0
+SaysNoCertificate true flow f lines = (w : Wrong) × (lines ≡ line_of (wrong_data flow f w))
+SaysNoCertificate false flow f lines = (more : List ℕ) × (lines ≡ no_certificate_line f ++ more)
+
+-- The lines say of a flow that it has a certificate, and which LANs want it, where it is right (where
 -- faults alone are asked for nothing, if it is wanted), and else that it has none.
-pub record SaysFlowRight (o : AuditOptions) (t : TopologyValue) (f : Flow) (n : Net)
-    (wanted : List ℕ) (lines : List ℕ) : Type 0 where
-  pub right : IsRight n → (copies : ℕ) × (lines ≡ right_lines o.faults t f copies wanted)
-  pub wrong : ¬ IsRight n → (more : List ℕ) × (lines ≡ no_certificate_line f ++ more)
+pub record SaysFlowRight (v : NotedValue) (o : AuditOptions) (flow : ℕ) (f : Flow) (lines : List ℕ)
+    : Type 0 where
+  pub right : IsRight (net_of v.domain flow) → (told : List Tree) × (es : Tree)
+      × (lines ≡ right_told o (is_whole v) v.domain.topology told flow f es
+      (wanting (facts v.domain) flow))
+  pub wrong : ¬ IsRight (net_of v.domain flow) → SaysNoCertificate o.json flow f lines
 
 -- This was written of the domain: for each flow lines that say whether it is right, and last
--- whether all are.
-pub record TellsWhichAreRight (d : DomainValue) (o : AuditOptions) (all : Bool) (written : List ℕ)
+-- whether all are, and nothing is left out.
+pub record TellsWhichAreRight (v : NotedValue) (o : AuditOptions) (all : Bool) (written : List ℕ)
     : Type 0 where
+  pub begin : List ℕ
   pub lines : List (List ℕ)
   pub end : List ℕ
-  pub count : length lines ≡ length d.topology.flows
-  pub each : (flow : ℕ) (f : Flow) (ls : List ℕ) → slice_get d.topology.flows flow ≡ Some f
-      → slice_get lines flow ≡ Some ls
-      → SaysFlowRight o d.topology f (net_of d flow) (wanting (facts d) flow) ls
-  pub spelled : written ≡ flat_map (λ ls. ls) lines ++ (end ++ last_line all)
-  pub answer : AreRight d all
+  pub right : Bool
+  pub count : length lines ≡ length v.domain.topology.flows
+  pub each : (flow : ℕ) (f : Flow) (ls : List ℕ) → slice_get v.domain.topology.flows flow ≡ Some f
+      → slice_get lines flow ≡ Some ls → SaysFlowRight v o flow f ls
+  pub spelled : written ≡ begin ++ (flat_map (λ ls. ls) lines ++ (end ++ verdict_told o.json all))
+  pub are_right : AreRight v.domain right
+  pub answer : all ≡ (is_whole v && right)
 
 -- the files mean a domain of which that was written
-abbrev pub SaysWhichAreRight : AuditOptions → List FileText → Bool → List ℕ → Type 0
-SaysWhichAreRight o files all written =
-    OfDomain MeansFiles (λ d. TellsWhichAreRight d o all written) files
+abbrev pub SaysWhichAreRight : AuditOptions → (names : List (List ℕ)) → List FileText → Bool
+    → List ℕ → Type 0
+SaysWhichAreRight o names files all written =
+    OfDomain (MeansNoted o names) (λ v. TellsWhichAreRight v o all written) files
 
 -- The lines say yes to the flow with so many copies, and so it is: the flow is right, the checker
 -- accepts a list of so many entries, and the headline holds with so many named.
 pub record SaysYesOf (v : NotedValue) (o : AuditOptions) (flow : ℕ) (f : Flow) (lines : List ℕ)
     : Type 0 where
   pub list : Tree
+  pub told : List Tree
   pub right : IsRight (net_of v.domain flow)
   pub accepted : IsAccepted (net_of v.domain flow) list
   pub headline : HeadlineHolds (net_of v.domain flow) (length list)
-  pub spelled : lines
-      ≡ right_lines o.faults v.domain.topology f (length list) (wanting (facts v.domain) flow)
+  pub spelled : lines ≡ right_told o (is_whole v) v.domain.topology told flow f list
+      (wanting (facts v.domain) flow)
 
 -- The lines say that the flow has no certificate, and what is found, and so it is: the flow isn't
 -- right, and that is found by a run of its net: the travel of a packet with the told TTL. What
@@ -136,26 +183,27 @@ pub record SaysWhatIsFound (v : NotedValue) (o : AuditOptions) (flow : ℕ) (f :
   pub fault : FindsFault travel
   pub ttl_told : IsTtlOfFault v.domain flow ttl
   pub flies : IsFlown v.domain flow flown
-  pub explained : IsExplanation v.domain v.notes flow flown explanation
-  pub spelled : lines ≡ found_lines v.domain.topology f ttl travel.finding
-      ++ (explanation_lines (facts v.domain) v.notes flow f explanation
-      ++ events_told o.travels v.domain.topology travel)
+  pub explained : IsExplanation v.domain v.notes (left_out v) flow flown explanation
+  pub spelled : lines ≡ wrong_told o (facts v.domain) v.notes flow f ttl travel explanation
 
 -- This is written of the domain: for each flow in order lines that say the one or the other of it,
 -- and the line that says whether all are certified.
 pub record TellsOfEach (v : NotedValue) (o : AuditOptions) (all : Bool) (written : List ℕ)
     : Type 0 where
+  pub begin : List ℕ
   pub lines : List (List ℕ)
   pub end : List ℕ
   pub count : length lines ≡ length v.domain.topology.flows
   pub each : (flow : ℕ) (f : Flow) (ls : List ℕ) → slice_get v.domain.topology.flows flow ≡ Some f
       → slice_get lines flow ≡ Some ls
       → SaysYesOf v o flow f ls ⊎ SaysWhatIsFound v o flow f ls
-  pub spelled : written ≡ flat_map (λ ls. ls) lines ++ (end ++ last_line all)
+  pub spelled : written ≡ begin ++ (flat_map (λ ls. ls) lines ++ (end ++ verdict_told o.json all))
 
 -- the files mean a domain of which that is written
-abbrev pub SaysOfEach : AuditOptions → List FileText → Bool → List ℕ → Type 0
-SaysOfEach o files all written = OfDomain MeansNoted (λ v. TellsOfEach v o all written) files
+abbrev pub SaysOfEach : AuditOptions → (names : List (List ℕ)) → List FileText → Bool → List ℕ
+    → Type 0
+SaysOfEach o names files all written =
+    OfDomain (MeansNoted o names) (λ v. TellsOfEach v o all written) files
 
 -- Each of the domain's flows has a list for which the headline holds.
 pub record KeepsByLists (d : DomainValue) : Type 0 where
@@ -166,3 +214,17 @@ pub record KeepsByLists (d : DomainValue) : Type 0 where
 -- the files mean a domain of which that holds
 abbrev pub HeadlineOf : List FileText → Type 0
 HeadlineOf = OfDomain MeansFiles KeepsByLists
+
+-- ---- the line that says yes
+
+-- the line of JSON, but for its line feed
+abbrev pub yes_object : List ℕ
+yes_object = codes "{\"verdict\":\"yes\"}"
+
+-- one of both was written at a line's start
+abbrev pub WroteYesLine : Option (List ℕ) → Option (List ℕ) → Type 0
+WroteYesLine old new = WroteYes old new ⊎ WroteAtStart yes_object old new
+
+-- an audit says yes by its answer or by what it wrote, whole or in part
+abbrev pub AuditSaysYes : Result Bool RunFault → Option (List ℕ) → Option (List ℕ) → Type 0
+AuditSaysYes result old new = (result ≡ Ok true) ⊎ WroteYesLine old new

@@ -33,12 +33,15 @@ IsVerdictText text all written =
 abbrev pub IsLineStart : List ℕ → Type 0
 IsLineStart front = (front ≡ []) ⊎ ((before : List ℕ) × (front ≡ before ++ 10 ∷ []))
 
--- the eleven bytes `verdict yes` were written at a line's start
+-- these bytes were written at a line's start
+abbrev pub WroteAtStart : (words : List ℕ) → Option (List ℕ) → Option (List ℕ) → Type 0
+WroteAtStart words (Some old) (Some new) =
+    (front rest : List ℕ) × IsLineStart front × (new ≡ old ++ (front ++ (words ++ rest)))
+WroteAtStart words _ _ = ⊥
+
+-- the eleven bytes `verdict yes` were
 abbrev pub WroteYes : Option (List ℕ) → Option (List ℕ) → Type 0
-WroteYes (Some old) (Some new) =
-    (front rest : List ℕ) × IsLineStart front
-    × (new ≡ old ++ (front ++ (codes "verdict yes" ++ rest)))
-WroteYes _ _ = ⊥
+WroteYes = WroteAtStart (codes "verdict yes")
 
 -- a run says yes by its answer or by what it wrote, whole or in part
 abbrev pub SaysYes : Result Bool RunFault → Option (List ℕ) → Option (List ℕ) → Type 0

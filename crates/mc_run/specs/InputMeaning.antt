@@ -8,16 +8,17 @@ use Rattle.mc_cert.specs.Stands.{CertificateStands}
 use Rattle.mc_cert.specs.Reading.{reading_of}
 use Rattle.mc_cert.specs.declared.fault.CertFault.{CertFault}
 use Rattle.mc_layout.specs.Files.{FileText}
-use Rattle.mc_domain.specs.FilesReading.{files_of}
 use Rattle.mc_domain.specs.InputReading.{input_of}
 use Rattle.mc_domain.specs.Meaning.{MeansDomain}
-use Rattle.mc_domain.specs.declared.source_fault.SourceFault.{SourceFault}
+use Rattle.mc_domain.specs.LeftOut.{files_without}
+use Rattle.mc_domain.specs.declared.without_fault.WithoutFault.{WithoutFault}
 use Rattle.mc_domain.specs.declared.fault.InputFault.TheVariants as input
 use Rattle.mc_run.specs.declared.fault.RunFault.{RunFault}
 use Rattle.mc_run.specs.declared.fault.RunFault.TheVariants.{Bundle, Parts, Topology, Vif, Cache}
 use Rattle.mc_run.specs.declared.fault.RunFault.TheVariants.{PartReports, Reports, Certificate}
-use Rattle.mc_run.specs.declared.fault.RunFault.TheVariants.{NoSuchFlow, Read, Write, Memory}
-use Rattle.mc_run.specs.RunFault.{of_source}
+use Rattle.mc_run.specs.declared.fault.RunFault.TheVariants.{NoSuchFlow, NoSuchRouter, Read, Write}
+use Rattle.mc_run.specs.declared.fault.RunFault.TheVariants.{Memory}
+use Rattle.mc_run.specs.RunFault.{of_without}
 
 -- ---- what it means
 
@@ -63,18 +64,20 @@ IsRefusedFor certified text (Cache part fault) = input_of certified text
 IsRefusedFor certified text (PartReports part fault) =
     input_of certified text ≡ Err (input.Reports part fault)
 IsRefusedFor certified text (Certificate fault) = IsTrue certified × HasBadCertificate text fault
--- no report list stands alone here, and no flow is asked for
+-- no report list stands alone here, no flow is asked for, and no router is left out
 IsRefusedFor certified text (Reports fault) = ⊥
 IsRefusedFor certified text (NoSuchFlow number) = ⊥
+IsRefusedFor certified text (NoSuchRouter place) = ⊥
 IsRefusedFor certified text Read = ⊤
 IsRefusedFor certified text Write = ⊤
 IsRefusedFor certified text Memory = ⊤
 
--- A run on the files answers this of them: their first fault, in the order in which they are read.
+-- A run on the files without the routers of these names answers this of them: the topology's fault, the
+-- first name that no router has, or the first fault of the rest, in the order in which they are read.
 -- What devices do and want of memory say nothing of the files.
-abbrev pub AreRefusedFor : List FileText → RunFault → Type 0
-AreRefusedFor files Read = ⊤
-AreRefusedFor files Write = ⊤
-AreRefusedFor files Memory = ⊤
-AreRefusedFor files fault =
-    (cause : SourceFault) × (files_of files ≡ Err cause) × (fault ≡ of_source cause)
+abbrev pub AreRefusedWithout : (names : List (List ℕ)) → List FileText → RunFault → Type 0
+AreRefusedWithout names files Read = ⊤
+AreRefusedWithout names files Write = ⊤
+AreRefusedWithout names files Memory = ⊤
+AreRefusedWithout names files fault =
+    (cause : WithoutFault) × (files_without names files ≡ Err cause) × (fault ≡ of_without cause)

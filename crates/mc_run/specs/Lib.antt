@@ -1,8 +1,10 @@
 pub mod AuditEnd
+pub mod AuditObjects
 pub mod AuditPieces
 pub mod AuditReasons
 pub mod AuditRun
 pub mod AuditText
+pub mod AuditTold
 pub mod CheckRun
 pub mod Failures
 pub mod InputMeaning

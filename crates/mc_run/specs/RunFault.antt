@@ -11,10 +11,12 @@ use Rattle.mc_domain.specs.declared.fault.InputFault.{InputFault}
 use Rattle.mc_domain.specs.declared.fault.InputFault.TheVariants as input
 use Rattle.mc_domain.specs.declared.source_fault.SourceFault.{SourceFault}
 use Rattle.mc_domain.specs.declared.source_fault.SourceFault.TheVariants as source
+use Rattle.mc_domain.specs.declared.without_fault.WithoutFault.{WithoutFault}
+use Rattle.mc_domain.specs.declared.without_fault.WithoutFault.TheVariants as without
 use Rattle.mc_run.specs.declared.fault.RunFault.{RunFault}
 use Rattle.mc_run.specs.declared.fault.RunFault.TheVariants.{Bundle, Parts, Topology, Vif, Cache}
 use Rattle.mc_run.specs.declared.fault.RunFault.TheVariants.{PartReports, Reports, Certificate}
-use Rattle.mc_run.specs.declared.fault.RunFault.TheVariants.{Read, Memory}
+use Rattle.mc_run.specs.declared.fault.RunFault.TheVariants.{NoSuchRouter, Read, Memory}
 
 abbrev pub of_reading : ReadFault → RunFault
 of_reading reading.Read = Read
@@ -42,6 +44,11 @@ of_input input.Memory = Memory
 abbrev pub of_source : SourceFault → RunFault
 of_source (source.Input fault) = of_input fault
 of_source source.Read = Read
+
+-- of a folder's files without some routers,
+abbrev pub of_without : WithoutFault → RunFault
+of_without (without.Source fault) = of_source fault
+of_without (without.NoSuchRouter place) = NoSuchRouter place
 
 -- and with those of a certificate
 abbrev pub of_certificate_kind : CertFault → CertFaultKind → RunFault

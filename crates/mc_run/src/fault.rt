@@ -4,9 +4,10 @@ ghost use Rattle.std.specs.Prelude.{◌≡◌};
 ghost use Rattle.mc_run.specs.declared.fault.RunFault.TheVariants.{Memory};
 ghost use Rattle.mc_run.specs.PackingRun.{of_packing};
 ghost use Rattle.mc_run.specs.RunFault.{of_certificate, of_source, of_input, of_list, of_reading};
+ghost use Rattle.mc_run.specs.RunFault.{of_without};
 
 use mc_cert::{CertFault, CertFaultKind};
-use mc_domain::{InputFault, SourceFault};
+use mc_domain::{InputFault, SourceFault, WithoutFault};
 use mc_igmp::{ListFault, ListFaultKind};
 use mc_layout::PackFault;
 use mc_tables::TableFault;
@@ -45,13 +46,17 @@ pub enum RunFault {
     /// (8) The topology lists no flow with this number, counted from 1.
     #[error("refused: flow: {0}")]
     NoSuchFlow(u32),
-    /// (9) The input failed.
+    /// (9) No router of the topology has the name at this place, counted from 1, among those of the
+    /// routers to be left out.
+    #[error("refused: without: {0}")]
+    NoSuchRouter(u32),
+    /// (10) The input failed.
     #[error("failed: read")]
     Read,
-    /// (10) The output failed, or took no byte of a text that has one.
+    /// (11) The output failed, or took no byte of a text that has one.
     #[error("failed: write")]
     Write,
-    /// (11) Memory ran out.
+    /// (12) Memory ran out.
     #[error("no memory")]
     Memory,
 }
@@ -81,6 +86,18 @@ impl From<SourceFault> for RunFault {
         match fault {
             SourceFault::Input(fault) => RunFault::from(fault),
             SourceFault::Read => RunFault::Read,
+        }
+    }
+}
+
+/// A folder's files without some routers are refused.
+impl From<WithoutFault> for RunFault {
+    ghost from_gives = { λ files fault. fault ≡ of_without files };
+
+    fn from(fault: WithoutFault) -> RunFault {
+        match fault {
+            WithoutFault::Source(fault) => RunFault::from(fault),
+            WithoutFault::NoSuchRouter(place) => RunFault::NoSuchRouter(place),
         }
     }
 }

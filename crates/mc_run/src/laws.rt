@@ -1,7 +1,7 @@
 //! What follows from the definitions of the runs alone, for whoever runs one after the other.
 
-ghost use Rattle.std.specs.Prelude.{◌≡◌, ◌≤◌, ◌++◌, ℕ, Bool, true, List, Ok, Option, Some};
-ghost use Rattle.std.specs.Prelude.{codes, is_some, length, slice_get};
+ghost use Rattle.std.specs.Prelude.{◌≡◌, ◌≤◌, ◌++◌, ◌⊎◌, ℕ, Bool, true, List, Ok, Option, Some};
+ghost use Rattle.std.specs.Prelude.{codes, if◌then◌else◌, is_some, length, slice_get};
 ghost use Rattle.mc_text.specs.Bundle.{PartText, IsBundle};
 ghost use Rattle.mc_theory.specs.Certificates.{IsAccepted};
 ghost use Rattle.mc_layout.specs.Files.{FileText};
@@ -9,11 +9,11 @@ ghost use Rattle.mc_forward.specs.Domains.{DomainValue, net_of};
 ghost use Rattle.mc_domain.specs.Input.{with_certificate};
 ghost use Rattle.mc_cert.specs.Certificate.{Tree};
 ghost use Rattle.mc_cert.specs.Reading.{reading_of};
-ghost use Rattle.mc_run.specs.AuditRun.{IsAuditText};
+ghost use Rattle.mc_run.specs.AuditRun.{IsAuditText, yes_object};
 ghost use Rattle.mc_run.specs.declared.audit_options.AuditOptions.{AuditOptions};
 ghost use Rattle.mc_domain.specs.Meaning.{MeansDomain, MeansFiles};
 ghost use Rattle.mc_run.specs.InputMeaning.{MeansCertified};
-ghost use Rattle.mc_run.specs.CheckRun.{IsLineStart, IsVerdictText, WroteYes};
+ghost use Rattle.mc_run.specs.CheckRun.{IsLineStart, IsVerdictText, WroteAtStart, WroteYes};
 ghost use Rattle.mc_run.specs.MakeRun.{IsMadeText, lists_of};
 
 /// What `make` writes where it answers true, `check` says yes to.
@@ -64,12 +64,17 @@ pub fn the_line_that_says_yes()
         → IsVerdictText text all written → IsLineStart front
         → written ≡ front ++ (codes "verdict yes" ++ rest)
         → (all ≡ true) × (rest ≡ codes "\n") }
-    // The same holds of `audit`.
-    ensures audit_says { (files : List FileText) (o : AuditOptions) (written old : List ℕ)
-        → IsAuditText o files true written → WroteYes (Some old) (Some (old ++ written)) }
-    ensures audit_last { (files : List FileText) (o : AuditOptions) (all : Bool)
-        (written front rest : List ℕ)
-        → IsAuditText o files all written → IsLineStart front
-        → written ≡ front ++ (codes "verdict yes" ++ rest)
-        → (all ≡ true) × (rest ≡ codes "\n") }
+    // The same holds of `audit`, whose line is an object where JSON is asked for,
+    ensures audit_says { (names : List (List ℕ)) (files : List FileText) (o : AuditOptions)
+        (written old : List ℕ) → IsAuditText o names files true written
+        → WroteAtStart (if o.json then yes_object else codes "verdict yes")
+        (Some old) (Some (old ++ written)) }
+    // and no line begins with the one where the other is meant.
+    ensures audit_last { (names : List (List ℕ)) (files : List FileText) (o : AuditOptions)
+        (all : Bool) (words written front rest : List ℕ)
+        → IsAuditText o names files all written → IsLineStart front
+        → (words ≡ codes "verdict yes") ⊎ (words ≡ yes_object)
+        → written ≡ front ++ (words ++ rest)
+        → (all ≡ true) × (words ≡ (if o.json then yes_object else codes "verdict yes"))
+        × (rest ≡ codes "\n") }
 {}

@@ -167,13 +167,17 @@ fn push_refused<F: PieceSource>(
 /// A line for each file of a folder that is refused, in the order of a domain's files, with the
 /// front of the line that its fault stands in: at most 50 lines, and one that says how many more
 /// files are refused. Of a refused topology alone, since it names the other files. Nothing where no
-/// file is refused.
+/// file is refused. The files of the routers of the names `without` aren't asked for.
 ///
 /// # Errors
 ///
 /// `Memory` where a growth was refused.
-pub fn refusal_lines<F: PieceSource>(alloc: Global, files: &mut F) -> Result<String, NoMemory> {
-    let refused = refused_files(alloc, files)?;
+pub fn refusal_lines<F: PieceSource>(
+    alloc: Global,
+    files: &mut F,
+    without: &[&str],
+) -> Result<String, NoMemory> {
+    let refused = refused_files(alloc, files, without)?;
     let mut buffer = Vec::from_elem(alloc, 0u8, PIECE)?;
     let mut text = String::new(alloc);
     let told = refused.len().min(MAX_TOLD);

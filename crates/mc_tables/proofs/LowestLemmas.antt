@@ -1,24 +1,26 @@
 -- The lowest of many pairs, ascending and each once.
-use Rattle.std.proofs.Common.{◌≡◌, ℕ, zero, suc, ◌+◌, ◌<◌, ◌≤◌, true, false, cond, List, [], ◌∷◌, ◌++◌}
-use Rattle.std.proofs.Common.{length, take, get_or, map, Some, refl, sym, ap, subst, ◌∙◌, arith}
-use Rattle.std.specs.Prelude.{◌≢◌}
+use Rattle.std.proofs.Common.{◌≡◌, ℕ, zero, suc, ◌+◌, ◌<◌, ◌≤◌, Bool, true, false, cond, T, List, [], ◌∷◌, ◌++◌}
+use Rattle.std.proofs.Common.{length, take, get_or, map, Option, None, Some, refl, sym, ap, subst, ◌∙◌, arith}
+use Rattle.std.specs.Prelude.{◌&&◌, ◌≢◌}
 use Rattle.std.specs.FinMap as fin
-use Rattle.std.specs.FinMap.Entries.{by_order}
-use Rattle.std.specs.List.{AllByRecursion, insert}
-use Rattle.std.specs.List.Sorted.{IsStrictlySortedBy, IsSorted, IsNonDecreasingBy, IsPartitionPoint}
-use Rattle.std.specs.Cmp.{tied_itself}
+use Rattle.std.specs.FinMap.Entries.{below_all, by_order, is_sorted, same_entries}
+use Rattle.std.specs.List.{AllByRecursion, Contains, dedup, insert}
+use Rattle.std.specs.List.Sorted.{IsStrictlySortedBy, IsPermutation, IsSorted, IsNonDecreasingBy, IsPartitionPoint}
+use Rattle.std.specs.Cmp.{IsEquivalence, tied_itself}
 use Rattle.std.specs.Ordering.{eq_by_cmp, is_le, is_lt, is_some_and, nat_cmp, ordering_index}
 use Rattle.std.specs.Ordering.{ordering_reverse, ordering_then, partial_le, partial_ordering_then}
 use Rattle.std.specs.declared.cmp.Ordering.TheVariants.{Less, Equal, Greater}
 use Rattle.std.proofs.lemmas.Bool.{true≢false}
 use Rattle.std.proofs.lemmas.List.{take-take}
-use Rattle.std.proofs.lemmas.List.Sorted.{searchable_from_sorted}
+use Rattle.std.proofs.lemmas.List.Kept.{Contains-dedup, Contains-from_dedup, IsStrictlySortedBy-dedup}
+use Rattle.std.proofs.lemmas.List.Sorted.{Contains-permutation, IsPermutation-sym, searchable_from_sorted}
 use Rattle.std.proofs.lemmas.Map.Keys.{Less-from_sorted}
-use Rattle.mc_tables.specs.CacheTable.{key_cmp}
-use Rattle.mc_tables.specs.Notes.{in_order}
+use Rattle.mc_tables.specs.CacheTable.{key_cmp, same_key}
+use Rattle.mc_tables.specs.Notes.{in_order, shown_pairs}
 use Rattle.mc_tables.specs.NotesSoFar.{put_at, put_pair}
-use Rattle.mc_tables.proofs.CacheLemmas.{key_total}
+use Rattle.mc_tables.proofs.CacheLemmas.{key_laws, key_total}
 use Rattle.mc_tables.proofs.CacheMapLemmas.{key_antisymmetric}
+use Rattle.mc_tables.proofs.OtherRowLemmas.{same_is}
 
 -- ---- the order of pairs
 
@@ -269,9 +271,118 @@ empty_is : {A : Type 0} (xs : List A) → length xs ≡ 0 → xs ≡ []
 empty_is [] none = refl
 empty_is (x ∷ xs) none = absurd (omega (arith, none))
 
+-- none is what none are in order
+pub nothing_ordered : [] ≡ in_order []
+nothing_ordered =
+    let none = fin.empty {X = Unit {0}} {R = key_cmp} in
+    ap (map (λ (e : (ℕ × ℕ) × Unit {0}). e.0))
+    (sym (empty_is (fin.entries none) (sym (fin.len-entries none) ∙ fin.len-empty key_cmp (Unit {0}))))
+
 -- none is the lowest of none
 pub nothing_lowest : [] ≡ take 20 (in_order [])
-nothing_lowest =
-    let none = fin.empty {X = Unit {0}} {R = key_cmp} in
-    ap (λ (es : List ((ℕ × ℕ) × Unit {0})). take 20 (map (λ (e : (ℕ × ℕ) × Unit {0}). e.0) es))
-    (sym (empty_is (fin.entries none) (sym (fin.len-entries none) ∙ fin.len-empty key_cmp (Unit {0}))))
+nothing_lowest = ap (take 20) nothing_ordered
+
+-- ---- all, or the lowest
+
+pub shown_more : (all : Bool) (ps : List (ℕ × ℕ)) (pair : ℕ × ℕ)
+    → shown_pairs all (in_order (ps ++ pair ∷ []))
+    ≡ shown_pairs all (put_pair pair (shown_pairs all (in_order ps)))
+shown_more true ps pair = order_more ps pair
+shown_more false ps pair = lowest_more ps pair
+
+pub nothing_shown : (all : Bool) → [] ≡ shown_pairs all (in_order [])
+nothing_shown true = nothing_ordered
+nothing_shown false = nothing_lowest
+
+-- ---- pairs that were put in order
+
+true_is : (b : Bool) → b ≡ true → T b
+true_is b is = subst T (sym is) tt
+
+-- what is above a pair is above it as a key
+above_keys : (x : ℕ × ℕ) (ps : List (ℕ × ℕ)) → AreAbove x ps
+    → below_all key_cmp x (as_keys ps) ≡ true
+above_keys x [] all = refl
+above_keys x (p ∷ ps) all =
+    ap (λ r. is_lt r && below_all key_cmp x (as_keys ps)) all.0 ∙ above_keys x ps all.1
+
+ascending_keys : (ps : List (ℕ × ℕ)) → IsStrictlySortedBy key_cmp ps
+    → is_sorted key_cmp (as_keys ps) ≡ true
+unfolding IsStrictlySortedBy
+ascending_keys [] up = refl
+ascending_keys (p ∷ ps) up =
+    ap (λ b. b && is_sorted key_cmp (as_keys ps)) (above_keys p ps up.0) ∙ ascending_keys ps up.1
+
+pairs_again : (ps : List (ℕ × ℕ)) → map (λ e. e.0) (as_keys ps) ≡ ps
+pairs_again [] = refl
+pairs_again (p ∷ ps) = ap (λ (l : List (ℕ × ℕ)). p ∷ l) (pairs_again ps)
+
+-- ascending pairs are those in order of which the same are found
+order_is : (ps up : List (ℕ × ℕ)) → IsStrictlySortedBy key_cmp up
+    → ((q : ℕ × ℕ) → fin.find key_cmp q (as_keys up) ≡ fin.find key_cmp q (as_keys ps))
+    → up ≡ in_order ps
+order_is ps up ascend same =
+    let m = fin.from_entries {R = key_cmp} (as_keys ps) in
+    sym (pairs_again up)
+    ∙ ap (map (λ (e : (ℕ × ℕ) × Unit {0}). e.0))
+    (same_entries key_cmp key_total key_antisymmetric (as_keys up) (fin.entries m)
+    (true_is (is_sorted key_cmp (as_keys up)) (ascending_keys up ascend)) (fin.entries_sorted m)
+    (λ q. same q ∙ sym (fin.get-from_entries key_total (as_keys ps) q) ∙ fin.get-entries m q))
+
+-- a pair is found where it is one of them
+contained_found : (q : ℕ × ℕ) (ps : List (ℕ × ℕ)) (k : ℕ) → k < length ps → get_or ps k q ≡ q
+    → fin.find key_cmp q (as_keys ps) ≡ Some (tt {0})
+contained_found q [] k lt is = absurd (omega (arith, lt))
+contained_found q (p ∷ ps) zero lt is =
+    ap (λ b. cond b (Some (tt {0})) (fin.find key_cmp q (as_keys ps)))
+    (ap (same_key q) is ∙ key_laws.refl q)
+contained_found q (p ∷ ps) (suc k) lt is =
+    elim (same_key q p) as (λ b.
+    cond b (Some (tt {0})) (fin.find key_cmp q (as_keys ps)) ≡ Some (tt {0})) [
+      | true ↦ refl
+      | false ↦ contained_found q ps k (omega (arith, lt)) is
+    ]
+
+-- and is one of them where it is found
+found_contained : (q : ℕ × ℕ) (ps : List (ℕ × ℕ))
+    → fin.find key_cmp q (as_keys ps) ≡ Some (tt {0}) → Contains ps q
+found_contained q [] is = absurd cc
+found_contained q (p ∷ ps) is =
+    elim (same_key q p) as (λ b. same_key q p ≡ b
+    → cond b (Some (tt {0})) (fin.find key_cmp q (as_keys ps)) ≡ Some (tt {0})
+    → Contains (p ∷ ps) q) [
+      | true ↦ λ same is. (0, omega arith, sym (same_is q p same))
+      | false ↦ λ other is.
+          let later = found_contained q ps is in
+          (suc later.0, omega (arith, later.1), later.2)
+    ] refl is
+
+found_either : (a b : Option (Unit {0})) → (a ≡ Some (tt {0}) → b ≡ Some (tt {0}))
+    → (b ≡ Some (tt {0}) → a ≡ Some (tt {0})) → a ≡ b
+found_either None None there back = refl
+found_either None (Some y) there back = back refl
+found_either (Some x) b there back = sym (there refl)
+
+-- a test that tells which are one is an equivalence
+same_as : (E : ℕ × ℕ → ℕ × ℕ → Bool) → ((x y : ℕ × ℕ) → E x y ≡ same_key x y) → IsEquivalence E
+same_as E ties = record {
+  refl = λ x. ties x x ∙ key_laws.refl x;
+  symm = λ x y. ties x y ∙ key_laws.symm x y ∙ sym (ties y x);
+  congr = λ x y z e. ties x z ∙ key_laws.congr x y z (sym (ties x y) ∙ e) ∙ sym (ties y z);
+}
+
+-- pairs that were put in order, each once by a test that tells which are one
+pub sorted_is : (E : ℕ × ℕ → ℕ × ℕ → Bool) → ((x y : ℕ × ℕ) → E x y ≡ same_key x y)
+    → (ps sorted : List (ℕ × ℕ)) → IsPermutation ps sorted → IsSorted key_cmp sorted
+    → dedup E sorted ≡ in_order ps
+sorted_is E ties ps sorted moves order =
+    let once = dedup E sorted in
+    let same = same_as E ties in
+    order_is ps once (IsStrictlySortedBy-dedup key_total ties sorted order) (λ q.
+    found_either (fin.find key_cmp q (as_keys once)) (fin.find key_cmp q (as_keys ps))
+    (λ found. let there = Contains-permutation sorted ps q (IsPermutation-sym ps sorted moves)
+    (Contains-from_dedup E sorted q (found_contained q once found)) in
+    contained_found q ps there.0 there.1 there.2)
+    (λ found. let there = Contains-dedup same (λ x y e. same_is x y (sym (ties x y) ∙ e)) sorted q
+    (Contains-permutation ps sorted q moves (found_contained q ps found)) in
+    contained_found q once there.0 there.1 there.2))

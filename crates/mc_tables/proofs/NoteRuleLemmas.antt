@@ -96,6 +96,6 @@ line_stands so_far new notes more line added noted stand = (
 )
 
 -- the notes of no rows do
-pub none_stand : (listed : List (ℕ × ℕ)) → EntriesStand (told (no_notes listed))
-none_stand listed = λ key.
+pub none_stand : (all : Bool) (listed : List (ℕ × ℕ)) → EntriesStand (told (no_notes all listed))
+none_stand all listed = λ key.
     subst (λ (o : Option EntryText). IfSome o IsEntry) (sym (map.get-empty key_cmp key)) tt

@@ -1,6 +1,6 @@
 -- A cache that is read with notes of its rows.
 use Rattle.std.proofs.Common.{◌≡◌, ℕ, ◌+◌, ◌≤◌, Bool, true, false, cond, eqb, List, [], ◌∷◌, ◌++◌}
-use Rattle.std.proofs.Common.{length, take}
+use Rattle.std.proofs.Common.{length}
 use Rattle.std.proofs.Common.{drop, Option, Some, None, Result, Ok, Err, refl, sym, ap, subst, ◌∙◌, inl, inr}
 use Rattle.std.specs.Prelude.{◌&&◌, ◌||◌, not, nat_lt, filter, is_some, map as map_list, codes}
 use Rattle.std.specs.FinMap as map
@@ -31,9 +31,9 @@ use Rattle.mc_tables.specs.OtherRows.{OtherRow, without_repeat}
 use Rattle.mc_tables.specs.RowsSoFar.{ListedSoFar, RowsSoFar, cache_after, first_fault, line_added}
 use Rattle.mc_tables.specs.RowsSoFar.{listed_added, one_added, row_step, rows_end, table_from}
 use Rattle.mc_tables.specs.Notes.{every_source_entry, group_first, in_order, keys_for_every_source}
-use Rattle.mc_tables.specs.Notes.{notes_of, unresolved_key}
-use Rattle.mc_tables.specs.NotesSoFar.{NotesSoFar, every_source_noted, exact_noted, line_noted}
-use Rattle.mc_tables.specs.NotesSoFar.{first_added, no_notes, notes_from, put_pair, read_noted}
+use Rattle.mc_tables.specs.Notes.{notes_of, shown_pairs, unresolved_key}
+use Rattle.mc_tables.specs.NotesSoFar.{KeptPairs, NotesSoFar, every_source_noted, exact_noted, line_noted}
+use Rattle.mc_tables.specs.NotesSoFar.{first_added, no_notes, notes_from, pair_kept, read_noted}
 use Rattle.mc_tables.specs.NotesSoFar.{row_noted, told}
 use Rattle.mc_tables.specs.NotesSoFar.{unresolved_noted, with_entry}
 use Rattle.mc_tables.specs.NotedReading.{NotedSoFar, no_noted_cache, no_noted_rows, noted_after}
@@ -44,7 +44,7 @@ use Rattle.mc_tables.proofs.CacheLemmas.{key_total}
 use Rattle.mc_tables.proofs.CacheMapLemmas.{key_antisymmetric}
 use Rattle.mc_tables.proofs.KeptRowLemmas.{differ}
 use Rattle.mc_tables.proofs.ListedLemmas.{in_listed}
-use Rattle.mc_tables.proofs.LowestLemmas.{lowest_more, nothing_lowest}
+use Rattle.mc_tables.proofs.LowestLemmas.{nothing_shown, shown_more}
 use Rattle.mc_tables.proofs.NumberLemmas.{no_some}
 use Rattle.mc_tables.proofs.OtherRowLemmas.{same_is}
 use Rattle.mc_tables.proofs.PieceLemmas.{left_none}
@@ -190,9 +190,13 @@ NotIn listed keys = filter (λ key. not (is_listed (Some listed) key)) keys
 abbrev EntriesIn : List (ℕ × ℕ) → List ((ℕ × ℕ) × EntryText) → List ((ℕ × ℕ) × EntryText)
 EntriesIn listed exacts = filter (λ exact. is_listed (Some listed) exact.0) exacts
 
+-- pairs that are kept, and whether they are all
+abbrev with_all : Bool → List (ℕ × ℕ) → KeptPairs
+with_all all pairs = record { all = all; pairs = pairs }
+
 -- The notes so far are those of rows of which these are the sources and groups of the unresolved
 -- ones, the entries of those for every source, and the sources and groups of the others.
-record Tells (listed unresolved : List (ℕ × ℕ)) (exacts : List ((ℕ × ℕ) × EntryText))
+record Tells (all : Bool) (listed unresolved : List (ℕ × ℕ)) (exacts : List ((ℕ × ℕ) × EntryText))
     (keys : List (ℕ × ℕ)) (notes : NotesSoFar) : Type 0 where
   pub listed_is : notes.listed ≡ listed_set (Some listed)
   pub first_listed : notes.first.listed ≡ listed_set (Some (keys_for_every_source listed))
@@ -200,7 +204,8 @@ record Tells (listed unresolved : List (ℕ × ℕ)) (exacts : List ((ℕ × ℕ
   pub first_is : notes.first.table.entries
       ≡ map.from_entries (EntriesIn (keys_for_every_source listed) exacts)
   pub unlisted_is : notes.unlisted ≡ length (NotIn listed keys)
-  pub lowest_is : notes.lowest ≡ take 20 (in_order (map_list group_first (NotIn listed keys)))
+  pub lowest_is : notes.lowest
+      ≡ with_all all (shown_pairs all (in_order (map_list group_first (NotIn listed keys))))
 
 -- entries, of which the last has a key that none before it has
 entry_new : (es : List ((ℕ × ℕ) × EntryText)) (exact : (ℕ × ℕ) × EntryText)
@@ -249,15 +254,15 @@ entry_again es exact there =
     ]
     ∙ sym (map.get-from_entries key_total es q))
 
-module _ (listed unresolved : List (ℕ × ℕ)) (exacts : List ((ℕ × ℕ) × EntryText))
+module _ (all : Bool) (listed unresolved : List (ℕ × ℕ)) (exacts : List ((ℕ × ℕ) × EntryText))
     (keys : List (ℕ × ℕ)) (notes : NotesSoFar)
-    (before : Tells listed unresolved exacts keys notes) where
+    (before : Tells all listed unresolved exacts keys notes) where
   has : (key : ℕ × ℕ) → is_in notes.listed key ≡ is_listed (Some listed) key
   has key = ap (λ l. is_in l key) before.listed_is ∙ in_listed (Some listed) key
 
   -- one more that may be unresolved
   tells_unresolved : (own : Option (ℕ × ℕ))
-      → Tells listed (unresolved ++ cons_option own []) exacts keys (unresolved_noted notes own)
+      → Tells all listed (unresolved ++ cons_option own []) exacts keys (unresolved_noted notes own)
   tells_unresolved None = rw append-nil before
   tells_unresolved (Some key) = record {
     listed_is = before.listed_is;
@@ -281,7 +286,7 @@ module _ (listed unresolved : List (ℕ × ℕ)) (exacts : List ((ℕ × ℕ) ×
 
   -- one more that may be for every source
   tells_first : (own : Option ((ℕ × ℕ) × EntryText))
-      → Tells listed unresolved (exacts ++ cons_option own []) keys (every_source_noted notes own)
+      → Tells all listed unresolved (exacts ++ cons_option own []) keys (every_source_noted notes own)
   tells_first None = rw append-nil before
   tells_first (Some exact) =
       let groups = keys_for_every_source listed in
@@ -337,7 +342,7 @@ module _ (listed unresolved : List (ℕ × ℕ)) (exacts : List ((ℕ × ℕ) ×
 
   -- one more that may be of a source and a group
   tells_key : (own : Option (ℕ × ℕ))
-      → Tells listed unresolved exacts (keys ++ cons_option own []) (exact_noted notes own)
+      → Tells all listed unresolved exacts (keys ++ cons_option own []) (exact_noted notes own)
   tells_key None = rw append-nil before
   tells_key (Some key) =
       let passes : ℕ × ℕ → Bool = λ k. not (is_listed (Some listed) k) in
@@ -351,7 +356,7 @@ module _ (listed unresolved : List (ℕ × ℕ)) (exacts : List ((ℕ × ℕ) ×
               unlisted_is = before.unlisted_is
                   ∙ ap length (sym (filter_same passes keys key (ap not is)));
               lowest_is = before.lowest_is
-                  ∙ ap (λ l. take 20 (in_order (map_list group_first l)))
+                  ∙ ap (λ l. with_all all (shown_pairs all (in_order (map_list group_first l))))
                   (sym (filter_same passes keys key (ap not is)));
             })
         | inr other ↦
@@ -363,33 +368,34 @@ module _ (listed unresolved : List (ℕ × ℕ)) (exacts : List ((ℕ × ℕ) ×
               unlisted_is = ap (λ n. n + 1) before.unlisted_is
                   ∙ sym (length_push (NotIn listed keys) key)
                   ∙ ap length (sym (filter_more passes keys key (ap not other)));
-              lowest_is = ap (λ l. take 20 (put_pair (group_first key) l)) before.lowest_is
-                  ∙ sym (lowest_more (map_list group_first (NotIn listed keys)) (group_first key))
-                  ∙ ap (λ l. take 20 (in_order l))
+              lowest_is = ap (pair_kept (group_first key)) before.lowest_is
+                  ∙ ap (with_all all)
+                  (sym (shown_more all (map_list group_first (NotIn listed keys)) (group_first key)))
+                  ∙ ap (λ l. with_all all (shown_pairs all (in_order l)))
                   (sym (map-append group_first (NotIn listed keys) (key ∷ [])))
-                  ∙ ap (λ l. take 20 (in_order (map_list group_first l)))
+                  ∙ ap (λ l. with_all all (shown_pairs all (in_order (map_list group_first l))))
                   (sym (filter_more passes keys key (ap not other)));
             })
       ]
 
 -- the notes so far are those of these rows
-abbrev TellsRows : List (ℕ × ℕ) → List RowText → NotesSoFar → Type 0
-TellsRows listed rows notes =
-    Tells listed (filter_map unresolved_key rows) (filter_map every_source_entry rows)
+abbrev TellsRows : Bool → List (ℕ × ℕ) → List RowText → NotesSoFar → Type 0
+TellsRows all listed rows notes =
+    Tells all listed (filter_map unresolved_key rows) (filter_map every_source_entry rows)
     (filter_map key_of rows) notes
 
 -- with one row more
-tells_row : (listed : List (ℕ × ℕ)) (rows : List RowText) (row : RowText) (notes : NotesSoFar)
-    → TellsRows listed rows notes → TellsRows listed (rows ++ row ∷ []) (row_noted notes row)
-tells_row listed rows row notes before =
+tells_row : (all : Bool) (listed : List (ℕ × ℕ)) (rows : List RowText) (row : RowText) (notes : NotesSoFar)
+    → TellsRows all listed rows notes → TellsRows all listed (rows ++ row ∷ []) (row_noted notes row)
+tells_row all listed rows row notes before =
     let us = filter_map unresolved_key rows in
     let es = filter_map every_source_entry rows in
     let ks = filter_map key_of rows in
     let u = unresolved_key row in
     let e = every_source_entry row in
-    let first = tells_unresolved listed us es ks notes before u in
-    let second = tells_first listed (us ++ cons_option u []) es ks (unresolved_noted notes u) first e in
-    let third = tells_key listed (us ++ cons_option u []) (es ++ cons_option e []) ks
+    let first = tells_unresolved all listed us es ks notes before u in
+    let second = tells_first all listed (us ++ cons_option u []) es ks (unresolved_noted notes u) first e in
+    let third = tells_key all listed (us ++ cons_option u []) (es ++ cons_option e []) ks
     (every_source_noted (unresolved_noted notes u) e) second (key_of row) in
     rw (
       filter_map-append unresolved_key rows (row ∷ []),
@@ -398,20 +404,20 @@ tells_row listed rows row notes before =
     ) third
 
 -- none of them
-tells_none : (listed : List (ℕ × ℕ)) → TellsRows listed [] (no_notes listed)
-tells_none listed = record {
+tells_none : (all : Bool) (listed : List (ℕ × ℕ)) → TellsRows all listed [] (no_notes all listed)
+tells_none all listed = record {
   listed_is = refl;
   first_listed = refl;
   unresolved_is = refl;
   first_is = refl;
   unlisted_is = refl;
-  lowest_is = nothing_lowest;
+  lowest_is = ap (with_all all) (nothing_shown all);
 }
 
 -- what is told of them
-told_is : (listed : List (ℕ × ℕ)) (rows : List RowText) (notes : NotesSoFar)
-    → TellsRows listed rows notes → told notes ≡ notes_of listed rows
-told_is listed rows notes tells =
+told_is : (all : Bool) (listed : List (ℕ × ℕ)) (rows : List RowText) (notes : NotesSoFar)
+    → TellsRows all listed rows notes → told notes ≡ notes_of all listed rows
+told_is all listed rows notes tells =
     rw (tells.unresolved_is, tells.first_is, tells.unlisted_is, tells.lowest_is) refl
 
 -- ---- the notes of a text's rows
@@ -435,14 +441,14 @@ row_read order earlier line row is =
     read.1 ∙ kept.1
 
 -- the lines after some rows
-tells_lines : (order : Order) (listed : List (ℕ × ℕ)) (lines : List LineText)
-    (earlier rows : List RowText) (notes : NotesSoFar) → TellsRows listed earlier notes
+tells_lines : (all : Bool) (order : Order) (listed : List (ℕ × ℕ)) (lines : List LineText)
+    (earlier rows : List RowText) (notes : NotesSoFar) → TellsRows all listed earlier notes
     → rows_after (row_at order) earlier lines ≡ Ok rows
-    → TellsRows listed rows (notes_from order notes lines)
-tells_lines order listed [] earlier rows notes tells is =
-    subst (λ (r : List RowText). TellsRows listed r notes)
+    → TellsRows all listed rows (notes_from order notes lines)
+tells_lines all order listed [] earlier rows notes tells is =
+    subst (λ (r : List RowText). TellsRows all listed r notes)
     (ok_is {E = TableFault} earlier rows is) tells
-tells_lines order listed (line ∷ lines) earlier rows notes tells is =
+tells_lines all order listed (line ∷ lines) earlier rows notes tells is =
     let read = bind_ok (row_at order earlier line)
     (λ row. rows_after (row_at order) (earlier ++ row ∷ []) lines) rows is in
     let row = read.0 in
@@ -450,9 +456,9 @@ tells_lines order listed (line ∷ lines) earlier rows notes tells is =
     row_read order earlier line row (at_line_ok line.number (row_in_line order earlier line) row read.1) in
     let noted : line_noted order notes line ≡ row_noted notes row =
     ap (read_noted notes) words in
-    tells_lines order listed lines (earlier ++ row ∷ []) rows (line_noted order notes line)
-    (subst (λ (n : NotesSoFar). TellsRows listed (earlier ++ row ∷ []) n) (sym noted)
-    (tells_row listed earlier row notes tells)) read.2
+    tells_lines all order listed lines (earlier ++ row ∷ []) rows (line_noted order notes line)
+    (subst (λ (n : NotesSoFar). TellsRows all listed (earlier ++ row ∷ []) n) (sym noted)
+    (tells_row all listed earlier row notes tells)) read.2
 
 -- the lines after a header
 lines_are : (lines rest : List LineText) → header_in (codes "Group") lines ≡ Ok rest
@@ -463,44 +469,44 @@ lines_are (header ∷ lines) rest is =
     ok_is {E = TableFault} lines rest read.2
 
 -- with nothing before it, a text is read as the whole text
-pub noted_whole : (order : Order) (listed : List (ℕ × ℕ)) (text : List ℕ)
+pub noted_whole : (all : Bool) (order : Order) (listed : List (ℕ × ℕ)) (text : List ℕ)
     → length text ≤ 16777216
-    → noted_if (no_noted_cache order listed) text ≡ noted_in order listed text
-noted_whole order listed text within =
+    → noted_if (no_noted_cache all order listed) text ≡ noted_in all order listed text
+noted_whole all order listed text within =
     let fits : nat_lt 16777216 (length text) ≡ false = le-ltb 16777216 (length text) within in
-    let start = no_noted_rows order listed in
+    let start = no_noted_rows all order listed in
     let left = drop 1 (lines_of text) in
     noted_is no_lines start text
-    ∙ ap (λ r. r >>= with_notes order (no_notes listed) left) (reads_whole order (Some listed) text within)
+    ∙ ap (λ r. r >>= with_notes order (no_notes all listed) left) (reads_whole order (Some listed) text within)
     ∙ elim (cache_rows_in order text) as (λ r. cache_rows_in order text ≡ r
     → ((r >>= λ rows. Ok (table_of (kept_rows (Some listed) rows)))
-    >>= with_notes order (no_notes listed) left)
+    >>= with_notes order (no_notes all listed) left)
     ≡ (r >>= λ rows. Ok (record {
       table = table_of (kept_rows (Some listed) rows);
-      notes = notes_of listed rows;
+      notes = notes_of all listed rows;
     }))) [
       | Err fault ↦ λ is. refl
       | Ok rows ↦ λ is.
           let read = bind_ok (header_in (codes "Group") (lines_of text)) (rows_after (row_at order) [])
           rows (rw fits at is) in
-          let tells = tells_lines order listed left [] rows (no_notes listed) (tells_none listed)
+          let tells = tells_lines all order listed left [] rows (no_notes all listed) (tells_none all listed)
           (ap (rows_after (row_at order) []) (lines_are (lines_of text) read.0 read.1) ∙ read.2) in
           ap (λ n. Ok (record { table = table_of (kept_rows (Some listed) rows); notes = n }))
-          (told_is listed rows (notes_from order (no_notes listed) left) tells)
+          (told_is all listed rows (notes_from order (no_notes all listed) left) tells)
     ] refl
 
 -- ---- what they tell
 
 -- the table is that without notes
-pub same_table : (order : Order) (listed : List (ℕ × ℕ)) (text : List ℕ)
+pub same_table : (all : Bool) (order : Order) (listed : List (ℕ × ℕ)) (text : List ℕ)
     → listed_in order (Some listed) text
-    ≡ table_alone (noted_in order listed text)
-same_table order listed text =
+    ≡ table_alone (noted_in all order listed text)
+same_table all order listed text =
     elim (cache_rows_in order text) as (λ r.
     (r >>= λ rows. Ok (table_of (kept_rows (Some listed) rows)))
     ≡ table_alone (r >>= λ rows. Ok (record {
       table = table_of (kept_rows (Some listed) rows);
-      notes = notes_of listed rows;
+      notes = notes_of all listed rows;
     }))) [
       | Err fault ↦ refl
       | Ok rows ↦ refl
@@ -554,10 +560,10 @@ any_listed listed (k ∷ keys) key =
           ∙ both_differ listed key k rest other
     ]
 
-pub tells_of_unresolved : (listed : List (ℕ × ℕ)) (rows : List RowText) (key : ℕ × ℕ)
-    → set.contains (notes_of listed rows).unresolved key
+pub tells_of_unresolved : (all : Bool) (listed : List (ℕ × ℕ)) (rows : List RowText) (key : ℕ × ℕ)
+    → set.contains (notes_of all listed rows).unresolved key
     ≡ (is_listed (Some listed) key && list_any (same_key key) (filter_map unresolved_key rows))
-tells_of_unresolved listed rows key =
+tells_of_unresolved all listed rows key =
     set.contains-from_list key_total (IsIn listed (filter_map unresolved_key rows)) key
     ∙ any_listed listed (filter_map unresolved_key rows) key
 
@@ -579,11 +585,11 @@ found_listed listed (e ∷ es) key is =
           ∙ ap (λ b. cond b (Some e.1) (map.find key_cmp key es)) (sym differs)
     ]
 
-pub tells_of_every_source : (listed : List (ℕ × ℕ)) (rows : List RowText) (group : ℕ)
+pub tells_of_every_source : (all : Bool) (listed : List (ℕ × ℕ)) (rows : List RowText) (group : ℕ)
     → is_listed (Some (keys_for_every_source listed)) (0, group) ≡ true
-    → map.get (notes_of listed rows).for_every_source (0, group)
+    → map.get (notes_of all listed rows).for_every_source (0, group)
     ≡ map.find key_cmp (0, group) (filter_map every_source_entry rows)
-tells_of_every_source listed rows group is =
+tells_of_every_source all listed rows group is =
     let es = filter_map every_source_entry rows in
     map.get-from_entries key_total (EntriesIn (keys_for_every_source listed) es) (0, group)
     ∙ found_listed (keys_for_every_source listed) es (0, group) is

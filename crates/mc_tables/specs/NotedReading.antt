@@ -1,5 +1,5 @@
 -- A cache that is read with notes of its rows: its table and the notes, or the first fault.
-use Rattle.std.specs.Prelude.{ℕ, List, Option, Some, None, Result, Ok, Err, codes}
+use Rattle.std.specs.Prelude.{Bool, ℕ, List, Option, Some, None, Result, Ok, Err, codes}
 use Rattle.mc_text.specs.declared.text.addr.Order.{Order}
 use Rattle.mc_text.specs.Lines.{LineText}
 use Rattle.mc_text.specs.Steps.{◌>>=◌}
@@ -17,10 +17,10 @@ use Rattle.mc_tables.specs.NotesSoFar.{NotesSoFar, no_notes, line_noted, notes_f
 -- ---- the text
 
 -- the table and the notes of a text's rows, of which the listed ones are kept, or the first fault
-abbrev pub noted_in : Order → List (ℕ × ℕ) → List ℕ → Result NotedCache TableFault
-noted_in order listed text =
+abbrev pub noted_in : (all : Bool) → Order → List (ℕ × ℕ) → List ℕ → Result NotedCache TableFault
+noted_in all order listed text =
     cache_rows_in order text >>= λ rows.
-    Ok (record { table = table_of (kept_rows (Some listed) rows); notes = notes_of listed rows })
+    Ok (record { table = table_of (kept_rows (Some listed) rows); notes = notes_of all listed rows })
 
 -- the table without the notes, or the fault
 abbrev pub table_alone : Result NotedCache TableFault → Result CacheText TableFault
@@ -55,13 +55,13 @@ pub record NotedCacheSoFar : Type 0 where
   pub fault : Option TableFault
 
 -- nothing has come, and these are listed
-abbrev pub no_noted_rows : Order → List (ℕ × ℕ) → NotedSoFar
-no_noted_rows order listed =
-    record { rows = no_rows order (listed_set (Some listed)); notes = no_notes listed }
+abbrev pub no_noted_rows : (all : Bool) → Order → List (ℕ × ℕ) → NotedSoFar
+no_noted_rows all order listed =
+    record { rows = no_rows order (listed_set (Some listed)); notes = no_notes all listed }
 
-abbrev pub no_noted_cache : Order → List (ℕ × ℕ) → NotedCacheSoFar
-no_noted_cache order listed =
-    record { lines = no_lines; rows = no_noted_rows order listed; fault = None }
+abbrev pub no_noted_cache : (all : Bool) → Order → List (ℕ × ℕ) → NotedCacheSoFar
+no_noted_cache all order listed =
+    record { lines = no_lines; rows = no_noted_rows all order listed; fault = None }
 
 -- the table and the notes if these bytes come
 abbrev pub noted_after : LinesSoFar → NotedSoFar → List ℕ → Result NotedCache TableFault

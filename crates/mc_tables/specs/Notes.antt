@@ -1,5 +1,5 @@
 -- What is noted of the rows of a cache besides the table of those that are kept.
-use Rattle.std.specs.Prelude.{ℕ, ◌==◌, not, List, ◌∷◌, length, take, filter}
+use Rattle.std.specs.Prelude.{Bool, ℕ, ◌==◌, not, List, ◌∷◌, length, take, filter}
 use Rattle.std.specs.Prelude.{map as map_list, Option, Some, None, IfSome, if◌then◌else◌}
 use Rattle.std.specs.Coded.{Coded, coded×, coded_ℕ}
 use Rattle.std.specs.List.{filter_map}
@@ -41,9 +41,13 @@ group_first key = (key.1, key.0)
 abbrev pub in_order : List (ℕ × ℕ) → List (ℕ × ℕ)
 in_order pairs = map.keys (map.from_entries {R = key_cmp} (map_list (λ pair. (pair, tt {0})) pairs))
 
+-- all pairs, or the first 20
+abbrev pub shown_pairs : (all : Bool) → List (ℕ × ℕ) → List (ℕ × ℕ)
+shown_pairs all pairs = if all then pairs else take 20 pairs
+
 -- The listed sources and groups of unresolved rows; the first row for every source of each group of
 -- which these are noted; of the resolved rows whose source and group are not listed how many there
--- are, and the 20 lowest, by group and then by source, each with its group first.
+-- are, and these, or the 20 lowest of them, by group and then by source, each with its group first.
 pub record NotesText : Type 0 where
   pub unresolved : set.FinSet key_cmp
   pub for_every_source : map.FinMap key_cmp EntryText
@@ -59,15 +63,15 @@ abbrev pub unlisted_keys : List (ℕ × ℕ) → List RowText → List (ℕ × �
 unlisted_keys listed rows =
     filter (λ key. not (is_listed (Some listed) key)) (filter_map key_of rows)
 
-abbrev pub notes_of : List (ℕ × ℕ) → List RowText → NotesText
-notes_of listed rows = record {
+abbrev pub notes_of : (all : Bool) → List (ℕ × ℕ) → List RowText → NotesText
+notes_of all listed rows = record {
   unresolved = set.from_list (filter (is_listed (Some listed)) (filter_map unresolved_key rows));
   -- of two rows of one group the map has the first
   for_every_source = map.from_entries
       (filter (λ exact. is_listed (Some (keys_for_every_source listed)) exact.0)
       (filter_map every_source_entry rows));
   unlisted = length (unlisted_keys listed rows);
-  lowest = take 20 (in_order (map_list group_first (unlisted_keys listed rows)));
+  lowest = shown_pairs all (in_order (map_list group_first (unlisted_keys listed rows)));
 }
 
 -- what all notes keep: each entry stands as those of a table do

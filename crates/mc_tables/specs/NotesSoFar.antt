@@ -1,6 +1,6 @@
 -- Notes of a cache whose text comes in pieces, row by row.
-use Rattle.std.specs.Prelude.{◌≡◌, ℕ, ◌+◌, ◌&&◌, true, false, not, List, [], ◌∷◌, ◌++◌}
-use Rattle.std.specs.Prelude.{take, Option, Some, None, is_some, Result, Ok, Err}
+use Rattle.std.specs.Prelude.{◌≡◌, Bool, ℕ, ◌+◌, ◌&&◌, true, false, not, List, [], ◌∷◌, ◌++◌}
+use Rattle.std.specs.Prelude.{map as map_list, Option, Some, None, is_some, Result, Ok, Err}
 use Rattle.std.specs.Prelude.{if◌then◌else◌}
 use Rattle.std.specs.FinMap as map
 use Rattle.std.specs.FinSet as set
@@ -16,7 +16,7 @@ use Rattle.mc_tables.specs.CacheNumbers.{KeptText}
 use Rattle.mc_tables.specs.CacheReading.{row_in_words}
 use Rattle.mc_tables.specs.ListedRows.{ListedSet, is_in, listed_set}
 use Rattle.mc_tables.specs.Notes.{unresolved_key, every_source_entry, keys_for_every_source}
-use Rattle.mc_tables.specs.Notes.{group_first, NotesText}
+use Rattle.mc_tables.specs.Notes.{group_first, shown_pairs, NotesText}
 
 -- ---- one entry more
 
@@ -47,7 +47,7 @@ first_added kept key entry =
     if is_in kept.listed key && not (is_some (map.get kept.table.entries key))
     then with_entry kept key entry else kept
 
--- ---- the lowest pairs
+-- ---- the pairs that are kept
 
 -- a pair before the pairs from p on, or p with those after it, where the pair is less, equal or
 -- greater
@@ -61,20 +61,30 @@ abbrev pub put_pair : ℕ × ℕ → List (ℕ × ℕ) → List (ℕ × ℕ)
 put_pair pair [] = pair ∷ []
 put_pair pair (p ∷ ps) = put_at (key_cmp pair p) pair p ps (put_pair pair ps)
 
+-- whether all that came are kept, or the lowest; and those that are, ascending and each once
+pub record KeptPairs : Type 0 where
+  pub all : Bool
+  pub pairs : List (ℕ × ℕ)
+
+-- a pair more
+abbrev pub pair_kept : ℕ × ℕ → KeptPairs → KeptPairs
+pair_kept pair kept =
+    record { all = kept.all; pairs = shown_pairs kept.all (put_pair pair kept.pairs) }
+
 -- ---- row by row
 
 -- The sources and groups that are listed, and those of them of unresolved rows; the first rows for
--- every source; how many rows are of others, and the lowest of those.
+-- every source; how many rows are of others, and which of those are kept.
 pub record NotesSoFar : Type 0 where
   pub listed : ListedSet
   pub unresolved : set.FinSet key_cmp
   pub first : KeptText
   pub unlisted : ℕ
-  pub lowest : List (ℕ × ℕ)
+  pub lowest : KeptPairs
 
 -- no rows have come
-abbrev pub no_notes : List (ℕ × ℕ) → NotesSoFar
-no_notes listed = record {
+abbrev pub no_notes : (all : Bool) → List (ℕ × ℕ) → NotesSoFar
+no_notes all listed = record {
   listed = listed_set (Some listed);
   unresolved = set.empty;
   first = record {
@@ -83,7 +93,7 @@ no_notes listed = record {
     groups = [];
   };
   unlisted = 0;
-  lowest = [];
+  lowest = record { all = all; pairs = [] };
 }
 
 -- an unresolved row, if it is one
@@ -115,7 +125,7 @@ unlisted_noted notes key = record {
   unresolved = notes.unresolved;
   first = notes.first;
   unlisted = notes.unlisted + 1;
-  lowest = take 20 (put_pair (group_first key) notes.lowest);
+  lowest = pair_kept (group_first key) notes.lowest;
 }
 
 -- a row of a source and a group, if it is one
@@ -136,7 +146,17 @@ told notes = record {
   unresolved = notes.unresolved;
   for_every_source = notes.first.table.entries;
   unlisted = notes.unlisted;
-  lowest = notes.lowest;
+  lowest = notes.lowest.pairs;
+}
+
+-- the same of its parts: the numbers of the unresolved ones, the first rows for every source, and
+-- how many rows are of others and which of those are kept
+abbrev pub told_by : List ((ℕ × ℕ) × ℕ) → KeptText → ℕ → List (ℕ × ℕ) → NotesText
+told_by numbers first unlisted lowest = record {
+  unresolved = set.from_list (map_list (λ p. p.0) numbers);
+  for_every_source = first.table.entries;
+  unlisted = unlisted;
+  lowest = lowest;
 }
 
 -- ---- line by line

@@ -1,12 +1,15 @@
 //! What is noted of the rows of a forwarding cache besides its table.
 
 ghost use Rattle.std.specs.Prelude.{◌≡◌, IfSome};
+ghost use Rattle.std.specs.FinMap as map;
 ghost use Rattle.std.specs.FinSet as set;
 ghost use Rattle.mc_tables.specs.CacheTable.{IsEntry};
 ghost use Rattle.mc_tables.specs.Notes.{EntriesStand, every_source_row};
 ghost use Rattle.mc_tables.specs.NotesSoFar.{told};
 
+use crate::cache_rows::CacheRows;
 use crate::entry::Entry;
+use crate::listed_numbers::ListedNumbers;
 use crate::notes_so_far::NotesSoFar;
 use mc_text::Addr;
 use std::marker::Model;
@@ -15,22 +18,28 @@ use std::marker::Model;
 /// and which resolved rows are of sources and groups that aren't listed.
 #[derive(Debug, Drop)]
 pub struct CacheNotes {
-    notes: NotesSoFar,
+    // those of unresolved rows have a number
+    unresolved: ListedNumbers,
+    first: CacheRows,
+    unlisted: u32,
+    lowest: Vec<(Addr, Addr)>,
 }
 
 impl Model for CacheNotes {
     ghost use Rattle.std.specs.Coded.{codes};
+    ghost use Rattle.mc_tables.specs.CacheTable.{cache_code};
     ghost use Rattle.mc_tables.specs.ListedRows.{pairs_code};
     ghost use Rattle.mc_tables.specs.Notes.{EntriesStand, NotesText, entries_code};
-    ghost use Rattle.mc_tables.specs.NotesSoFar.{told};
+    ghost use Rattle.mc_tables.specs.NotesSoFar.{told_by};
 
     ghost Value = { NotesText };
 
-    ghost coded = { Prim.hlevel (codes, pairs_code, entries_code) };
+    ghost coded = { Prim.hlevel (codes, pairs_code, entries_code, cache_code) };
 
-    ghost view = { λ s. told s.notes };
+    ghost view = { λ s. told_by s.unresolved.numbers s.first s.unlisted s.lowest.items };
 
-    ghost invariant = { λ s. EntriesStand (told s.notes) };
+    ghost invariant = { λ s. EntriesStand
+        (told_by s.unresolved.numbers s.first s.unlisted s.lowest.items) };
 }
 
 impl CacheNotes {
@@ -39,7 +48,13 @@ impl CacheNotes {
         requires { EntriesStand (told notes) }
         ensures { result ≡ told notes }
     {
-        CacheNotes { notes }
+        let (unresolved, first, unlisted, lowest) = notes.into_parts();
+        CacheNotes {
+            unresolved,
+            first,
+            unlisted,
+            lowest,
+        }
     }
 
     /// Whether a source and a group are listed and an unresolved row has them: packets came for
@@ -47,7 +62,9 @@ impl CacheNotes {
     pub fn is_unresolved(&self, source: Addr, group: Addr) -> bool
         ensures { result ≡ set.contains self.now.unresolved (source, group) }
     {
-        self.notes.is_unresolved(source, group)
+        self.unresolved
+            .number_near(&(source, group), &mut 0)
+            .is_some()
     }
 
     /// The first resolved row of origin 0.0.0.0 and this group, if that is a listed one, or else
@@ -57,11 +74,11 @@ impl CacheNotes {
         ensures stands { IfSome result (λ row. IsEntry row.1) }
         ensures rules { EntriesStand self.now }
     {
-        if let Some(entry) = self.notes.first_for_every_source(group) {
+        if let Some(entry) = first_for_every_source(&self.first, group) {
             return Some((group, entry));
         }
         let every_group = Addr::from_octets([0, 0, 0, 0]);
-        match self.notes.first_for_every_source(every_group) {
+        match first_for_every_source(&self.first, every_group) {
             Some(entry) => Some((every_group, entry)),
             None => None,
         }
@@ -72,14 +89,26 @@ impl CacheNotes {
     pub fn unlisted_rows(&self) -> u32
         ensures { result ≡ self.now.unlisted }
     {
-        self.notes.unlisted()
+        self.unlisted
     }
 
-    /// The groups and sources of the lowest 20 of those rows, or of all if they are fewer: each as
-    /// its group and its source, by group and then by source.
+    /// The groups and sources of those rows, where the notes were to keep all of them, and else of
+    /// the lowest 20, or of all if they are fewer: each as its group and its source, by group and
+    /// then by source.
     pub fn lowest_unlisted(&self) -> &[(Addr, Addr)]
         ensures { result.now ≡ self.now.lowest }
     {
-        self.notes.lowest()
+        self.lowest.as_slice()
+    }
+}
+
+/// The first row for every source of this group, if those of the group are noted.
+fn first_for_every_source(first: &CacheRows, group: Addr) -> Option<Entry<'_>>
+    ensures { result ≡ map.get first.now.table.entries (0, group) }
+{
+    let every_source = Addr::from_octets([0, 0, 0, 0]);
+    match first.number_near(every_source, group, &mut 0) {
+        Some(number) => Some(first.entry_at(number)),
+        None => None,
     }
 }

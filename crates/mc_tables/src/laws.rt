@@ -1,6 +1,6 @@
 //! What follows from the definitions alone, for whoever builds on them.
 
-ghost use Rattle.std.specs.Prelude.{◌≡◌, ◌≢◌, ◌≤◌, ◌↔◌, ◌&&◌, ℕ, List, IsSome, IfSome, Ok, Err, Some};
+ghost use Rattle.std.specs.Prelude.{◌≡◌, ◌≢◌, ◌≤◌, ◌↔◌, ◌&&◌, Bool, ℕ, List, IsSome, IfSome, Ok, Err, Some};
 ghost use Rattle.std.specs.Prelude.{true};
 ghost use Rattle.std.specs.List.{filter_map, list_any};
 ghost use Rattle.std.specs.FinSet as set;
@@ -75,20 +75,20 @@ pub fn listed_rows_are_part_of_the_whole()
 
 /// A cache that is read with notes has the table that it has without, and its faults are the same.
 pub fn notes_change_no_table()
-    ensures { (order : Order) (listed : List (ℕ × ℕ)) (text : List ℕ) →
+    ensures { (all : Bool) (order : Order) (listed : List (ℕ × ℕ)) (text : List ℕ) →
         listed_in order (Some listed) text
-        ≡ table_alone (noted_in order listed text) }
+        ≡ table_alone (noted_in all order listed text) }
 {}
 
 /// What the notes of some rows tell of a source and a group: whether they are listed and of an
 /// unresolved row; and of a group that is a listed one, or 0.0.0.0, the first of the rows for every
 /// source that has it.
 pub fn notes_tell_of_rows()
-    ensures unresolved { (listed : List (ℕ × ℕ)) (rows : List RowText) (key : ℕ × ℕ) →
-        set.contains (notes_of listed rows).unresolved key
+    ensures unresolved { (all : Bool) (listed : List (ℕ × ℕ)) (rows : List RowText) (key : ℕ × ℕ) →
+        set.contains (notes_of all listed rows).unresolved key
         ≡ (is_listed (Some listed) key && list_any (same_key key) (filter_map unresolved_key rows)) }
-    ensures every_source { (listed : List (ℕ × ℕ)) (rows : List RowText) (group : ℕ) →
+    ensures every_source { (all : Bool) (listed : List (ℕ × ℕ)) (rows : List RowText) (group : ℕ) →
         is_listed (Some (keys_for_every_source listed)) (0, group) ≡ true →
-        get (notes_of listed rows).for_every_source (0, group)
+        get (notes_of all listed rows).for_every_source (0, group)
         ≡ find key_cmp (0, group) (filter_map every_source_entry rows) }
 {}

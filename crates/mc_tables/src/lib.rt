@@ -32,6 +32,7 @@ mod outgoing;
 mod piece_lines;
 mod plain_row;
 mod rows;
+mod shown_pairs;
 mod table_words;
 mod vif;
 mod vif_line;

@@ -53,9 +53,10 @@ impl LowestPairs {
     }
 
     /// Those that are kept.
-    pub fn as_slice(&self) -> &[(Addr, Addr)]
-        ensures { result.now ≡ self.now }
+    pub fn into_vec(self) -> Vec<(Addr, Addr)>
+        ensures { result.items ≡ self }
     {
-        self.pairs.as_slice()
+        let LowestPairs { pairs } = self;
+        pairs
     }
 }

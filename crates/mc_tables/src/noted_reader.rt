@@ -51,16 +51,17 @@ impl Model for NotedReader {
 
 impl NotedReader {
     /// A reader that was fed nothing, for a router whose machine has this byte order. It keeps the
-    /// rows of these sources and groups, and notes what concerns them.
-    pub fn new(alloc: Global, order: Order, listed: NotedPairs) -> NotedReader
-        ensures start { result ≡ no_noted_cache order listed }
+    /// rows of these sources and groups, and notes what concerns them; and of the rows of others the
+    /// sources and groups of all, or of the lowest.
+    pub fn new(alloc: Global, order: Order, listed: NotedPairs, all: bool) -> NotedReader
+        ensures start { result ≡ no_noted_cache all order listed }
         // A text of any bytes ends with what the whole text is read as.
         ensures reads { (text : List ℕ) → length text ≤ max_text →
-            noted_if result text ≡ noted_in order listed text }
+            noted_if result text ≡ noted_in all order listed text }
     {
         NotedReader {
             lines: PieceLines::new(alloc),
-            rows: NotedRows::new(alloc, order, listed),
+            rows: NotedRows::new(alloc, order, listed, all),
             fault: None,
         }
     }

@@ -54,14 +54,15 @@ impl Model for NotedRows {
 }
 
 impl NotedRows {
-    /// No rows. Those of these sources and groups are kept.
-    pub fn new(alloc: Global, order: Order, listed: NotedPairs) -> NotedRows
-        ensures { result ≡ no_noted_rows order listed }
+    /// No rows. Those of these sources and groups are kept, and of the others all are noted or the
+    /// lowest.
+    pub fn new(alloc: Global, order: Order, listed: NotedPairs, all: bool) -> NotedRows
+        ensures { result ≡ no_noted_rows all order listed }
     {
         let (pairs, again, for_every_source) = listed.into_lists();
         NotedRows {
             rows: ListedRows::new(alloc, order, KeyNumbers::of_listed(alloc, pairs)),
-            notes: NotesSoFar::new(alloc, again, for_every_source),
+            notes: NotesSoFar::new(alloc, again, for_every_source, all),
         }
     }
 

@@ -1,8 +1,7 @@
 //! What is noted of the rows of a cache while they come.
 
 ghost use Rattle.std.specs.Prelude.{◌≡◌, ◌<◌, ◌≤◌, ◌+◌, [], length, OnOk, IfErr, IfOk, None, Some};
-ghost use Rattle.std.specs.Prelude.{if◌then◌else◌, is_some, slice_get};
-ghost use Rattle.std.specs.FinMap as map;
+ghost use Rattle.std.specs.Prelude.{if◌then◌else◌, is_some, map, slice_get};
 ghost use Rattle.std.specs.FinSet as set;
 ghost use Rattle.mc_tables.specs.declared.fault.TableFaultKind.TheVariants.{Memory};
 ghost use Rattle.mc_tables.specs.CacheTable.{key_cmp, table_of};
@@ -19,20 +18,20 @@ use crate::fault::TableFaultKind;
 use crate::key_numbers::KeyNumbers;
 use crate::listed_numbers::ListedNumbers;
 use crate::listed_pairs::ListedPairs;
-use crate::lowest_pairs::LowestPairs;
+use crate::shown_pairs::ShownPairs;
 use mc_text::Addr;
 use std::alloc::Global;
 use std::marker::Model;
 
 /// The listed sources and groups of unresolved rows, the first rows for every source, and how many
-/// resolved rows are of other sources and groups, with the lowest of those.
+/// resolved rows are of other sources and groups, with all of those or the lowest.
 #[derive(Debug, Drop)]
 pub struct NotesSoFar {
     // those of unresolved rows have a number
     unresolved: ListedNumbers,
     first: CacheRows,
     unlisted: u32,
-    lowest: LowestPairs,
+    lowest: ShownPairs,
 }
 
 impl Model for NotesSoFar {
@@ -57,18 +56,23 @@ impl Model for NotesSoFar {
 }
 
 impl NotesSoFar {
-    /// No rows. Of the unresolved ones those of the first list are noted, and of those for every
-    /// source those of the second.
-    pub fn new(alloc: Global, listed: ListedPairs, for_every_source: ListedPairs) -> NotesSoFar
+    /// No rows. Of the unresolved ones those of the first list are noted, of those for every source
+    /// those of the second, and of the others all or the lowest.
+    pub fn new(
+        alloc: Global,
+        listed: ListedPairs,
+        for_every_source: ListedPairs,
+        all: bool,
+    ) -> NotesSoFar
         ensures { set.from_list for_every_source
             ≡ set.from_list {R = key_cmp} (keys_for_every_source listed) →
-            result ≡ no_notes listed }
+            result ≡ no_notes all listed }
     {
         NotesSoFar {
             unresolved: ListedNumbers::of(alloc, listed),
             first: CacheRows::new(alloc, KeyNumbers::of_listed(alloc, for_every_source)),
             unlisted: 0,
-            lowest: LowestPairs::new(alloc),
+            lowest: ShownPairs::new(alloc, all),
         }
     }
 
@@ -137,37 +141,20 @@ impl NotesSoFar {
         Ok(())
     }
 
-    /// Whether a source and a group are listed and of an unresolved row.
-    pub fn is_unresolved(&self, source: Addr, group: Addr) -> bool
-        ensures { result ≡ set.contains self.now.unresolved (source, group) }
+    /// The sources and groups of unresolved rows, which have a number; the first rows for every
+    /// source; and of the others how many rows there are, and which pairs are kept.
+    pub fn into_parts(self) -> (ListedNumbers, CacheRows, u32, Vec<(Addr, Addr)>)
+        ensures unresolved { set.from_list (map (λ p. p.0) result.0.numbers) ≡ self.unresolved }
+        ensures first { result.1 ≡ self.first }
+        ensures unlisted { result.2 ≡ self.unlisted }
+        ensures lowest { result.3.items ≡ self.lowest.pairs }
     {
-        self.unresolved
-            .number_near(&(source, group), &mut 0)
-            .is_some()
-    }
-
-    /// The first row for every source of this group, if those of the group are noted.
-    pub fn first_for_every_source(&self, group: Addr) -> Option<Entry<'_>>
-        ensures { result ≡ map.get self.now.first.table.entries (0, group) }
-    {
-        let every_source = Addr::from_octets([0, 0, 0, 0]);
-        match self.first.number_near(every_source, group, &mut 0) {
-            Some(number) => Some(self.first.entry_at(number)),
-            None => None,
-        }
-    }
-
-    /// How many resolved rows are of sources and groups that aren't listed.
-    pub fn unlisted(&self) -> u32
-        ensures { result ≡ self.now.unlisted }
-    {
-        self.unlisted
-    }
-
-    /// The lowest of those, by group and then by source, each with its group first.
-    pub fn lowest(&self) -> &[(Addr, Addr)]
-        ensures { result.now ≡ self.now.lowest }
-    {
-        self.lowest.as_slice()
+        let NotesSoFar {
+            unresolved,
+            first,
+            unlisted,
+            lowest,
+        } = self;
+        (unresolved, first, unlisted, lowest.into_vec())
     }
 }

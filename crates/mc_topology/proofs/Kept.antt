@@ -3,20 +3,18 @@ use Rattle.std.proofs.Common.{◌≡◌, ℕ, zero, suc, ◌<◌, IsTrue, Bool, 
 use Rattle.std.proofs.Common.{◌∷◌, length, Some, Ok, refl, subst, arith, option_map}
 use Rattle.std.specs.Prelude.{◌==◌, slice_get, find}
 use Rattle.toml.specs.Data.{Data, Members}
-use Rattle.mc_topology.specs.declared.fault.TopologyFault.{TopologyFault}
 use Rattle.mc_topology.specs.declared.flow.Flow.{Flow}
 use Rattle.mc_topology.specs.Rows.{RouterRow, InterfaceRow, SourceRow}
 use Rattle.mc_topology.specs.Document.{rows_in}
 use Rattle.mc_topology.specs.Names.{is_name}
 use Rattle.mc_topology.specs.Sources.{lan_of_source}
-use Rattle.mc_topology.specs.Reading.{sections_in, topology_in}
+use Rattle.mc_topology.specs.Reading.{topology_in}
 use Rattle.mc_topology.specs.Stands.{EachStands, IsLan, IsRouter, IsInterface, IsSourceRow, IsFlow}
 use Rattle.mc_topology.specs.Stands.{DocumentStands, TopologyStands}
-use Rattle.mc_topology.specs.Topology.{Sections, TopologyValue, IsInterfaceAmong, IsFlowAmong}
-use Rattle.mc_topology.specs.Topology.{IsTopology, topology_of}
+use Rattle.mc_topology.specs.Topology.{TopologyValue, IsInterfaceAmong, IsSourceAmong, IsFlowAmong}
+use Rattle.mc_topology.specs.Topology.{IsTopology}
 use Rattle.mc_topology.proofs.NameLemmas.{lan_within, router_within}
-use Rattle.mc_topology.proofs.Steps.{bind_ok, ok_is}
-use Rattle.mc_topology.proofs.Whole.{each_length, sections_take}
+use Rattle.mc_topology.proofs.Whole.{each_length, topology_takes}
 
 -- ---- sources and flows
 
@@ -61,14 +59,23 @@ each_kept Stands Keeps keeps ds xs n x s e =
     keeps row.0 x row.1
 
 -- an interface that a row stands for is one among those of the topology
-interface_kept : (lans : List (List ℕ)) (routers : List RouterRow) (t : TopologyValue)
-    → t.lans ≡ lans → t.routers ≡ routers
-    → (d : Data) (i : InterfaceRow) → IsInterface lans routers d i → IsInterfaceAmong t i
-interface_kept lans routers t same_lans same_routers d i is =
+interface_kept : (t : TopologyValue) (d : Data) (i : InterfaceRow)
+    → IsInterface t.lans t.routers d i → IsInterfaceAmong t i
+interface_kept t d i is =
     record {
-      router = rw same_routers (router_within routers i.router is.router_name is.router);
+      router = router_within t.routers i.router is.router_name is.router;
       device = is.fits;
-      lan = rw same_lans (lan_within lans i.lan is.lan_name is.lan);
+      lan = lan_within t.lans i.lan is.lan_name is.lan;
+    }
+
+-- a source that a row stands for is one on the LANs
+source_kept : (lans : List (List ℕ)) (d : Data) (s : SourceRow) → IsSourceRow lans d s
+    → IsSourceAmong lans s
+source_kept lans d s is =
+    record {
+      is_address = is.is_address;
+      may_send = is.may_send;
+      lan = lan_within lans s.lan is.lan_name is.lan;
     }
 
 -- a flow that a row stands for is one on the LANs, as its source is
@@ -88,43 +95,40 @@ flow_kept lans sources f d is within =
 -- ---- the whole
 
 -- what a document stands for is a topology
-document_kept : (ms : Members) (s : Sections) → DocumentStands ms s → IsTopology (topology_of s)
-document_kept ms s is =
+document_kept : (ms : Members) (t : TopologyValue) → DocumentStands ms t → IsTopology t
+document_kept ms t is =
     record {
       few_lans = omega (arith, is.lans.few, each_length _ _ _ is.lans.each);
       few_routers = omega (arith, is.routers.few, each_length _ _ _ is.routers.each);
       few_interfaces = omega (arith, is.interfaces.few, each_length _ _ _ is.interfaces.each);
+      few_sources = omega (arith, is.sources.few, each_length _ _ _ is.sources.each);
       some_flow = is.some_flow;
       few_flows = omega (arith, is.flows.few, each_length _ _ _ is.flows.each);
       lan_names = is.lans.distinct;
       router_names = is.routers.distinct;
       interfaces_differ = is.interfaces.distinct;
+      sources_differ = is.sources.distinct;
       flows_differ = is.flows.distinct;
       lans_named = λ n name. each_kept IsLan (λ (x : List ℕ). IsTrue (is_name x))
-          (λ d x lan. lan.fits) (rows_in is.lans.items) s.lans n name is.lans.each;
+          (λ d x lan. lan.fits) (rows_in is.lans.items) t.lans n name is.lans.each;
       routers_named = λ n r. each_kept IsRouter (λ (x : RouterRow). IsTrue (is_name x.name))
-          (λ d x router. router.fits) is.routers.rows s.routers n r is.routers.each;
-      interfaces_among = λ n i. each_kept (IsInterface s.lans s.routers)
-          (IsInterfaceAmong (topology_of s))
-          (interface_kept s.lans s.routers (topology_of s) refl refl) is.interfaces.rows
-          s.interfaces n
-          i is.interfaces.each;
+          (λ d x router. router.fits) is.routers.rows t.routers n r is.routers.each;
+      interfaces_among = λ n i. each_kept (IsInterface t.lans t.routers) (IsInterfaceAmong t)
+          (interface_kept t) is.interfaces.rows t.interfaces n i is.interfaces.each;
+      sources_among = λ n s. each_kept (IsSourceRow t.lans) (IsSourceAmong t.lans)
+          (source_kept t.lans) is.sources.rows t.sources n s is.sources.each;
       flows_among =
           λ n f e.
-          let row = row_at (IsFlow s.sources) is.flows.rows s.flows n f is.flows.each e in
-          flow_kept s.lans s.sources f row.0 row.1
-          (λ address lan at. sourced s.lans is.sources.rows s.sources address lan is.sources.each
+          let row = row_at (IsFlow t.sources) is.flows.rows t.flows n f is.flows.each e in
+          flow_kept t.lans t.sources f row.0 row.1
+          (λ address lan at. sourced t.lans is.sources.rows t.sources address lan is.sources.each
           at);
     }
 
 -- a text that stands for a topology
 pub text_kept : (text : List ℕ) (t : TopologyValue) → TopologyStands text t → IsTopology t
-text_kept text t is = subst IsTopology is.makes (document_kept is.document is.sections is.stands)
+text_kept text t is = document_kept is.document t is.stands
 
 -- a table that is read gives a topology
 pub table_kept : (ms : Members) (t : TopologyValue) → topology_in ms ≡ Ok t → IsTopology t
-unfolding topology_in
-table_kept ms t e =
-    let s = bind_ok (sections_in ms) (λ sections. Ok (topology_of sections)) t e in
-    subst IsTopology (ok_is {E = TopologyFault} (topology_of s.0) t s.2)
-    (document_kept ms s.0 (sections_take ms s.0 s.1))
+table_kept ms t e = document_kept ms t (topology_takes ms t e)

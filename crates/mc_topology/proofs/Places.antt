@@ -4,8 +4,6 @@ use Rattle.std.proofs.Common.{Some, option_map, refl, sym, ap, arith}
 use Rattle.std.specs.Prelude.{String, string_bytes, slice_get}
 use Rattle.std.specs.Map.{keys_of, values_of}
 use Rattle.mc_text.specs.declared.text.addr.Order.{Order}
-use Rattle.mc_topology.specs.declared.interfaces.InterfaceKey.{InterfaceKey}
-use Rattle.mc_topology.specs.Lookup.{interface_row}
 use Rattle.mc_topology.specs.Rows.{RouterRow, router_row}
 
 -- the name of a router is its key's text
@@ -25,14 +23,13 @@ order_at [] i order at = absurd cc
 order_at (e ∷ es) zero order at = at
 order_at (e ∷ es) (suc i) order at = order_at es i order at
 
--- an interface is that of its key and its key's value
-pub interface_at : (es : List (InterfaceKey × ℕ)) (i : ℕ) (k : InterfaceKey) (lan : ℕ)
+-- a row that is made of a key and its value
+pub row_at : {K V R : Type 0} (row : K × V → R) (es : List (K × V)) (i : ℕ) (k : K) (v : V)
     → i < length es
-    → k ≡ get_or (keys_of es) i k → slice_get (values_of es) i ≡ Some lan
-    → slice_get (map interface_row es) i ≡ Some (interface_row (k, lan))
-interface_at [] i k lan within is at = absurd cc
-interface_at (e ∷ es) zero k lan within is at =
-    let value : e.1 ≡ lan = cc in
+    → k ≡ get_or (keys_of es) i k → slice_get (values_of es) i ≡ Some v
+    → slice_get (map row es) i ≡ Some (row (k, v))
+row_at row [] i k v within is at = absurd cc
+row_at row (e ∷ es) zero k v within is at =
+    let value : e.1 ≡ v = cc in
     rw (is, ← value) refl
-interface_at (e ∷ es) (suc i) k lan within is at =
-    interface_at es i k lan (omega (arith, within)) is at
+row_at row (e ∷ es) (suc i) k v within is at = row_at row es i k v (omega (arith, within)) is at

@@ -16,10 +16,10 @@ use Rattle.mc_topology.specs.Interfaces.{interfaces_in}
 use Rattle.mc_topology.specs.Sources.{sources_in}
 use Rattle.mc_topology.specs.Flows.{flows_in}
 use Rattle.mc_topology.specs.Answer.{◌>>=◌, out_of_memory}
-use Rattle.mc_topology.specs.Reading.{utf8_text, document_of, version_in, sections_in, topology_in}
+use Rattle.mc_topology.specs.Reading.{utf8_text, document_of, version_in, topology_in}
 use Rattle.mc_topology.specs.Reading.{sourced_flows_in, interfaces_and_flows_in, reading_of}
 use Rattle.mc_topology.specs.Stands.{TopologyStands}
-use Rattle.mc_topology.specs.Topology.{Sections, TopologyValue, topology_of}
+use Rattle.mc_topology.specs.Topology.{TopologyValue}
 use Rattle.mc_topology.proofs.Steps.{ok_is}
 use Rattle.mc_topology.proofs.Whole.{reading_takes, reading_again}
 
@@ -66,32 +66,39 @@ document_refused text few none = refused_by text (is_utf8 text) refl few none
 -- ---- the sections after the LANs and the routers
 
 -- steps that are done
-abbrev all_read : Sections → Result Sections TopologyFault
-all_read s = Ok s
-
 abbrev whole : TopologyValue → Result TopologyValue TopologyFault
 whole t = Ok t
 
-abbrev both : List InterfaceRow → List Flow → Result (List InterfaceRow × List Flow) TopologyFault
-both interfaces flows = Ok (interfaces, flows)
+abbrev both : List SourceRow → List Flow → Result (List SourceRow × List Flow) TopologyFault
+both sources flows = Ok (sources, flows)
+
+abbrev behind : List InterfaceRow → List SourceRow × List Flow
+    → Result (List InterfaceRow × List SourceRow × List Flow) TopologyFault
+behind interfaces sourced = Ok (interfaces, sourced.0, sourced.1)
 
 -- the topology of these sections
-abbrev with_found : List (List ℕ) → List RouterRow → List InterfaceRow × List Flow
+abbrev with_found : List (List ℕ) → List RouterRow → List InterfaceRow × List SourceRow × List Flow
     → Result TopologyValue TopologyFault
 with_found lans routers found =
-    Ok (record { lans = lans; routers = routers; interfaces = found.0; flows = found.1 })
+    Ok (record {
+      lans = lans;
+      routers = routers;
+      interfaces = found.0;
+      sources = found.1;
+      flows = found.2;
+    })
 
 -- the last step, by what it gives
 by_flows : (lans : List (List ℕ)) (routers : List RouterRow) (interfaces : List InterfaceRow)
     (sources : List SourceRow) (r : Result (List Flow) TopologyFault)
-    → ((r >>= λ (flows : List Flow). all_read (record {
+    → (r >>= λ (flows : List Flow). whole (record {
       lans = lans;
       routers = routers;
       interfaces = interfaces;
       sources = sources;
       flows = flows;
-    })) >>= λ (s : Sections). whole (topology_of s))
-    ≡ ((r >>= λ (flows : List Flow). both interfaces flows) >>= with_found lans routers)
+    }))
+    ≡ (((r >>= both sources) >>= behind interfaces) >>= with_found lans routers)
 by_flows lans routers interfaces sources (Ok flows) = refl
 by_flows lans routers interfaces sources (Err k) = refl
 
@@ -102,7 +109,7 @@ found_by : (ms : Members) (lans : List (List ℕ)) (routers : List RouterRow)
     → version_in ms ≡ Ok tt → lans_in ms ≡ Ok lans → routers_in ms ≡ Ok routers
     → interfaces_in lans routers ms ≡ interfaces → sources_in lans ms ≡ sources
     → topology_in ms ≡ (interfaces_and_flows_in lans routers ms >>= with_found lans routers)
-unfolding topology_in sections_in interfaces_and_flows_in sourced_flows_in
+unfolding topology_in interfaces_and_flows_in sourced_flows_in
 found_by ms lans routers (Err k) sources version at_lans at_routers at_interfaces at_sources =
     rw (version, at_lans, at_routers, at_interfaces) refl
 found_by ms lans routers (Ok i) (Err k) version at_lans at_routers at_interfaces at_sources =
@@ -111,7 +118,7 @@ found_by ms lans routers (Ok i) (Ok s) version at_lans at_routers at_interfaces 
     rw (version, at_lans, at_routers, at_interfaces, at_sources)
     (by_flows lans routers i s (flows_in s ms))
 
--- a table's topology, from its interfaces and flows
+-- a table's topology, from its interfaces, sources and flows
 found_is : (ms : Members) (lans : List (List ℕ)) (routers : List RouterRow)
     → version_in ms ≡ Ok tt → lans_in ms ≡ Ok lans → routers_in ms ≡ Ok routers
     → topology_in ms ≡ (interfaces_and_flows_in lans routers ms >>= with_found lans routers)
@@ -119,18 +126,19 @@ found_is ms lans routers version at_lans at_routers =
     found_by ms lans routers (interfaces_in lans routers ms) (sources_in lans ms) version at_lans
     at_routers refl refl
 
--- the table's topology, where its interfaces and flows are these,
+-- the table's topology, where its interfaces, sources and flows are these,
 pub topology_found : (ms : Members) (lans : List (List ℕ)) (routers : List RouterRow)
-    (interfaces : List InterfaceRow) (flows : List Flow)
+    (interfaces : List InterfaceRow) (sources : List SourceRow) (flows : List Flow)
     → version_in ms ≡ Ok tt → lans_in ms ≡ Ok lans → routers_in ms ≡ Ok routers
-    → interfaces_and_flows_in lans routers ms ≡ Ok (interfaces, flows)
+    → interfaces_and_flows_in lans routers ms ≡ Ok (interfaces, sources, flows)
     → topology_in ms ≡ Ok (record {
       lans = lans;
       routers = routers;
       interfaces = interfaces;
+      sources = sources;
       flows = flows;
     })
-topology_found ms lans routers interfaces flows version at_lans at_routers found =
+topology_found ms lans routers interfaces sources flows version at_lans at_routers found =
     found_is ms lans routers version at_lans at_routers ∙ rw found refl
 
 -- or its first fault lies there

@@ -29,13 +29,13 @@ use Rattle.mc_topology.specs.Routers.{router_of, routers_in}
 use Rattle.mc_topology.specs.Interfaces.{interface_of, interfaces_in}
 use Rattle.mc_topology.specs.Sources.{source_of, sources_in}
 use Rattle.mc_topology.specs.Flows.{flow_of, flow_rows, flows_in}
-use Rattle.mc_topology.specs.Reading.{top_keys, utf8_text, document_of, version_in, sections_in}
-use Rattle.mc_topology.specs.Reading.{topology_in, reading_of}
+use Rattle.mc_topology.specs.Reading.{top_keys, utf8_text, document_of, version_in, topology_in}
+use Rattle.mc_topology.specs.Reading.{reading_of}
 use Rattle.mc_topology.specs.Stands.{HasNumber, EachStands, IsLan, IsRouter, IsInterface}
 use Rattle.mc_topology.specs.Stands.{IsSourceRow, IsFlow, LansStand, SectionStands, DocumentStands}
 use Rattle.mc_topology.specs.Stands.{TopologyStands}
-use Rattle.mc_topology.specs.Topology.{Sections, TopologyValue, lan_key, router_key, interface_key}
-use Rattle.mc_topology.specs.Topology.{source_key, flow_key, topology_of}
+use Rattle.mc_topology.specs.Topology.{TopologyValue, lan_key, router_key, interface_key}
+use Rattle.mc_topology.specs.Topology.{source_key, flow_key}
 use Rattle.mc_topology.proofs.Distinct.{distinct_none}
 use Rattle.mc_topology.proofs.Fields.{number_at-takes, number_at-again, list_at-takes}
 use Rattle.mc_topology.proofs.Fields.{list_at-again, optional_list_at-takes, optional_list_at-again}
@@ -248,26 +248,27 @@ version_again : (ms : Members) → has_only top_keys ms ≡ true → HasNumber (
 unfolding version_in
 version_again ms keys one = rw (keys, number_at-again (codes "version") ms (pos 1) one) refl
 
--- where the sections are read, the document stands for what is read
-pub sections_take : (ms : Members) (s : Sections) → sections_in ms ≡ Ok s → DocumentStands ms s
-unfolding sections_in
-sections_take ms s e =
-    let version = bind_ok (place section.Top 0 (version_in ms)) _ s e in
-    let lans = bind_ok (lans_in ms) _ s version.2 in
-    let routers = bind_ok (routers_in ms) _ s lans.2 in
-    let interfaces = bind_ok (interfaces_in lans.0 routers.0 ms) _ s routers.2 in
-    let sources = bind_ok (sources_in lans.0 ms) _ s interfaces.2 in
-    let flows = bind_ok (flows_in sources.0 ms) _ s sources.2 in
+-- where a table is read, the document stands for what is read
+pub topology_takes : (ms : Members) (t : TopologyValue) → topology_in ms ≡ Ok t
+    → DocumentStands ms t
+unfolding topology_in
+topology_takes ms t e =
+    let version = bind_ok (place section.Top 0 (version_in ms)) _ t e in
+    let lans = bind_ok (lans_in ms) _ t version.2 in
+    let routers = bind_ok (routers_in ms) _ t lans.2 in
+    let interfaces = bind_ok (interfaces_in lans.0 routers.0 ms) _ t routers.2 in
+    let sources = bind_ok (sources_in lans.0 ms) _ t interfaces.2 in
+    let flows = bind_ok (flows_in sources.0 ms) _ t sources.2 in
     let top = version_takes ms (place_ok section.Top 0 (version_in ms) version.0 version.1) in
     let flow = flows_take sources.0 ms flows.0 flows.1 in
-    let made : Sections = record {
+    let made : TopologyValue = record {
       lans = lans.0;
       routers = routers.0;
       interfaces = interfaces.0;
       sources = sources.0;
       flows = flows.0;
     } in
-    subst (λ (x : Sections). DocumentStands ms x) (ok_is made s flows.2)
+    subst (λ (x : TopologyValue). DocumentStands ms x) (ok_is made t flows.2)
     (record {
       keys = top.0;
       version = top.1;
@@ -280,17 +281,17 @@ sections_take ms s e =
     })
 
 -- and what the document stands for is read
-sections_again : (ms : Members) (s : Sections) → DocumentStands ms s → sections_in ms ≡ Ok s
-unfolding sections_in
-sections_again ms s is =
+topology_again : (ms : Members) (t : TopologyValue) → DocumentStands ms t → topology_in ms ≡ Ok t
+unfolding topology_in
+topology_again ms t is =
     rw (
       version_again ms is.keys is.version,
-      lans_again ms s.lans is.lans,
-      routers_again ms s.routers is.routers,
-      interfaces_again s.lans s.routers ms s.interfaces is.interfaces,
+      lans_again ms t.lans is.lans,
+      routers_again ms t.routers is.routers,
+      interfaces_again t.lans t.routers ms t.interfaces is.interfaces,
       sources_again
-          s.lans ms s.sources is.sources,
-      flows_again s.sources ms s.flows is.flows is.some_flow,
+          t.lans ms t.sources is.sources,
+      flows_again t.sources ms t.flows is.flows is.some_flow,
     )
     refl
 
@@ -299,7 +300,7 @@ sections_again ms s is =
 -- a text that is read stands for what is read
 pub reading_takes : (text : List ℕ) (t : TopologyValue) → reading_of text ≡ Ok t
     → TopologyStands text t
-unfolding reading_of topology_in document_of utf8_text
+unfolding reading_of document_of utf8_text
 reading_takes text t e =
     let a = bind_ok (place section.Top 0 (document_of text)) topology_in t e in
     let document = place_ok section.Top 0 (document_of text) a.0 a.1 in
@@ -307,25 +308,22 @@ reading_takes text t e =
     let utf8 = bind_ok (utf8_text text) (λ x. ok_or (parse_document x) NotToml) a.0 few.1 in
     let is = test_ok (is_utf8 text) NotToml (Ok text) utf8.0 utf8.1 in
     let same : text ≡ utf8.0 = ok_is text utf8.0 is.1 in
-    let s = bind_ok (sections_in a.0) (λ sections. Ok (topology_of sections)) t a.2 in
     record {
       document = a.0;
-      sections = s.0;
       few = leb-true (length text) 16777216 few.0;
       utf8 = IsUtf8-from_is_utf8 text is.0;
       reads = ap parse_document same ∙ ok_or_ok (parse_document utf8.0) NotToml a.0 utf8.2;
-      stands = sections_take a.0 s.0 s.1;
-      makes = ok_is (topology_of s.0) t s.2;
+      stands = topology_takes a.0 t a.2;
     }
 
 -- a text that stands for a topology is read as that
 pub reading_again : (text : List ℕ) (t : TopologyValue) → TopologyStands text t
     → reading_of text ≡ Ok t
-unfolding reading_of topology_in document_of utf8_text
+unfolding reading_of document_of utf8_text
 reading_again text t is =
     rw (
       le-leb (length text) 16777216 is.few,
       is_utf8-from_IsUtf8 text is.utf8,
       is.reads,
-      sections_again is.document is.sections is.stands,
-    ) (ap Ok is.makes)
+      topology_again is.document t is.stands,
+    ) refl

@@ -12,14 +12,14 @@ use Rattle.mc_topology.specs.declared.fault.TopologyFaultKind.TheVariants.{NotTo
 use Rattle.mc_topology.specs.declared.fault.TopologyFaultKind.TheVariants.{UnknownKey, TooMany}
 use Rattle.mc_topology.specs.declared.fault.TopologyFault.{TopologyFault}
 use Rattle.mc_topology.specs.Answer.{◌>>=◌, place}
-use Rattle.mc_topology.specs.Rows.{RouterRow, InterfaceRow}
+use Rattle.mc_topology.specs.Rows.{RouterRow, InterfaceRow, SourceRow}
 use Rattle.mc_topology.specs.Document.{has_only, number_at}
 use Rattle.mc_topology.specs.Lans.{lans_in}
 use Rattle.mc_topology.specs.Routers.{routers_in}
 use Rattle.mc_topology.specs.Interfaces.{interfaces_in}
 use Rattle.mc_topology.specs.Sources.{sources_in}
 use Rattle.mc_topology.specs.Flows.{flows_in}
-use Rattle.mc_topology.specs.Topology.{Sections, TopologyValue, topology_of}
+use Rattle.mc_topology.specs.Topology.{TopologyValue}
 
 -- a text is UTF-8 (else NotToml)
 unfoldable pub utf8_text : List ℕ → Result (List ℕ) TopologyFaultKind
@@ -47,9 +47,10 @@ version_in ms =
     if int_eq version (pos 1) then Ok tt else Err BadVersion)
     else Err UnknownKey
 
--- the top at the number 0, and then the sections in this order, each with those that it names
-unfoldable pub sections_in : Members → Result Sections TopologyFault
-sections_in ms = do
+-- the topology of a table: the top at the number 0, and then the sections in this order, each with
+-- those that it names
+unfoldable pub topology_in : Members → Result TopologyValue TopologyFault
+topology_in ms = do
   version ← place Top 0 (version_in ms)
   lans ← lans_in ms
   routers ← routers_in ms
@@ -64,21 +65,21 @@ sections_in ms = do
     flows = flows;
   })
 
--- the flows, each from one of the sources on these LANs
-unfoldable pub sourced_flows_in : List (List ℕ) → Members → Result (List Flow) TopologyFault
-sourced_flows_in lans ms = sources_in lans ms >>= λ sources. flows_in sources ms
+-- the sources on these LANs, and the flows, each from one of the sources
+unfoldable pub sourced_flows_in : List (List ℕ) → Members
+    → Result (List SourceRow × List Flow) TopologyFault
+sourced_flows_in lans ms = do
+  sources ← sources_in lans ms
+  flows ← flows_in sources ms
+  Ok (sources, flows)
 
--- the interfaces and the flows, beside the LANs and the routers
+-- the interfaces, the sources and the flows, beside the LANs and the routers
 unfoldable pub interfaces_and_flows_in : List (List ℕ) → List RouterRow → Members
-    → Result (List InterfaceRow × List Flow) TopologyFault
+    → Result (List InterfaceRow × List SourceRow × List Flow) TopologyFault
 interfaces_and_flows_in lans routers ms = do
   interfaces ← interfaces_in lans routers ms
-  flows ← sourced_flows_in lans ms
-  Ok (interfaces, flows)
-
--- the topology of a table
-unfoldable pub topology_in : Members → Result TopologyValue TopologyFault
-topology_in ms = sections_in ms >>= λ sections. Ok (topology_of sections)
+  sourced ← sourced_flows_in lans ms
+  Ok (interfaces, sourced.0, sourced.1)
 
 -- the topology of a text: first the text as a whole, at `top` 0, and then its table
 unfoldable pub reading_of : List ℕ → Result TopologyValue TopologyFault

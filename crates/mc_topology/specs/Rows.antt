@@ -54,3 +54,7 @@ interface_code =
     (λ i. (i.router, (i.device, i.lan)))
     (λ p. record { router = p.0; device = p.1.0; lan = p.1.1 })
     (λ _. refl)
+
+abbrev pub source_code : Coded SourceRow
+source_code =
+    code_by (ℕ × ℕ) (coded× coded_ℕ coded_ℕ) (λ s. (s.address, s.lan)) source_row (λ _. refl)

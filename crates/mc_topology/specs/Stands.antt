@@ -16,8 +16,8 @@ use Rattle.mc_topology.specs.Interfaces.{interface_keys}
 use Rattle.mc_topology.specs.Sources.{source_keys, lan_of_source}
 use Rattle.mc_topology.specs.Flows.{flow_keys}
 use Rattle.mc_topology.specs.Reading.{top_keys}
-use Rattle.mc_topology.specs.Topology.{Sections, TopologyValue, AreDistinctBy, lan_key, router_key}
-use Rattle.mc_topology.specs.Topology.{interface_key, source_key, flow_key, topology_of}
+use Rattle.mc_topology.specs.Topology.{TopologyValue, AreDistinctBy, lan_key, router_key}
+use Rattle.mc_topology.specs.Topology.{interface_key, source_key, flow_key}
 
 -- ---- tables
 
@@ -130,23 +130,21 @@ pub record SectionStands {X K : Type 0} (name : List ℕ) (most : ℕ) (Stands :
   pub distinct : AreDistinctBy key xs
 
 -- a table of version 1
-pub record DocumentStands (ms : Members) (s : Sections) : Type 0 where
+pub record DocumentStands (ms : Members) (t : TopologyValue) : Type 0 where
   pub keys : IsTrue (has_only top_keys ms)
   pub version : HasNumber (codes "version") ms 1
-  pub lans : LansStand ms s.lans
-  pub routers : SectionStands (codes "router") 256 IsRouter router_key ms s.routers
-  pub interfaces : SectionStands (codes "interface") 8192 (IsInterface s.lans s.routers)
-      interface_key ms s.interfaces
-  pub sources : SectionStands (codes "source") 4096 (IsSourceRow s.lans) source_key ms s.sources
-  pub flows : SectionStands (codes "flow") 4096 (IsFlow s.sources) flow_key ms s.flows
-  pub some_flow : 0 < length s.flows
+  pub lans : LansStand ms t.lans
+  pub routers : SectionStands (codes "router") 256 IsRouter router_key ms t.routers
+  pub interfaces : SectionStands (codes "interface") 8192 (IsInterface t.lans t.routers)
+      interface_key ms t.interfaces
+  pub sources : SectionStands (codes "source") 4096 (IsSourceRow t.lans) source_key ms t.sources
+  pub flows : SectionStands (codes "flow") 4096 (IsFlow t.sources) flow_key ms t.flows
+  pub some_flow : 0 < length t.flows
 
 -- a text of at most 16,777,216 bytes that TOML's reader takes
 pub record TopologyStands (text : List ℕ) (t : TopologyValue) : Type 0 where
   pub document : Members
-  pub sections : Sections
   pub few : length text ≤ 16777216
   pub utf8 : IsUtf8 text
   pub reads : parse_document text ≡ Some document
-  pub stands : DocumentStands document sections
-  pub makes : topology_of sections ≡ t
+  pub stands : DocumentStands document t

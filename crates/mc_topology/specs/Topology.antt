@@ -7,30 +7,16 @@ use Rattle.mc_topology.specs.declared.flow.Flow.{Flow}
 pub use Rattle.mc_topology.specs.Lookup.{lan_of_interface}
 use Rattle.mc_topology.specs.Names.{is_name, is_device}
 use Rattle.mc_topology.specs.Rows.{RouterRow, InterfaceRow, SourceRow, router_code, interface_code}
+use Rattle.mc_topology.specs.Rows.{source_code}
 
--- The names of the LANs, the routers, the interfaces and the flows, each in the order of the text.
+-- The names of the LANs, the routers, the interfaces, the sources and the flows, each in the order
+-- of the text.
 pub record TopologyValue : Type 0 where
-  pub lans : List (List ℕ)
-  pub routers : List RouterRow
-  pub interfaces : List InterfaceRow
-  pub flows : List Flow
-
--- What the five sections of a text stand for.
-pub record Sections : Type 0 where
   pub lans : List (List ℕ)
   pub routers : List RouterRow
   pub interfaces : List InterfaceRow
   pub sources : List SourceRow
   pub flows : List Flow
-
--- the topology that the sections make
-abbrev pub topology_of : Sections → TopologyValue
-topology_of s = record {
-  lans = s.lans;
-  routers = s.routers;
-  interfaces = s.interfaces;
-  flows = s.flows;
-}
 
 -- the name of a LAN, and of a router; empty for a number that the topology hasn't
 abbrev pub lan_name : TopologyValue → ℕ → List ℕ
@@ -73,6 +59,12 @@ pub record IsInterfaceAmong (t : TopologyValue) (i : InterfaceRow) : Type 0 wher
   pub device : IsTrue (is_device i.device)
   pub lan : i.lan < length t.lans
 
+-- the address of a host that may send, on one of the LANs
+pub record IsSourceAmong (lans : List (List ℕ)) (s : SourceRow) : Type 0 where
+  pub is_address : IsAddr s.address
+  pub may_send : IsSource s.address
+  pub lan : s.lan < length lans
+
 -- a flow from a host that may send, on one of the LANs, to a group that routers forward, with a
 -- time to live of 1 to 255
 pub record IsFlowAmong (lans : List (List ℕ)) (f : Flow) : Type 0 where
@@ -85,22 +77,27 @@ pub record IsFlowAmong (lans : List (List ℕ)) (f : Flow) : Type 0 where
 
 -- What every topology keeps: at most 1,024 LANs and 256 routers, each with a name that is one, no
 -- two of one name; at most 8,192 interfaces, each as above, no two of one router and one device;
--- and 1 to 4,096 flows, each as above, no two of one source and one group.
+-- at most 4,096 sources, each as above, no two of one address; and 1 to 4,096 flows, each as above,
+-- no two of one source and one group.
 pub record IsTopology (t : TopologyValue) : Type 0 where
   pub few_lans : length t.lans ≤ 1024
   pub few_routers : length t.routers ≤ 256
   pub few_interfaces : length t.interfaces ≤ 8192
+  pub few_sources : length t.sources ≤ 4096
   pub some_flow : 0 < length t.flows
   pub few_flows : length t.flows ≤ 4096
   pub lan_names : AreDistinctBy lan_key t.lans
   pub router_names : AreDistinctBy router_key t.routers
   pub interfaces_differ : AreDistinctBy interface_key t.interfaces
+  pub sources_differ : AreDistinctBy source_key t.sources
   pub flows_differ : AreDistinctBy flow_key t.flows
   pub lans_named : (n : ℕ) (name : List ℕ) → slice_get t.lans n ≡ Some name → IsTrue (is_name name)
   pub routers_named : (n : ℕ) (r : RouterRow) → slice_get t.routers n ≡ Some r
       → IsTrue (is_name r.name)
   pub interfaces_among : (n : ℕ) (i : InterfaceRow) → slice_get t.interfaces n ≡ Some i
       → IsInterfaceAmong t i
+  pub sources_among : (n : ℕ) (s : SourceRow) → slice_get t.sources n ≡ Some s
+      → IsSourceAmong t.lans s
   pub flows_among : (n : ℕ) (f : Flow) → slice_get t.flows n ≡ Some f → IsFlowAmong t.lans f
 
 -- a topology is stored as the tuple of its fields, and so is a flow
@@ -113,9 +110,15 @@ flow_code =
 
 abbrev pub topology_code : Coded TopologyValue
 topology_code =
-    code_by (List (List ℕ) × (List RouterRow × (List InterfaceRow × List Flow)))
+    code_by (List (List ℕ) × (List RouterRow × (List InterfaceRow × (List SourceRow × List Flow))))
     (coded× (coded_list (coded_list coded_ℕ)) (coded× (coded_list router_code)
-    (coded× (coded_list interface_code) (coded_list flow_code))))
-    (λ t. (t.lans, (t.routers, (t.interfaces, t.flows))))
-    (λ p. record { lans = p.0; routers = p.1.0; interfaces = p.1.1.0; flows = p.1.1.1 })
+    (coded× (coded_list interface_code) (coded× (coded_list source_code) (coded_list flow_code)))))
+    (λ t. (t.lans, (t.routers, (t.interfaces, (t.sources, t.flows)))))
+    (λ p. record {
+      lans = p.0;
+      routers = p.1.0;
+      interfaces = p.1.1.0;
+      sources = p.1.1.1.0;
+      flows = p.1.1.1.1;
+    })
     (λ _. refl)

@@ -20,7 +20,7 @@ pub fn topologies_are_read_as_they_stand()
 {}
 
 /// What a text stands for keeps the rules of a topology. Of each topology in memory the clauses
-/// `rules` of `lans`, `routers`, `interfaces` and `flows` say so.
+/// `rules` of `lans`, `routers`, `interfaces`, `sources` and `flows` say so.
 pub fn texts_stand_for_topologies()
     ensures { (text : List ℕ) (t : TopologyValue) → TopologyStands text t → IsTopology t }
 {}

@@ -1,5 +1,5 @@
 //! The operator's topology, in TOML: the LANs and routers of a domain by name, which interface lies
-//! on which LAN, and the flows.
+//! on which LAN, the sources and the flows.
 #![tactic(auto)]
 
 mod at;
@@ -14,6 +14,7 @@ mod name;
 mod number;
 mod read;
 mod routers;
+mod source;
 mod sources;
 mod topology;
 
@@ -27,4 +28,5 @@ pub use laws::{
     texts_stand_for_topologies, topologies_are_read_as_they_stand,
 };
 pub use number::{LanNo, RouterNo};
+pub use source::Source;
 pub use topology::Topology;

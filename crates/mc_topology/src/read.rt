@@ -24,6 +24,7 @@ use crate::flows::Flows;
 use crate::interfaces::Interfaces;
 use crate::lans::{Lans, MAX_LANS};
 use crate::routers::{MAX_ROUTERS, Routers};
+use crate::sources::Sources;
 use crate::topology::Topology;
 use document::{has_only, number_at};
 use flows::flows_in;
@@ -77,33 +78,38 @@ fn version_in(table: &Table) -> Result<(), TopologyFaultKind>
     Ok(())
 }
 
-/// The flows, each from one of the sources.
+/// The sources, and the flows, each from one of them.
 #[tactic(auto, unfolding(crate::specs::Reading::sourced_flows_in))]
-fn sourced_flows_in(alloc: Global, lans: &Lans, table: &Table) -> Result<Flows, TopologyFault>
+fn sourced_flows_in(
+    alloc: Global,
+    lans: &Lans,
+    table: &Table,
+) -> Result<(Sources, Flows), TopologyFault>
     requires { length lans.now ≤ MAX_LANS }
     ensures { result ≢ Err out_of_memory →
         result ≡ sourced_flows_in lans.now (table_view table.now) }
 {
     let sources = sources_in(alloc, lans, table)?;
-    flows_in(alloc, &sources, table)
+    let flows = flows_in(alloc, &sources, table)?;
+    Ok((sources, flows))
 }
 
-/// The interfaces and the flows.
+/// The interfaces, the sources and the flows.
 #[tactic(auto, unfolding(crate::specs::Reading::interfaces_and_flows_in))]
 fn interfaces_and_flows_in(
     alloc: Global,
     lans: &Lans,
     routers: &Routers,
     table: &Table,
-) -> Result<(Interfaces, Flows), TopologyFault>
+) -> Result<(Interfaces, Sources, Flows), TopologyFault>
     requires few_lans { length lans.now ≤ MAX_LANS }
     requires few_routers { length routers.now ≤ MAX_ROUTERS }
     ensures { result ≢ Err out_of_memory →
         result ≡ interfaces_and_flows_in lans.now routers.now (table_view table.now) }
 {
     let interfaces = interfaces_in(alloc, lans, routers, table)?;
-    let flows = sourced_flows_in(alloc, lans, table)?;
-    Ok((interfaces, flows))
+    let (sources, flows) = sourced_flows_in(alloc, lans, table)?;
+    Ok((interfaces, sources, flows))
 }
 
 /// The topology of a table whose keys, version, LANs and routers are read.
@@ -120,12 +126,12 @@ fn topology_with(
     requires few_routers { length routers ≤ MAX_ROUTERS }
     ensures { result ≢ Err out_of_memory → result ≡ topology_in (table_view table.now) }
 {
-    let (interfaces, flows) = interfaces_and_flows_in(alloc, &lans, &routers, table)?;
-    Ok(Topology::new(lans, routers, interfaces, flows))
+    let (interfaces, sources, flows) = interfaces_and_flows_in(alloc, &lans, &routers, table)?;
+    Ok(Topology::new(lans, routers, interfaces, sources, flows))
 }
 
 /// The topology of a table.
-#[tactic(auto, unfolding(crate::specs::Reading::sections_in, crate::specs::Reading::topology_in))]
+#[tactic(auto, unfolding(crate::specs::Reading::topology_in))]
 fn topology_in(alloc: Global, table: &Table) -> Result<Topology, TopologyFault>
     ensures { result ≢ Err out_of_memory → result ≡ topology_in (table_view table.now) }
 {

@@ -1,11 +1,13 @@
 //! The sources of a topology, by address.
 
-ghost use Rattle.std.specs.Prelude.{◌≡◌, ◌++◌, [], ◌∷◌, false, IfErr, OnOk};
+ghost use Rattle.std.specs.Prelude.{◌≡◌, ◌++◌, ◌<◌, [], ◌∷◌, false, length, slice_get, Some, IfErr};
+ghost use Rattle.std.specs.Prelude.{OnOk};
 ghost use Rattle.mc_topology.specs.Answer.{out_of_memory};
 ghost use Rattle.mc_topology.specs.Sources.{has_source, lan_of_source};
 
 use crate::fault::TopologyFault;
 use crate::number::LanNo;
+use crate::source::Source;
 use indexmap::IndexMap;
 use mc_text::Addr;
 use std::alloc::Global;
@@ -15,7 +17,7 @@ use std::marker::Model;
 pub(crate) const MAX_SOURCES: usize = 4096;
 
 /// The addresses of the hosts that send, each with its LAN, in the order of the topology.
-#[derive(Drop)]
+#[derive(Debug, Drop)]
 pub(crate) struct Sources {
     lans: IndexMap<Addr, LanNo>,
 }
@@ -39,6 +41,13 @@ impl Sources {
         }
     }
 
+    /// How many there are.
+    pub(crate) fn len(&self) -> usize
+        ensures { result ≡ length self.now }
+    {
+        self.lans.len()
+    }
+
     /// Whether a source has the address.
     pub(crate) fn has(&self, address: Addr) -> bool
         ensures { result ≡ has_source address self.now }
@@ -54,14 +63,25 @@ impl Sources {
         Some(*lan)
     }
 
+    /// The source with this number.
+    pub(crate) fn source(&self, source: u32) -> Source
+        requires { source < length self.now }
+        ensures { slice_get self.now source ≡ Some result }
+    {
+        let addresses = self.lans.keys();
+        Source {
+            address: addresses.as_slice()[source as usize],
+            lan: self.lans[source as usize],
+        }
+    }
+
     /// Adds a source whose address no source has.
-    pub(crate) fn push(&mut self, address: Addr, lan: LanNo) -> Result<(), TopologyFault>
-        requires { has_source address self.old ≡ false }
-        ensures added { OnOk result (self.new ≡
-            self.old ++ (record { address = address; lan = lan }) ∷ []) }
+    pub(crate) fn push(&mut self, source: Source) -> Result<(), TopologyFault>
+        requires { has_source source.address self.old ≡ false }
+        ensures added { OnOk result (self.new ≡ self.old ++ source ∷ []) }
         ensures fault { IfErr result (λ fault. fault ≡ out_of_memory) }
     {
-        self.lans.insert(address, lan)?;
+        self.lans.insert(source.address, source.lan)?;
         Ok(())
     }
 }

@@ -4,8 +4,8 @@ ghost use Rattle.std.specs.Prelude.{◌≡◌, ◌<◌, ◌≤◌, length, Some,
 ghost use Rattle.std.specs.Prelude.{slice_get};
 ghost use Rattle.mc_topology.specs.Lookup.{lan_of_interface, router_no_of};
 ghost use Rattle.mc_topology.specs.Names.{is_name, index_of};
-ghost use Rattle.mc_topology.specs.Topology.{IsInterfaceAmong, IsFlowAmong, IsTopology};
-ghost use Rattle.mc_topology.specs.Topology.{lan_name, router_name};
+ghost use Rattle.mc_topology.specs.Topology.{IsInterfaceAmong, IsSourceAmong, IsFlowAmong};
+ghost use Rattle.mc_topology.specs.Topology.{IsTopology, lan_name, router_name};
 
 use crate::fault::TopologyFault;
 use crate::flow::Flow;
@@ -16,16 +16,20 @@ use crate::lans::Lans;
 use crate::number::{LanNo, RouterNo};
 use crate::read::reading_of;
 use crate::routers::Routers;
+use crate::source::Source;
+use crate::sources::Sources;
 use mc_text::Order;
 use std::alloc::Global;
 use std::marker::Model;
 
-/// The LANs and routers of a domain by name, the LAN of each interface, and the flows.
+/// The LANs and routers of a domain by name, the LAN of each interface and of each source, and
+/// the flows.
 #[derive(Debug)]
 pub struct Topology {
     lans: Lans,
     routers: Routers,
     interfaces: Interfaces,
+    sources: Sources,
     flows: Flows,
 }
 
@@ -36,6 +40,7 @@ impl Drop for Topology {
             lans,
             routers,
             interfaces,
+            sources,
             flows,
         } = self;
     }
@@ -52,6 +57,7 @@ impl Model for Topology {
       lans = s.lans;
       routers = s.routers;
       interfaces = s.interfaces;
+      sources = s.sources;
       flows = s.flows;
     } };
 
@@ -59,6 +65,7 @@ impl Model for Topology {
       lans = s.lans;
       routers = s.routers;
       interfaces = s.interfaces;
+      sources = s.sources;
       flows = s.flows;
     }) };
 }
@@ -75,18 +82,21 @@ impl Topology {
         lans: Lans,
         routers: Routers,
         interfaces: Interfaces,
+        sources: Sources,
         flows: Flows,
     ) -> Topology
         requires { IsTopology (record {
           lans = lans;
           routers = routers;
           interfaces = interfaces;
+          sources = sources;
           flows = flows;
         }) }
         ensures { result ≡ record {
           lans = lans;
           routers = routers;
           interfaces = interfaces;
+          sources = sources;
           flows = flows;
         } }
     {
@@ -94,6 +104,7 @@ impl Topology {
             lans,
             routers,
             interfaces,
+            sources,
             flows,
         }
     }
@@ -139,6 +150,14 @@ impl Topology {
         self.interfaces.len() as u32
     }
 
+    /// How many sources there are, at most 4,096.
+    pub fn sources(&self) -> u32
+        ensures count { result ≡ length self.now.sources }
+        ensures rules { IsTopology self.now }
+    {
+        self.sources.len() as u32
+    }
+
     /// How many flows there are, 1 to 4,096.
     pub fn flows(&self) -> u32
         ensures count { result ≡ length self.now.flows }
@@ -172,6 +191,15 @@ impl Topology {
         ensures among { IsInterfaceAmong self.now result }
     {
         self.interfaces.interface(interface)
+    }
+
+    /// The source with this number, counted from 0 in the order of the topology.
+    pub fn source(&self, source: u32) -> Source
+        requires { source < length self.now.sources }
+        ensures source { slice_get self.now.sources source ≡ Some result }
+        ensures among { IsSourceAmong self.now.lans result }
+    {
+        self.sources.source(source)
     }
 
     /// The flow with this number, counted from 0 in the order of the topology.

@@ -1,18 +1,15 @@
 -- What a task's values may be, and how words write them.
-use Rattle.std.specs.Prelude.{◌≡◌, ◌≤◌, ℕ, Bool, List, false, ⊤, codes, take}
-use Rattle.std.specs.Str.{bytes_eq}
+use Rattle.std.specs.Prelude.{◌≡◌, ◌≤◌, ℕ, List, map, true, false, ⊤}
 use Rattle.mc_text.specs.Addr.{IsForwardedGroup, IsSource, dotted}
+use Rattle.mc_words.specs.AuditWords.{are_routers, is_option}
 use Rattle.mc_words.specs.declared.audit_words.AuditWords.{AuditWords}
 use Rattle.mc_words.specs.declared.task.Task.{Task}
 use Rattle.mc_words.specs.declared.task.Task.TheVariants.{Wants, Check, Make, Replay, Pack, Audit}
 
--- the word begins with `-`, as options do
-abbrev pub is_option : List ℕ → Bool
-is_option word = bytes_eq (take 1 word) (codes "-")
-
--- the folder doesn't begin like an option
-abbrev pub IsAudit : AuditWords → Type 0
-IsAudit words = is_option words.folder.now ≡ false
+-- the folder doesn't begin like an option, and what is left out are names of routers, each once
+pub record IsAudit (words : AuditWords) : Type 0 where
+  pub folder : is_option words.folder.now ≡ false
+  pub without : are_routers (map (λ word. word.now) words.without.items) ≡ true
 
 abbrev pub IsAllowed : Task → Type 0
 IsAllowed (Wants group source) = IsForwardedGroup group × IsSource source

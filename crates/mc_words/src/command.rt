@@ -57,6 +57,17 @@ fn option<'a>(alloc: Global, name: &'a str, value: &'a str, help: &'a str) -> Ar
         .help(help)
 }
 
+/// An argument `--name` with a value, which may stand again with another one. The word behind it is the
+/// value, whatever it begins with.
+fn repeated<'a>(alloc: Global, name: &'a str, value: &'a str, help: &'a str) -> Arg<'a> {
+    Arg::new(alloc, name)
+        .long(name)
+        .value_name(value)
+        .action(ArgAction::Append)
+        .allow_hyphen_values(true)
+        .help(help)
+}
+
 /// A command that has no arguments yet.
 fn bare_command<'a>(alloc: Global, name: &'a str, about: &'a str, usage: &'a str) -> Command<'a> {
     Command::new(alloc, name).about(about).override_usage(usage)
@@ -80,7 +91,8 @@ pub fn wants_command<'a>(alloc: Global) -> Result<Command<'a>, AllocError> {
     )
 }
 
-const AUDIT_USAGE: &str = "mcaudit audit <folder> [--travel] [--faults] [--strict]";
+const AUDIT_USAGE: &str = "\
+mcaudit audit <folder> [--travel] [--faults] [--unlisted] [--strict] [--json] [--without <router>]...";
 
 /// The command `audit` and its arguments.
 pub fn audit_command<'a>(alloc: Global) -> Result<Command<'a>, AllocError> {
@@ -92,11 +104,17 @@ pub fn audit_command<'a>(alloc: Global) -> Result<Command<'a>, AllocError> {
     );
     let travel = "Tells the travel of each packet that shows a fault, event by event";
     let faults = "Leaves out the flows that are right and wanted";
+    let unlisted = "Tells all unlisted sources and groups of the caches, not the 20 lowest alone";
     let strict = "Ends with status 1 where a flow that is right is wanted by nobody";
+    let json = "Writes one JSON object a line";
+    let without = "Audits without the router's tables, and then can't say yes";
     let command = command.arg(required(alloc, "folder", FOLDER));
     let command = with_argument(command, flag(alloc, "travel", travel));
     let command = with_argument(command, flag(alloc, "faults", faults));
-    with_argument(command, flag(alloc, "strict", strict))
+    let command = with_argument(command, flag(alloc, "unlisted", unlisted));
+    let command = with_argument(command, flag(alloc, "strict", strict));
+    let command = with_argument(command, flag(alloc, "json", json));
+    with_argument(command, repeated(alloc, "without", "router", without))
 }
 
 /// The command `check`, which has no arguments.

@@ -14,7 +14,7 @@ use mc_text::{Addr, decimal};
 use std::alloc::Global;
 
 /// What the words ask for.
-#[derive(Clone, Copy, Debug, PartialEq, Eq)]
+#[derive(Debug, Drop, PartialEq, Eq)]
 pub enum Task<'a> {
     /// Whether the LAN whose reports are read wants what the source sends to the group.
     Wants {

@@ -16,6 +16,7 @@ status_of (Run (run.PartReports part fault)) = 2
 status_of (Run (run.Reports fault)) = 2
 status_of (Run (run.Certificate fault)) = 2
 status_of (Run (run.NoSuchFlow number)) = 2
+status_of (Run (run.NoSuchRouter place)) = 2
 -- a device failed
 status_of (Run run.Read) = 3
 status_of (Run run.Write) = 3

@@ -35,7 +35,8 @@ impl Failure {
                 | RunFault::PartReports(_, _)
                 | RunFault::Reports(_)
                 | RunFault::Certificate(_)
-                | RunFault::NoSuchFlow(_),
+                | RunFault::NoSuchFlow(_)
+                | RunFault::NoSuchRouter(_),
             ) => 2,
             Failure::Run(RunFault::Read | RunFault::Write) => 3,
             Failure::Words(WordsFault::Memory) | Failure::Run(RunFault::Memory) => 4,

@@ -92,7 +92,9 @@ fn options_of(words: &AuditWords<'_>) -> AuditOptions {
     AuditOptions {
         travels: words.options.travels,
         faults: words.options.faults,
+        unlisted: words.options.unlisted,
         strict: words.options.strict,
+        json: words.options.json,
     }
 }
 
@@ -104,7 +106,8 @@ fn audit(
 ) -> Result<bool, RunFault> {
     let mut files = Folder::new(rt, words.folder);
     let mut output = ToWriter::new(io::writer(rt));
-    let answer = run_audit(rt.alloc(), &mut files, options_of(words), &mut output)?;
+    let options = options_of(words);
+    let answer = run_audit(rt.alloc(), &mut files, options, &words.without, &mut output)?;
     Ok(answer.yes && (answer.unwanted == 0 || !words.options.strict))
 }
 
@@ -145,19 +148,30 @@ fn end(rt: &impl Eprint, answer: Result<bool, Failure>) -> ExitCode {
 
 /// Tells on standard error which files of a folder are refused, and where. Where memory runs out,
 /// nothing more is told.
-fn tell_refused_files(rt: &(impl AllocGlobal + Files + Eprint), folder: &str) {
-    let mut files = Folder::new(rt, folder);
-    if let Ok(lines) = refusal_lines(rt.alloc(), &mut files) {
+fn tell_refused_files(rt: &(impl AllocGlobal + Files + Eprint), words: &AuditWords<'_>) {
+    let mut files = Folder::new(rt, words.folder);
+    if let Ok(lines) = refusal_lines(rt.alloc(), &mut files, &words.without) {
         let _ = eprint!(rt; "{lines}");
     }
 }
 
-/// The folder that is audited, if the task is that.
-fn folder_of_audit<'a>(task: &Task<'a>) -> Option<&'a str> {
-    match task {
-        Task::Audit(words) => Some(words.folder),
-        _ => None,
+/// Ends with the status of an audit's answer, and tells what is refused of its folder.
+fn end_audit(
+    rt: &(impl AllocGlobal + Files + Eprint),
+    words: &AuditWords<'_>,
+    answer: Result<bool, RunFault>,
+) -> ExitCode {
+    if let Err(RunFault::NoSuchRouter(place)) = answer {
+        let name = words.without.get(place as usize - 1).unwrap_or(&"");
+        let _ = eprintln!(rt; "refused: without: {name}");
+        return ExitCode::from(2);
     }
+    let is_refused = is_of_input(&answer);
+    let code = end(rt, answer.map_err(Failure::from));
+    if is_refused {
+        tell_refused_files(rt, words);
+    }
+    code
 }
 
 /// Whether no answer is given for what was read, or for what couldn't be.
@@ -174,16 +188,11 @@ fn run_words<'a>(
     words: &'a [&'a str],
 ) -> Result<ExitCode, Failure> {
     let task = command_of(rt.alloc(), words)?;
-    let audited = folder_of_audit(&task);
     let answer = run(rt, &task);
-    let is_refused = is_of_input(&answer);
-    let code = end(rt, answer.map_err(Failure::from));
-    if let Some(folder) = audited {
-        if is_refused {
-            tell_refused_files(rt, folder);
-        }
+    match &task {
+        Task::Audit(words) => Ok(end_audit(rt, words, answer)),
+        _ => Ok(end(rt, answer.map_err(Failure::from))),
     }
-    Ok(code)
 }
 
 fn try_main(

@@ -72,6 +72,7 @@ fn check_counts(rt: &impl Abort, topology: &Topology) {
     assert!(rt; topology.lans() == 9);
     assert!(rt; topology.routers() == 9);
     assert!(rt; topology.interfaces() == 9);
+    assert!(rt; topology.sources() == 9);
 }
 
 /// There are nine flows, and the ninth of each part is found.
@@ -80,6 +81,7 @@ fn check_ninth(rt: &impl Abort, topology: &Topology) {
     assert!(rt; topology.lan_no("l8") == Some(LanNo(8)));
     assert!(rt; topology.router_no("r8") == Some(RouterNo(8)));
     assert!(rt; topology.lan_of_device(RouterNo(8), b"eth8") == Some(LanNo(8)));
+    assert!(rt; topology.source(8).lan == LanNo(8));
     assert!(rt; topology.flow(8).ttl == 9);
 }
 

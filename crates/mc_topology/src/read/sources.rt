@@ -3,18 +3,16 @@
 ghost use Rattle.std.specs.Prelude.{◌≡◌, ◌≢◌, ◌≤◌, length, false, Err, IfOk};
 ghost use Rattle.toml.specs.View.{view, table_view};
 ghost use Rattle.mc_topology.specs.declared.fault.Section.TheVariants as section;
-ghost use Rattle.mc_topology.specs.Answer.{Answers, out_of_memory};
-ghost use Rattle.mc_topology.specs.Rows.{source_row};
+ghost use Rattle.mc_topology.specs.Answer.{out_of_memory};
 ghost use Rattle.mc_topology.specs.Sources.{has_source, source_with, source_of, sources_in};
 
 use crate::fault::{Section, TopologyFault, TopologyFaultKind, place};
 use crate::lans::{Lans, MAX_LANS};
-use crate::number::LanNo;
 use crate::read::address::source_address_of;
 use crate::read::document::{known_table, rows_at, text_at};
 use crate::read::rows::{Rows, each};
+use crate::source::Source;
 use crate::sources::{MAX_SOURCES, Sources};
-use mc_text::Addr;
 use std::alloc::Global;
 use toml::{Table, Value};
 
@@ -25,11 +23,10 @@ fn source_with(
     earlier: &Sources,
     text: &str,
     lan_name: &str,
-) -> Result<(Addr, LanNo), TopologyFaultKind>
+) -> Result<Source, TopologyFaultKind>
     requires { length lans.now ≤ MAX_LANS }
-    ensures source { Answers source_row result
-        (source_with lans.now earlier.now text.now lan_name.now) }
-    ensures new { IfOk result (λ s. has_source s.0 earlier.now ≡ false) }
+    ensures source { result ≡ source_with lans.now earlier.now text.now lan_name.now }
+    ensures new { IfOk result (λ s. has_source s.address earlier.now ≡ false) }
 {
     let address = source_address_of(text)?;
     let Some(lan) = lans.number_of(lan_name) else {
@@ -38,19 +35,15 @@ fn source_with(
     if earlier.has(address) {
         return Err(TopologyFaultKind::RepeatedName);
     }
-    Ok((address, lan))
+    Ok(Source { address, lan })
 }
 
 /// Reads one source, whose address none of the earlier ones has.
 #[tactic(auto, unfolding(crate::specs::Sources::source_of))]
-fn source_of(
-    lans: &Lans,
-    earlier: &Sources,
-    value: &Value,
-) -> Result<(Addr, LanNo), TopologyFaultKind>
+fn source_of(lans: &Lans, earlier: &Sources, value: &Value) -> Result<Source, TopologyFaultKind>
     requires { length lans.now ≤ MAX_LANS }
-    ensures source { Answers source_row result (source_of lans.now earlier.now (view value.now)) }
-    ensures new { IfOk result (λ s. has_source s.0 earlier.now ≡ false) }
+    ensures source { result ≡ source_of lans.now earlier.now (view value.now) }
+    ensures new { IfOk result (λ s. has_source s.address earlier.now ≡ false) }
 {
     let table = known_table(value, &["address", "lan"])?;
     let text = text_at(table, "address")?;
@@ -79,8 +72,8 @@ impl Rows<Lans> for Sources {
         number: u32,
         row: &Value,
     ) -> Result<(), TopologyFault> {
-        let (address, lan) = place(Section::Source, number, source_of(lans, self, row))?;
-        self.push(address, lan)
+        let source = place(Section::Source, number, source_of(lans, self, row))?;
+        self.push(source)
     }
 }
 

@@ -1,39 +1,58 @@
-use Rattle.std.proofs.Common.{◌∙◌, ap, Err, Ok, refl, subst, sym}
+use Rattle.std.proofs.Common.{◌∙◌, ap, Err, map, subst, sym}
 use Rattle.std.proofs.lemmas.Result.{err_from_is_err_and}
+use Rattle.mc_text.specs.Steps.{refused_as}
 use Rattle.mc_topology.specs.Topology.{TopologyValue}
-use Rattle.mc_forward.specs.Domains.{DomainValue}
-use Rattle.mc_domain.specs.FilesReading.{part_filed}
-use Rattle.mc_domain.specs.Kept.{IsDomainOf}
-use Rattle.mc_domain.specs.NotesOfFiles.{AreNotesOf}
-use Rattle.mc_domain.specs.declared.source_fault.SourceFault.TheVariants.{Input}
-use Rattle.mc_domain.proofs.ReadingLemmas.{contents_of, topology_refused}
+use Rattle.mc_domain.specs.LeftOut.{AreRouters}
+use Rattle.mc_domain.specs.declared.without_fault.WithoutFault.TheVariants.{Source}
+use Rattle.mc_domain.proofs.LeftOutLemmas.{are_routers, name_stops, rest_is, rest_of, topology_stops}
 use Rattle.mc_domain.proofs.domain.files_through.Goals as goal
 
-pub returns-in_err-topology-clause-domain : goal.returns-in_err-topology-clause-domain
-returns-in_err-topology-clause-domain g c =
+pub returns-in_err-topology-clause-fault : goal.returns-in_err-topology-clause-fault
+returns-in_err-topology-clause-fault g c =
     let p = err_from_is_err_and c.from_residual.result c.from_residual.ensures.1 in
-    λ told is. rw (p.1 ∙ ap (λ f. Err f) p.2) (λ no. topology_refused Input (part_filed told)
-    (λ t. Ok tt) c.in_err-topology.field-0.0 (c.in_err-topology.ensures.topology 0 told is no))
+    λ told is. rw (p.1 ∙ ap (λ f. Err f) p.2) (λ no.
+    topology_stops (map (λ n. n.now) c.args.without.now) told c.in_err-topology.field-0.0
+    (c.in_err-topology.ensures.topology 0 told is no))
 
-pub returns-in_err-listed-clause-domain : goal.returns-in_err-listed-clause-domain
-returns-in_err-listed-clause-domain g c =
-    let p = err_from_is_err_and c.from_residual-in_err-listed.result
-    c.from_residual-in_err-listed.ensures.1 in
-    λ told is. rw (p.1 ∙ ap (λ f. Err f) p.2) (λ no. contents_of Input (part_filed told)
-    (λ t. Ok tt) c.in_ok-topology.topology tt (c.in_ok-topology.ensures.topology 0 told is) refl
-    ∙ c.in_err-listed.ensures.contents told (c.in_ok-topology.ensures.kept ∙ is) no)
+pub returns-in_err-check_names-clause-fault : goal.returns-in_err-check_names-clause-fault
+returns-in_err-check_names-clause-fault g c =
+    let p = err_from_is_err_and c.from_residual-in_err-check_names.result
+    c.from_residual-in_err-check_names.ensures.1 in
+    λ told is. rw (p.1 ∙ ap (λ f. Err f) p.2) (λ no.
+    name_stops (map (λ n. n.now) c.args.without.now) told c.in_ok-topology.topology
+    c.in_err-check_names.field-0.0 (c.in_ok-topology.ensures.topology 0 told is)
+    (sym c.in_err-check_names.ensures.names))
+
+pub returns-in_err-check_names-clause-failures : goal.returns-in_err-check_names-clause-failures
+returns-in_err-check_names-clause-failures g c =
+    let p = err_from_is_err_and c.from_residual-in_err-check_names.result
+    c.from_residual-in_err-check_names.ensures.1 in
+    rw (p.1 ∙ ap (λ f. Err f) p.2, c.in_err-check_names.ensures.fault) c.in_ok-topology.ensures.failures
+
+pub returns-in_err-rest_through-clause-fault : goal.returns-in_err-rest_through-clause-fault
+returns-in_err-rest_through-clause-fault g c =
+    let p = err_from_is_err_and c.from_residual-in_err-rest_through.result
+    c.from_residual-in_err-rest_through.ensures.1 in
+    λ told is. rw (p.1 ∙ ap (λ f. Err f) p.2) (λ no.
+    let names = map (λ n. n.now) c.args.without.now in
+    let topology = c.in_ok-topology.ensures.topology 0 told is in
+    rest_is names told c.in_ok-topology.topology c.in_ok-check_names.field-0 topology
+    (sym c.in_ok-check_names.ensures.names)
+    ∙ ap (refused_as Source) (rest_of names told c.in_ok-topology.topology topology
+    ∙ c.in_err-rest_through.ensures.domain told (c.in_ok-topology.ensures.kept ∙ is) no))
 
 pub returns-clause-domain : goal.returns-clause-domain
 returns-clause-domain g c = λ told is.
-    let read = c.in_ok-listed.ensures.contents told (c.in_ok-topology.ensures.kept ∙ is) in (
-      read.0,
-      contents_of Input (part_filed told) (λ t. Ok tt) c.in_ok-topology.topology tt
-          (c.in_ok-topology.ensures.topology 0 told is) refl ∙ read.1,
-      subst (λ (d : DomainValue). IsDomainOf d read.0) (sym c.in_ok-domain.ensures.domain) read.2,
+    let rest = c.in_ok-rest_through.ensures.domain told (c.in_ok-topology.ensures.kept ∙ is) in (
+      rest.0,
+      rest.2,
+      rest_of (map (λ n. n.now) c.args.without.now) told c.in_ok-topology.topology
+          (c.in_ok-topology.ensures.topology 0 told is) ∙ rest.1,
     )
 
-pub returns-clause-notes : goal.returns-clause-notes
-returns-clause-notes g c = λ told is.
-    subst (λ (t : TopologyValue). AreNotesOf told t c.in_ok-listed.listed.notes.items)
-    (sym (ap (λ (d : DomainValue). d.topology) c.in_ok-domain.ensures.domain))
-    (c.in_ok-listed.ensures.notes told (c.in_ok-topology.ensures.kept ∙ is))
+pub returns-clause-routers : goal.returns-clause-routers
+returns-clause-routers g c =
+    subst (λ (t : TopologyValue). AreRouters t (map (λ n. n.now) c.args.without.now))
+    (sym c.in_ok-rest_through.ensures.topology)
+    (are_routers c.in_ok-topology.topology 1 (map (λ n. n.now) c.args.without.now)
+    c.in_ok-check_names.field-0 (sym c.in_ok-check_names.ensures.names))

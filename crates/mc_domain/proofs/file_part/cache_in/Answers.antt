@@ -15,7 +15,7 @@ returns-in_err-name-clause-cache g c =
     let p = err_from_is_err_and c.from_residual-in_err-name.result
     c.from_residual-in_err-name.ensures.1 in
     λ n pairs same told is. rw (p.1 ∙ ap (λ f. Err f) p.2) (part_refused told n (cache_slot c.args.router.now)
-    c.cache.result (noted_of c.args.order pairs) c.in_err-name.field-0.0 c.cache.ensures
+    c.cache.result (noted_of c.args.all c.args.order pairs) c.in_err-name.field-0.0 c.cache.ensures
     (c.in_err-name.ensures.fault told is))
 
 pub returns-in_err-cache_told-clause-cache : goal.returns-in_err-cache_told-clause-cache
@@ -25,25 +25,25 @@ returns-in_err-cache_told-clause-cache g c =
     λ n pairs same told is. rw (p.1 ∙ ap (λ f. Err f) p.2) (
     let part = c.in_ok-name.ensures.part told is in
     let fault = c.in_err-cache_told.field-0.0 in
-    let own = c.in_err-cache_told.ensures (noted_in c.args.order pairs part.0.bytes) (λ loud.
+    let own = c.in_err-cache_told.ensures (noted_in c.args.all c.args.order pairs part.0.bytes) (λ loud.
     sym (c.new-reader.ensures.reads part.0.bytes part.3
-    ∙ ap (λ (ps : List (ℕ × ℕ)). noted_in c.args.order ps part.0.bytes) c.in_ok-clone.ensures.cases
-    ∙ noted_alike c.args.order c.args.listed.now pairs part.0.bytes same)
+    ∙ ap (λ (ps : List (ℕ × ℕ)). noted_in c.args.all c.args.order ps part.0.bytes) c.in_ok-clone.ensures.cases
+    ∙ noted_alike c.args.all c.args.order c.args.listed.now pairs part.0.bytes same)
     ∙ part.4 ∙ sym c.finish.ensures) in
     kept_refused (λ kept noted. kept ≡ noted) told n (cache_slot c.args.router.now) c.cache.result
-    (noted_of c.args.order pairs) part.0 c.cache.ensures part.1 fault
+    (noted_of c.args.all c.args.order pairs) part.0 c.cache.ensures part.1 fault
     (subst (λ m. IsToldOf (λ kept noted. kept ≡ noted) (Err fault)
-    (refused_as (RefusedCache m) (noted_in c.args.order pairs part.0.bytes))) (sym part.2) own))
+    (refused_as (RefusedCache m) (noted_in c.args.all c.args.order pairs part.0.bytes))) (sym part.2) own))
 
 pub returns-clause-cache : goal.returns-clause-cache
 returns-clause-cache g c = λ n pairs same told is.
     let part = c.in_ok-name.ensures.part told is in
-    let own = c.in_ok-cache_told.ensures (noted_in c.args.order pairs part.0.bytes) (λ loud.
+    let own = c.in_ok-cache_told.ensures (noted_in c.args.all c.args.order pairs part.0.bytes) (λ loud.
     sym (c.new-reader.ensures.reads part.0.bytes part.3
-    ∙ ap (λ (ps : List (ℕ × ℕ)). noted_in c.args.order ps part.0.bytes) c.in_ok-clone.ensures.cases
-    ∙ noted_alike c.args.order c.args.listed.now pairs part.0.bytes same)
+    ∙ ap (λ (ps : List (ℕ × ℕ)). noted_in c.args.all c.args.order ps part.0.bytes) c.in_ok-clone.ensures.cases
+    ∙ noted_alike c.args.all c.args.order c.args.listed.now pairs part.0.bytes same)
     ∙ part.4 ∙ sym c.finish.ensures) in
     kept_read (λ kept noted. kept ≡ noted) told n (cache_slot c.args.router.now) c.cache.result
-    (noted_of c.args.order pairs) part.0 c.cache.ensures part.1 c.in_ok-cache_told.field-0
+    (noted_of c.args.all c.args.order pairs) part.0 c.cache.ensures part.1 c.in_ok-cache_told.field-0
     (subst (λ m. IsToldOf (λ kept noted. kept ≡ noted) (Ok c.in_ok-cache_told.field-0)
-    (refused_as (RefusedCache m) (noted_in c.args.order pairs part.0.bytes))) (sym part.2) own)
+    (refused_as (RefusedCache m) (noted_in c.args.all c.args.order pairs part.0.bytes))) (sym part.2) own)

@@ -1,4 +1,5 @@
-use Rattle.std.proofs.Common.{List, [], ◌∷◌, ◌++◌, ◌+◌, ◌*◌, ◌∙◌, ap, Err, arith, inr, refl, rules, subst, sym}
+use Rattle.std.proofs.Common.{ℕ, List, [], ◌∷◌, ◌++◌, ◌+◌, ◌*◌, ◌∙◌, ap, Err, arith, inr, map, refl, rules}
+use Rattle.std.proofs.Common.{subst, sym}
 use Rattle.std.proofs.lemmas.Grind.{elements}
 use Rattle.std.proofs.lemmas.Result.{err_from_is_err_and}
 use Rattle.mc_tables.specs.Notes.{NotesText}
@@ -6,19 +7,26 @@ use Rattle.mc_forward.specs.Assembling.{EachAt}
 use Rattle.mc_forward.specs.Domains.{TablesValue}
 use Rattle.mc_forward.specs.ListedTables.{AreListed, AreListedTables}
 use Rattle.mc_forward.proofs.SameLemmas.{pairwise-more}
+use denote.Ref.{Bor}
+use Rattle.mc_layout.specs.Files.{FileText}
 use Rattle.mc_domain.specs.FilesReading.{part_filed}
+use Rattle.mc_domain.specs.LeftOut.{left_out_files}
 use Rattle.mc_domain.specs.NotesOfFiles.{AreNotes}
 use Rattle.mc_domain.specs.declared.source_fault.SourceFault.TheVariants.{Input}
 use Rattle.mc_domain.proofs.NotesLemmas.{notes_more}
 use Rattle.mc_domain.proofs.ReadingLemmas.{tables_refused, tables_next, tables_end}
 use Rattle.mc_domain.proofs.files.tables_in.Goals as goal
 
+-- the files that are read, where these routers are left out
+abbrev without : List (Bor (List ℕ)) → List FileText → List FileText
+without names told = left_out_files (map (λ (n : Bor (List ℕ)). n.now) names) told
+
 pub returns-in_err-own-clause-tables : goal.returns-in_err-own-clause-tables
 returns-in_err-own-clause-tables g c =
     let p = err_from_is_err_and c.from_residual-in_err-own.result c.from_residual-in_err-own.ensures.1 in
     λ told is. rw (p.1 ∙ ap (λ f. Err f) p.2) (λ no.
     let left = c.loop-router.invariant.left told is in
-    tables_refused Input (part_filed told)
+    tables_refused Input (part_filed (without c.args.without.now told))
     left.0 (1 + 2 * c.loop-router.router) c.args.topology.now.routers
     c.loop-router.router c.router_name-name.result.now c.order-order.result _
     c.in_err-own.field-0.0 c.router_name-name.ensures.name c.order-order.ensures left.2
@@ -51,8 +59,8 @@ loop-router-preserved g c =
       so_far = grind (arith, elements, c.in_ok-push.ensures.items, c.loop-router.invariant.so_far);
       noted = grind (arith, elements, c.in_ok-push-2.ensures.items, c.loop-router.invariant.noted);
       room = search rules;
-      same = c.tables_of.ensures.same ∙ c.loop-router.invariant.same;
-      kept = c.tables_of.ensures.kept ∙ c.loop-router.invariant.kept;
+      same = c.own_tables.ensures.same ∙ c.loop-router.invariant.same;
+      kept = c.own_tables.ensures.kept ∙ c.loop-router.invariant.kept;
       failures = c.in_ok-own.ensures.failures ∙ c.loop-router.invariant.failures;
       left = λ told is.
           let left = c.loop-router.invariant.left told is in
@@ -63,15 +71,17 @@ loop-router-preserved g c =
                 (sym c.in_ok-push.ensures.items)
                 (pairwise-more (AreListedTables flows) c.loop-router.tables.items left.0 own.0 next.0
                 left.1 next.2),
-            tables_next Input (part_filed told) left.0 (left.0 ++ next.0 ∷ [])
+            tables_next Input (part_filed (without c.args.without.now told)) left.0 (left.0 ++ next.0 ∷ [])
                 (1 + 2 * router) (1 + 2 * (router + 1)) routers router name
                 order next.0 _ c.router_name-name.ensures.name
                 c.order-order.ensures left.2 next.1 refl (omega arith),
           );
       notes = λ told is.
-          subst (λ (ns : List NotesText). EachAt (AreNotes told flows) routers ns)
+          subst (λ (ns : List NotesText). EachAt (AreNotes c.args.all
+          (without c.args.without.now told) flows) routers ns)
           (sym c.in_ok-push-2.ensures.items)
-          (notes_more told c.args.topology.now c.loop-router.notes.items own.1 router name order
+          (notes_more c.args.all (without c.args.without.now told)
+          c.args.topology.now c.loop-router.notes.items own.1 router name order
           c.loop-router.invariant.noted c.router_name-name.ensures.name c.order-order.ensures
           (c.in_ok-own.ensures.notes flows told c.in_ok-listed.ensures.listed
           (c.loop-router.invariant.kept ∙ is)) (c.loop-router.invariant.notes told is));
@@ -81,7 +91,7 @@ pub returns-clause-tables : goal.returns-clause-tables
 returns-clause-tables g c = λ told is.
     let left = c.loop-router.invariant.left told is in (
       left.0,
-      tables_end Input (part_filed told) left.0
+      tables_end Input (part_filed (without c.args.without.now told)) left.0
           (1 + 2 * c.loop-router.router) c.args.topology.now.routers c.loop-router.router _
           (omega (arith, c.loop-router-test.false, c.loop-router.invariant.count)) left.2,
       left.1,

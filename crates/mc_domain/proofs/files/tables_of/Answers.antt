@@ -23,7 +23,7 @@ returns-in_err-cache-clause-tables g c =
     c.from_residual-in_err-cache.ensures.1 in
     λ n flows same told is. rw (p.1 ∙ ap (λ f. Err f) p.2) (λ says.
     let vifs = c.in_ok-vifs.ensures.vifs n told is in
-    let refused = kept_alone c.args.order (flow_pairs flows)
+    let refused = kept_alone c.args.all c.args.order (flow_pairs flows)
     (part_filed told (n + 1) (cache_slot c.args.router.now)) (Err c.in_err-cache.field-0.0)
     (c.in_err-cache.ensures.cache (n + 1) (flow_pairs flows) same told (c.in_ok-vifs.ensures.kept ∙ is)) in
     cache_refused Input (part_filed told) n c.args.router.now c.args.order vifs.0
@@ -32,7 +32,7 @@ returns-in_err-cache-clause-tables g c =
 pub returns-clause-tables : goal.returns-clause-tables
 returns-clause-tables g c = λ n flows same told is.
     let vifs = c.in_ok-vifs.ensures.vifs n told is in
-    let cache = kept_alone c.args.order (flow_pairs flows)
+    let cache = kept_alone c.args.all c.args.order (flow_pairs flows)
     (part_filed told (n + 1) (cache_slot c.args.router.now)) (Ok c.in_ok-cache.cache)
     (c.in_ok-cache.ensures.cache (n + 1) (flow_pairs flows) same told (c.in_ok-vifs.ensures.kept ∙ is)) in (
       record { vifs = vifs.0; cache = cache.0 },
@@ -43,8 +43,8 @@ returns-clause-tables g c = λ n flows same told is.
 
 pub returns-clause-notes : goal.returns-clause-notes
 returns-clause-notes g c = λ flows told same is r named ordered.
-    subst (λ (row : RouterRow). AreNotes told flows row c.in_ok-cache.cache.notes)
+    subst (λ (row : RouterRow). AreNotes c.args.all told flows row c.in_ok-cache.cache.notes)
     (of_router r c.args.router.now c.args.order named ordered)
-    (are_notes told flows (record { name = c.args.router.now; order = c.args.order }) 0
+    (are_notes c.args.all told flows (record { name = c.args.router.now; order = c.args.order }) 0
     c.in_ok-cache.cache
     (c.in_ok-cache.ensures.cache 0 (flow_pairs flows) same told (c.in_ok-vifs.ensures.kept ∙ is)))

@@ -8,4 +8,4 @@ returns-clause-search c = λ d notes number f lines sent_on took_none ok.
     search-lines d notes number f lines sent_on took_none ok
 
 pub returns-clause-unlisted : goal.returns-clause-unlisted
-returns-clause-unlisted c = λ t notes ok. unlisted-of_rows t notes ok
+returns-clause-unlisted c = λ all t notes ok. unlisted-of_rows all t notes ok

@@ -9,7 +9,7 @@ use Rattle.mc_explain.proofs.searching.search.Goals as goal
 pub returns : goal.returns
 returns c =
     subst (λ (s : Search). IfOk c.search_all.result (IsSearched s c.args.events.now c.args.missed))
-    (same-search c.new-view.result c.args.domain.now c.args.flow c.args.notes.now
+    (same-search c.new-view.result c.args.domain.now c.args.flow c.args.notes.now c.args.left_out.now
     c.in_ok-firsts.firsts.by_lan c.copies.result.now c.args.flight.now.flight.carried
     c.new-view.ensures.flow c.in_ok-firsts.ensures.firsts c.copies.ensures.copies)
     c.search_all.ensures

@@ -1,8 +1,8 @@
 use Rattle.std.proofs.Common.{true}
 use Rattle.mc_run.specs.InputMeaning.{IsRefusedFor}
-use Rattle.mc_run.specs.CheckRun.{HeadlineOf, IsVerdictText}
-use Rattle.mc_run.proofs.RunLemmas.{answered, headline_said, written_part, written_whole}
-use Rattle.mc_run.proofs.YesLines.{verdict_yes}
+use Rattle.mc_run.specs.CheckRun.{IsVerdictText}
+use Rattle.mc_run.proofs.RunLemmas.{answered, written_part, written_whole}
+use Rattle.mc_run.proofs.YesLines.{check_headline}
 use Rattle.mc_run.proofs.check.run_check.Goals as goal
 
 pub returns-clause-answer : goal.returns-clause-answer
@@ -23,6 +23,5 @@ returns-clause-part g c =
 
 pub returns-clause-headline : goal.returns-clause-headline
 returns-clause-headline g c =
-    headline_said (g.R.Input.told c.args.input.now) IsVerdictText HeadlineOf c.verdicts_on.result
-    c.say.result _ _ verdict_yes c.verdicts_on.ensures.text c.verdicts_on.ensures.headline
-    c.say.ensures.ended
+    check_headline (g.R.Input.told c.args.input.now) c.verdicts_on.result c.say.result _ _
+    c.verdicts_on.ensures.text c.verdicts_on.ensures.headline c.say.ensures.ended

@@ -1,3 +1,8 @@
+use Rattle.std.proofs.Common.{ℕ, List, Option, Some, None, true}
+use Rattle.std.specs.Prelude.{IfSome}
+use Rattle.std.proofs.lemmas.Result.{err_from_is_err_and}
+use Rattle.mc_run.specs.InputMeaning.{IsRefusedFor}
+use Rattle.mc_run.specs.declared.fault.RunFault.TheVariants.{Memory}
 use Rattle.std.specs.String.{string_bytes}
 use Rattle.mc_run.specs.CheckRun.{IsTextOfVerdicts, KeepsHeadline}
 use Rattle.mc_run.proofs.RunLemmas.{of_listed_with}
@@ -19,3 +24,15 @@ returns-in-Ok-clause-headline g c = λ all.
     of_listed_with (λ d lists. KeepsHeadline d lists) (g.R.Input.told c.args.input.now)
     read.domain read.certificate (λ whole same. same_headline same read.certificate)
     c.in_ok-read.ensures.means (c.in-Ok.ensures.headline all)
+
+pub returns-in_err-read-clause-refused : goal.returns-in_err-read-clause-refused
+returns-in_err-read-clause-refused g c =
+    let p = err_from_is_err_and c.from_residual.result c.from_residual.ensures.1 in
+    rw (p.1, p.2) c.in_err-read.ensures.refused
+
+pub returns-in-Err-clause-refused : goal.returns-in-Err-clause-refused
+returns-in-Err-clause-refused g c = by (g.R.Input.told c.args.input.now)
+  where
+    by : (told : Option (List ℕ)) → IfSome told (λ text. IsRefusedFor true text Memory)
+    by None = tt
+    by (Some text) = tt

@@ -25,8 +25,8 @@ new-requires c =
     let ms = table_view c.args.table.now in
     table_kept ms _
     (topology_found ms c.args.lans c.args.routers c.in_ok-interfaces.interfaces
-    c.in_ok-interfaces.flows c.requires.version c.requires.lans c.requires.routers
-    (sym (c.in_ok-interfaces.ensures (λ e. absurd cc))))
+    c.in_ok-interfaces.sources c.in_ok-interfaces.flows c.requires.version c.requires.lans
+    c.requires.routers (sym (c.in_ok-interfaces.ensures (λ e. absurd cc))))
 
 pub returns : goal.returns
 returns c =
@@ -34,5 +34,5 @@ returns c =
     (sym
     (topology_found (table_view c.args.table.now) c.args.lans c.args.routers
     c.in_ok-interfaces.interfaces
-    c.in_ok-interfaces.flows c.requires.version c.requires.lans c.requires.routers
-    (sym (c.in_ok-interfaces.ensures (λ e. absurd cc)))))
+    c.in_ok-interfaces.sources c.in_ok-interfaces.flows c.requires.version c.requires.lans
+    c.requires.routers (sym (c.in_ok-interfaces.ensures (λ e. absurd cc)))))

@@ -12,10 +12,10 @@ use Rattle.mc_tables.proofs.noted_reader.NotedReader.new.Goals as goal
 pub invariant_of-result : goal.invariant_of-result
 invariant_of-result c = λ _.
     subst (λ (s : NotedSoFar). IsCache s.rows.rows.table × EntriesStand (told s.notes))
-    (sym c.new-2.ensures) (nothing_keeps, none_stand c.args.listed)
+    (sym c.new-2.ensures) (nothing_keeps, none_stand c.args.all c.args.listed)
 
 pub returns-clause-reads : goal.returns-clause-reads
 returns-clause-reads c = λ text within.
     ap (λ (l : LinesSoFar). noted_after l c.new-2.result text) c.new.ensures
     ∙ ap (λ (s : NotedSoFar). noted_after no_lines s text) c.new-2.ensures
-    ∙ noted_whole c.args.order c.args.listed text within
+    ∙ noted_whole c.args.all c.args.order c.args.listed text within

@@ -1,8 +1,13 @@
+use Rattle.std.proofs.Common.{◌≡◌, false, sym, subst}
+use Rattle.mc_topology.specs.Rows.{SourceRow}
+use Rattle.mc_topology.specs.Sources.{has_source}
 use Rattle.mc_topology.proofs.KeptNames.{source_pushed}
 use Rattle.mc_topology.proofs.sources.Sources.push.Goals as goal
 
 pub returns-clause-added : goal.returns-clause-added
 returns-clause-added c =
-    rw c.in_ok-insert.ensures.entries
-    (source_pushed c.self.inside.lans c.args.address c.args.lan c.args.self.now c.self.view_is
-    c.requires)
+    let new = subst (λ (s : SourceRow). has_source s.address c.args.self.now ≡ false)
+    (sym c.source.view_is) c.requires in
+    rw (c.in_ok-insert.ensures.entries, ← c.source.view_is)
+    (source_pushed c.self.inside.lans c.source.inside.address c.source.inside.lan c.args.self.now
+    c.self.view_is new)

@@ -1,0 +1,182 @@
+-- A router that is left out of a domain has nothing there.
+use Rattle.std.specs.Prelude.{◌≡◌, ℕ, zero, suc, ◌+◌, true, List, [], ◌∷◌, Contains}
+use Rattle.std.specs.Prelude.{Option, Some, None, Result, Ok, option_and_then, option_map, refl}
+use Rattle.std.specs.Prelude.{slice_get}
+use Rattle.std.proofs.Common.{ap, subst, sym, ◌∙◌}
+use Rattle.std.specs.FinMap as finite
+use Rattle.std.specs.Ordering.{nat_cmp}
+use Rattle.std.specs.FinSet as set
+use Rattle.mc_text.specs.Bundle.{PartText}
+use Rattle.mc_text.specs.Steps.{◌>>=◌}
+use Rattle.mc_text.specs.declared.text.addr.Order.{Order}
+use Rattle.mc_text.proofs.StepLemmas.{bind_ok, ok_is}
+use Rattle.mc_tables.specs.CacheTable.{EntryText, key_cmp, table_of}
+use Rattle.mc_topology.specs.Rows.{RouterRow}
+use Rattle.mc_topology.specs.Topology.{TopologyValue}
+use Rattle.mc_topology.specs.declared.flow.Flow.{Flow}
+use Rattle.mc_igmp.specs.declared.record.Record.{Record}
+use Rattle.mc_layout.specs.Files.{FileText, file_named}
+use Rattle.mc_layout.specs.Layout.{Slot, cache_slot, file_name, topology_slot, vif_slot}
+use Rattle.mc_theory.specs.Nets.{Net}
+use Rattle.mc_theory.specs.Nets.Row.{NoRow}
+use Rattle.mc_forward.specs.Domains.{DomainValue, TablesValue, lan_of_vif, row_at, vif_of}
+use Rattle.mc_domain.specs.FilesReading.{part_filed}
+use Rattle.mc_domain.specs.Input.{InputValue}
+use Rattle.mc_domain.specs.LeftOut.{HasNothing, cache_header, left_out_files, vif_header}
+use Rattle.mc_domain.specs.Meaning.{FilesMeanListed}
+use Rattle.mc_domain.specs.PartsReading.{all_reports, all_tables, contents, lans_number, reading}
+use Rattle.mc_domain.specs.PartsReading.{router_tables, told_by, topology_of}
+use Rattle.mc_domain.specs.declared.source_fault.SourceFault.{SourceFault}
+use Rattle.mc_domain.specs.declared.source_fault.SourceFault.TheVariants.{Input}
+use Rattle.mc_domain.proofs.FilesStand.{files_again}
+use Rattle.mc_domain.proofs.LeftOutLemmas.{is_named, is_named_of, named_cache, named_vif}
+
+-- tables of which nothing is told
+abbrev no_tables : TablesValue
+no_tables = record { vifs = finite.from_entries []; cache = table_of [] }
+
+-- headers alone are read as them
+bare_read : (files : List FileText) (n : ℕ) (name : List ℕ) (order : Order)
+    → file_named files (file_name (vif_slot name)) ≡ Some vif_header
+    → file_named files (file_name (cache_slot name)) ≡ Some cache_header
+    → router_tables Input (part_filed files) n name order ≡ Ok no_tables
+unfolding router_tables
+bare_read files n name order vif cache = rw (vif, cache) refl
+
+-- ---- the tables of one router among those of all
+
+some_is : (x y : TablesValue) → Some x ≡ Some y → x ≡ y
+some_is x y e = cc
+
+module _ (source : ℕ → Slot → Result PartText SourceFault) where
+  first-of : (n : ℕ) (own : RouterRow) (rs : List RouterRow) (ts : List TablesValue)
+      → all_tables Input source n (own ∷ rs) ≡ Ok ts
+      → (t : TablesValue) × (others : List TablesValue)
+      × (router_tables Input source n own.name own.order ≡ Ok t)
+      × (all_tables Input source (n + 2) rs ≡ Ok others) × (ts ≡ t ∷ others)
+  unfolding all_tables
+  first-of n own rs ts e =
+      let first = bind_ok (router_tables Input source n own.name own.order)
+      (λ tables. all_tables Input source (n + 2) rs >>= λ others. Ok (tables ∷ others)) ts e in
+      let rest = bind_ok (all_tables Input source (n + 2) rs) (λ others. Ok (first.0 ∷ others)) ts
+      first.2 in (
+        first.0,
+        rest.0,
+        first.1,
+        rest.1,
+        sym (ok_is {E = SourceFault} (first.0 ∷ rest.0) ts rest.2),
+      )
+
+  tables-at : (n : ℕ) (rs : List RouterRow) (ts : List TablesValue) (k : ℕ) (r : RouterRow)
+      (t : TablesValue) → all_tables Input source n rs ≡ Ok ts → slice_get rs k ≡ Some r
+      → slice_get ts k ≡ Some t
+      → (m : ℕ) × (router_tables Input source m r.name r.order ≡ Ok t)
+  tables-at n [] ts k r t e at here = absurd cc
+  tables-at n (own ∷ rs) ts zero r t e at here =
+      let first = first-of n own rs ts e in
+      let row : own ≡ r = cc in
+      let tables : first.0 ≡ t = some_is first.0 t
+      (ap (λ (l : List TablesValue). slice_get l 0) (sym first.4) ∙ here) in (
+        n,
+        subst (λ (r : RouterRow). router_tables Input source n r.name r.order ≡ Ok t) row
+            (first.2 ∙ ap Ok tables),
+      )
+  tables-at n (own ∷ rs) ts (suc k) r t e at here =
+      let first = first-of n own rs ts e in
+      tables-at (n + 2) rs first.1 k r t first.3 at
+      (ap (λ (l : List TablesValue). slice_get l (suc k)) (sym first.4) ∙ here)
+
+  contents_tables : (t : TopologyValue) (v : InputValue) → contents Input source t ≡ Ok v
+      → (v.topology ≡ t) × (all_tables Input source 1 t.routers ≡ Ok v.tables)
+  unfolding contents
+  contents_tables t v e =
+      let make : List TablesValue → List (List Record) → InputValue = λ tables reports.
+      record { topology = t; tables = tables; reports = reports } in
+      let tables = bind_ok (all_tables Input source 1 t.routers)
+      (λ tables. all_reports Input source (lans_number t) t.lans
+      >>= λ reports. Ok (make tables reports)) v e in
+      let reports = bind_ok (all_reports Input source (lans_number t) t.lans)
+      (λ reports. Ok (make tables.0 reports)) v tables.2 in
+      let whole : make tables.0 reports.0 ≡ v =
+      ok_is {E = SourceFault} (make tables.0 reports.0) v reports.2 in (
+        sym (ap (λ (v : InputValue). v.topology) whole),
+        tables.1 ∙ ap (λ (v : InputValue). Ok v.tables) whole,
+      )
+
+  pub read_topology : (v : InputValue) → reading Input source (λ t. Ok tt) ≡ Ok v
+      → told_by Input (source 0 topology_slot) topology_of ≡ Ok v.topology
+  unfolding reading
+  read_topology v e =
+      let topology = bind_ok (told_by Input (source 0 topology_slot) topology_of)
+      (λ t. contents Input source t) v e in
+      topology.1 ∙ ap Ok (sym (contents_tables topology.0 v topology.2).0)
+
+  read_tables : (v : InputValue) → reading Input source (λ t. Ok tt) ≡ Ok v
+      → all_tables Input source 1 v.topology.routers ≡ Ok v.tables
+  unfolding reading
+  read_tables v e =
+      let topology = bind_ok (told_by Input (source 0 topology_slot) topology_of)
+      (λ t. contents Input source t) v e in
+      let both = contents_tables topology.0 v topology.2 in
+      subst (λ (t : TopologyValue). all_tables Input source 1 t.routers ≡ Ok v.tables) (sym both.0)
+      both.1
+
+-- ---- a router that is left out
+
+-- tables that are none have no vif and no row
+no_vif : (o : Option TablesValue) → ((t : TablesValue) → o ≡ Some t → no_tables ≡ t) → (vif : ℕ)
+    → option_and_then (λ t. finite.get t.vifs vif) o ≡ None
+no_vif None are vif = refl
+no_vif (Some t) are vif =
+    subst (λ (t : TablesValue). finite.get t.vifs vif ≡ None) (are t refl) (finite.get-empty nat_cmp vif)
+
+no_row : (o : Option TablesValue) → ((t : TablesValue) → o ≡ Some t → no_tables ≡ t)
+    → (flow : Option Flow) → row_at o flow ≡ NoRow
+no_row None are flow = refl
+no_row (Some t) are None = refl
+no_row (Some t) are (Some flow) =
+    subst (λ (t : TablesValue). row_at (Some t) (Some flow) ≡ NoRow) (are t refl)
+    (rw (
+      set.contains-empty nat_cmp flow.group,
+      set.contains-empty nat_cmp 0,
+      finite.get-empty {X = EntryText} key_cmp (flow.source, flow.group),
+    ) refl)
+
+-- the row of a router with this name
+router-of : (o : Option RouterRow) (name : List ℕ) → option_map (λ r. r.name) o ≡ Some name
+    → (r : RouterRow) × (o ≡ Some r) × (r.name ≡ name)
+router-of None name e = absurd cc
+router-of (Some r) name e = (r, refl, cc)
+
+module _ (names : List (List ℕ)) (files : List FileText) (d : DomainValue) (router : ℕ)
+    (name : List ℕ) (means : FilesMeanListed (left_out_files names files) d)
+    (named : Contains names name)
+    (own : option_map (λ r. r.name) (slice_get d.topology.routers router) ≡ Some name) where
+  none_told : (t : TablesValue) → slice_get means.whole.tables router ≡ Some t → no_tables ≡ t
+  none_told t here =
+      let input = means.means.input in
+      let whole = means.means.assembled in
+      let source = part_filed (left_out_files names files) in
+      let row = router-of (slice_get d.topology.routers router) name own in
+      let at = ap (λ (t : TopologyValue). slice_get t.routers router)
+      (sym whole.topology ∙ means.same.topology) ∙ row.1 in
+      let own_tables = tables-at source 1 input.topology.routers input.tables router row.0 t
+      (read_tables source input (files_again (left_out_files names files) input means.means.stands)) at
+      (ap (λ (ts : List TablesValue). slice_get ts router) (sym whole.tables) ∙ here) in
+      let is = subst (λ (n : List ℕ). is_named names n ≡ true) (sym row.2) (is_named_of names name named) in
+      ok_is {E = SourceFault} no_tables t
+      (sym (bare_read (left_out_files names files) own_tables.0 row.0.name row.0.order
+      (named_vif names files row.0.name is) (named_cache names files row.0.name is)) ∙ own_tables.1)
+
+  pub has_nothing : HasNothing d router
+  has_nothing =
+      let whole = means.whole in
+      let vifs : (vif : ℕ) → vif_of d.tables router vif ≡ None = λ vif.
+      sym (means.same.vifs router vif) ∙ no_vif (slice_get whole.tables router) none_told vif in
+      record {
+        vifs = vifs;
+        placed = λ vif. ap (option_and_then (lan_of_vif d.topology router)) (vifs vif);
+        rows = λ flow.
+            sym (ap (λ (net : Net). net.row router) (means.same.nets flow))
+            ∙ no_row (slice_get whole.tables router) none_told (slice_get whole.topology.flows flow);
+      }

@@ -1,0 +1,214 @@
+//! Which pairs of a group and a source are no flow's: those that are shown, each with its routers, and
+//! how many rows there are besides.
+
+ghost use Rattle.std.specs.Prelude.{◌≡◌, ◌≤◌, ◌*◌, ◌+◌, [], IfOk, OnOk, length, map, slice_get};
+ghost use Rattle.std.specs.Prelude.{sum_by};
+ghost use Rattle.std.specs.List.Sorted.{IsStrictlySortedBy};
+ghost use Rattle.mc_tables.specs.CacheTable.{key_cmp};
+ghost use Rattle.mc_tables.specs.Notes.{in_order, shown_pairs};
+ghost use Rattle.mc_explain.specs.UnlistedPairs.{AreUnlisted, put_last, with_below, with_routers};
+ghost use Rattle.mc_explain.specs.UnlistedText.{lowest_of, pairs_in, rows_of};
+
+use mc_tables::CacheNotes;
+use mc_text::{Addr, Memory};
+use mc_topology::{RouterNo, Topology};
+use std::alloc::Global;
+use std::marker::Model;
+
+/// How many pairs are shown at most, where not all are.
+const MOST: usize = 20;
+
+/// A pair of a group and a source that is no flow's, and the routers that have a row of it. Its value in
+/// contracts is the pair of both.
+#[derive(Debug, Drop)]
+pub struct UnlistedPair {
+    group: Addr,
+    source: Addr,
+    routers: Vec<RouterNo>,
+}
+
+impl Model for UnlistedPair {
+    ghost use Rattle.std.specs.Prelude.{ℕ, List};
+
+    ghost Value = { (ℕ × ℕ) × List ℕ };
+
+    ghost view = { λ p. ((p.group, p.source), p.routers.items) };
+}
+
+impl UnlistedPair {
+    /// The group.
+    pub fn group(&self) -> Addr
+        ensures { result ≡ self.now.0.0 }
+    {
+        self.group
+    }
+
+    /// The source.
+    pub fn source(&self) -> Addr
+        ensures { result ≡ self.now.0.1 }
+    {
+        self.source
+    }
+
+    /// The routers, in the topology's order.
+    pub fn routers(&self) -> &[RouterNo]
+        ensures { result.now ≡ self.now.1 }
+    {
+        &self.routers
+    }
+
+    /// A router more has it, if it isn't the last one.
+    fn add(&mut self, router: RouterNo) -> Result<(), Memory>
+        ensures { OnOk result (self.new ≡ (self.old.0, put_last router self.old.1)) }
+    {
+        let is_last = match self.routers.last() {
+            Some(last) => *last == router,
+            None => false,
+        };
+        if !is_last {
+            self.routers.push(router)?;
+        }
+        Ok(())
+    }
+}
+
+/// The pairs that are shown of those that are no flow's, and how many rows there are besides.
+#[derive(Debug, Drop)]
+pub struct UnlistedPairs {
+    /// The pairs, by group and then by source.
+    pub shown: Vec<UnlistedPair>,
+    /// How many resolved rows are of other pairs that are no flow's.
+    pub further: u128,
+}
+
+/// Pairs in order, each once: all, or the lowest.
+fn shown_pairs(mut pairs: Vec<(Addr, Addr)>, all: bool) -> Vec<(Addr, Addr)>
+    ensures { result.items ≡ shown_pairs all (in_order pairs.items) }
+{
+    pairs.sort_unstable();
+    pairs.dedup();
+    if !all {
+        pairs.truncate(MOST);
+    }
+    pairs
+}
+
+/// The pairs that are shown of all routers.
+fn lowest_of(alloc: Global, notes: &[CacheNotes], all: bool) -> Result<Vec<(Addr, Addr)>, Memory>
+    ensures { IfOk result (λ pairs. pairs.items ≡ lowest_of all notes.now) }
+{
+    let mut pairs = Vec::new(alloc);
+    for own in notes {
+        pairs.extend_from_slice(own.lowest_unlisted())?;
+    }
+    Ok(shown_pairs(pairs, all))
+}
+
+/// Pairs without routers.
+fn without_routers(alloc: Global, pairs: &[(Addr, Addr)]) -> Result<Vec<UnlistedPair>, Memory>
+    ensures { IfOk result (λ shown. shown.items ≡ map (λ pair. (pair, [])) pairs.now) }
+{
+    let mut shown = Vec::new(alloc);
+    for (group, source) in pairs {
+        shown.push(UnlistedPair {
+            group: *group,
+            source: *source,
+            routers: Vec::new(alloc),
+        })?;
+    }
+    Ok(shown)
+}
+
+/// The pairs that a router's notes have.
+fn pairs_in<'n>(notes: &'n [CacheNotes], router: RouterNo) -> &'n [(Addr, Addr)]
+    ensures { result.now ≡ pairs_in (slice_get notes.now router) }
+{
+    match notes.get(router.0 as usize) {
+        Some(own) => own.lowest_unlisted(),
+        None => &[],
+    }
+}
+
+/// A router is added to those of the pairs that its notes have.
+fn add_router(
+    shown: &mut Vec<UnlistedPair>,
+    pairs: &[(Addr, Addr)],
+    notes: &[CacheNotes],
+    router: RouterNo,
+) -> Result<(), Memory>
+    requires ascend { IsStrictlySortedBy key_cmp pairs.now }
+    requires shown { shown.old.items ≡ map (with_below notes.now router) pairs.now }
+    ensures { OnOk result (shown.new.items ≡ map (with_below notes.now (router + 1)) pairs.now) }
+{
+    let own = pairs_in(notes, router);
+    for pair in own {
+        if let Ok(place) = pairs.binary_search(pair) {
+            shown[place].add(router)?;
+        }
+    }
+    Ok(())
+}
+
+/// Ascending pairs with their routers.
+fn with_routers(
+    alloc: Global,
+    topology: &Topology,
+    notes: &[CacheNotes],
+    pairs: &[(Addr, Addr)],
+) -> Result<Vec<UnlistedPair>, Memory>
+    requires { IsStrictlySortedBy key_cmp pairs.now }
+    ensures { IfOk result (λ shown.
+        shown.items ≡ map (with_routers topology.now notes.now) pairs.now) }
+{
+    let mut shown = without_routers(alloc, pairs)?;
+    for number in 0..topology.routers() {
+        add_router(&mut shown, pairs, notes, RouterNo(number))?;
+    }
+    Ok(shown)
+}
+
+/// How many rows these pairs have.
+fn rows_told(shown: &[UnlistedPair]) -> u128
+    ensures { result ≡ sum_by (λ pair. length pair.1) shown.now }
+{
+    let mut rows = 0;
+    for pair in shown {
+        rows += pair.routers.len() as u128;
+    }
+    rows
+}
+
+/// How many rows the notes of all routers count.
+fn rows_of(notes: &[CacheNotes]) -> u128
+    ensures rows { result ≡ rows_of notes.now }
+    ensures few { result ≤ length notes.now * 4294967295 }
+{
+    let mut rows = 0;
+    for own in notes {
+        rows += u128::from(own.unlisted_rows());
+    }
+    rows
+}
+
+impl UnlistedPairs {
+    /// Those of the routers of a topology, by what is noted of each one's cache, the first router's
+    /// first: all pairs that these notes have, or the 20 lowest. It takes time in proportion to how
+    /// many the notes have, times the logarithm of that.
+    ///
+    /// # Errors
+    ///
+    /// `Memory` where a growth was refused.
+    pub fn new(
+        alloc: Global,
+        topology: &Topology,
+        notes: &[CacheNotes],
+        all: bool,
+    ) -> Result<UnlistedPairs, Memory>
+        ensures { IfOk result (AreUnlisted all topology.now notes.now) }
+    {
+        let pairs = lowest_of(alloc, notes, all)?;
+        let shown = with_routers(alloc, topology, notes, &pairs)?;
+        let further = rows_of(notes).saturating_sub(rows_told(&shown));
+        Ok(UnlistedPairs { shown, further })
+    }
+}

@@ -1,0 +1,26 @@
+-- The numbers below a count that pass a test, as the count grows.
+use Rattle.std.proofs.Common.{◌≡◌, ℕ, ◌+◌, Bool, true, false, cond, List, [], ◌∷◌, ◌++◌, filter, ap, sym, ◌∙◌}
+use Rattle.std.proofs.Common.{append-nil}
+use Rattle.std.proofs.lemmas.List.Elements.{filter-append}
+use Rattle.mc_theory.specs.Lists.{below}
+use Rattle.mc_forward.proofs.BelowLemmas.{below-more}
+
+filter-next : (p : ℕ → Bool) (n : ℕ)
+    → filter p (below (n + 1)) ≡ filter p (below n) ++ filter p (n ∷ [])
+filter-next p n = ap (filter p) (below-more n) ∙ filter-append p (below n) (n ∷ [])
+
+-- where the next number passes, the list has one more,
+pub filter-passed : (p : ℕ → Bool) (xs now : List ℕ) (n : ℕ) → xs ≡ filter p (below n) → p n ≡ true
+    → now ≡ xs ++ n ∷ [] → now ≡ filter p (below (n + 1))
+filter-passed p xs now n so_far passes pushed =
+    let one : filter p (n ∷ []) ≡ n ∷ [] = ap (λ (b : Bool). cond b (n ∷ []) []) passes in
+    pushed ∙ ap (λ ys. ys ++ n ∷ []) so_far
+    ∙ sym (filter-next p n ∙ ap (λ ys. filter p (below n) ++ ys) one)
+
+-- and where it doesn't, it stays
+pub filter-passed_not : (p : ℕ → Bool) (xs : List ℕ) (n : ℕ) → xs ≡ filter p (below n) → p n ≡ false
+    → xs ≡ filter p (below (n + 1))
+filter-passed_not p xs n so_far fails =
+    let none : filter p (n ∷ []) ≡ [] = ap (λ (b : Bool). cond b (n ∷ []) []) fails in
+    so_far ∙ sym (filter-next p n ∙ ap (λ ys. filter p (below n) ++ ys) none
+    ∙ append-nil (filter p (below n)))

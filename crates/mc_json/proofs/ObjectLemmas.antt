@@ -1,0 +1,78 @@
+-- Lines that are objects, none of which is the verdict: one, and several one after the other.
+use Rattle.std.proofs.Common.{◌≡◌, ◌==◌, ℕ, false, List, [], ◌∷◌, ◌++◌, drop, take, flat_map, inl, inr}
+use Rattle.std.proofs.Common.{codes, refl, ap, ap₂, sym, subst, ◌∙◌, append-nil, take-append-drop}
+use Rattle.std.specs.Prelude.{slice_index_or}
+use Rattle.std.proofs.lemmas.Bool.{false≢true}
+use Rattle.std.proofs.lemmas.Grind.{flat_map-append}
+use Rattle.mc_theory.proofs.InLists.{in-append_cases}
+use Rattle.mc_explain.specs.Indented.{IsFeedless}
+use Rattle.mc_explain.specs.UnlistedLines.{ended}
+use Rattle.mc_explain.proofs.IndentedLemmas.{feedless-from}
+use Rattle.serde_json.specs.Data.{Data}
+use Rattle.serde_json.specs.Written.{compact_text}
+use Rattle.mc_json.specs.ObjectLines.{AreObjectLines, BeginsObject, IsNoVerdict}
+use Rattle.mc_json.specs.RowData.{line_of}
+use Rattle.mc_json.proofs.TextLemmas.{text-plain}
+
+-- ---- one
+
+-- by its first two bytes, and by the first one of its first key
+pub one-line : (d : Data) → take 2 (compact_text d) ≡ codes "{\""
+    → (slice_index_or (compact_text d) 2 0 == 118) ≡ false → AreObjectLines (line_of d)
+one-line d starts differs = record {
+  lines = compact_text d ∷ [];
+  begins = λ line h. elim h [
+    | inl e ↦ subst BeginsObject e (
+      drop 2 (compact_text d),
+      sym (take-append-drop 2 (compact_text d))
+          ∙ ap (λ (front : List ℕ). front ++ drop 2 (compact_text d)) starts,
+    )
+    | inr k ↦ absurd k
+  ];
+  other = λ line h. elim h [
+    | inl e ↦ subst IsNoVerdict e (λ rest is. false≢true
+        (sym differs ∙ ap (λ (text : List ℕ). slice_index_or text 2 0 == 118) is))
+    | inr k ↦ absurd k
+  ];
+  feedless = λ line h. elim h [
+    | inl e ↦ subst IsFeedless e (feedless-from (compact_text d) (text-plain d))
+    | inr k ↦ absurd k
+  ];
+  spelled = sym (append-nil (line_of d));
+}
+
+-- ---- several
+
+pub no-lines : AreObjectLines []
+no-lines = record {
+  lines = [];
+  begins = λ line h. absurd h;
+  other = λ line h. absurd h;
+  feedless = λ line h. absurd h;
+  spelled = refl;
+}
+
+pub lines-both : (xs ys : List ℕ) → AreObjectLines xs → AreObjectLines ys → AreObjectLines (xs ++ ys)
+lines-both xs ys p q = record {
+  lines = p.lines ++ q.lines;
+  begins = λ line h. elim (in-append_cases line p.lines q.lines h) [
+    | inl left ↦ p.begins line left
+    | inr right ↦ q.begins line right
+  ];
+  other = λ line h. elim (in-append_cases line p.lines q.lines h) [
+    | inl left ↦ p.other line left
+    | inr right ↦ q.other line right
+  ];
+  feedless = λ line h. elim (in-append_cases line p.lines q.lines h) [
+    | inl left ↦ p.feedless line left
+    | inr right ↦ q.feedless line right
+  ];
+  spelled = ap₂ (λ (us vs : List ℕ). us ++ vs) p.spelled q.spelled
+      ∙ sym (flat_map-append ended p.lines q.lines);
+}
+
+pub lines-each : {A : Type 0} (f : A → List ℕ) (xs : List A) → ((x : A) → AreObjectLines (f x))
+    → AreObjectLines (flat_map f xs)
+lines-each f [] each = no-lines
+lines-each f (x ∷ xs) each =
+    lines-both (f x) (flat_map f xs) (each x) (lines-each f xs each)

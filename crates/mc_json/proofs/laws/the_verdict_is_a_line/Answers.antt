@@ -1,0 +1,12 @@
+-- They are computed.
+use Rattle.std.proofs.Common.{refl}
+use Rattle.json.specs.Print.{escape_byte}
+use Rattle.mc_json.proofs.laws.the_verdict_is_a_line.Goals as goal
+
+pub returns-clause-yes : goal.returns-clause-yes
+unfolding escape_byte
+returns-clause-yes c = refl
+
+pub returns-clause-no : goal.returns-clause-no
+unfolding escape_byte
+returns-clause-no c = refl

@@ -1,0 +1,70 @@
+-- What an audit tells first in JSON: the domain that was read, and by which words.
+use Rattle.std.specs.Prelude.{ℕ, List, [], ◌∷◌, ◌++◌, length, map, flat_map, Option, Some, None, codes}
+use Rattle.mc_text.specs.Addr.{dotted}
+use Rattle.mc_tables.specs.VifTable.{VifText}
+use Rattle.mc_topology.specs.Rows.{InterfaceRow, SourceRow}
+use Rattle.mc_topology.specs.Topology.{TopologyValue}
+use Rattle.mc_theory.specs.Lists.{below}
+use Rattle.mc_forward.specs.ListedTables.{DomainFacts}
+use Rattle.mc_explain.specs.RowText.{name_text}
+use Rattle.mc_explain.specs.TopologyLans.{vif_with}
+use Rattle.serde_json.specs.Data.{Data, null, string}
+use Rattle.mc_json.specs.RowData.{count_data, list_data, object_data}
+use Rattle.mc_json.specs.ToldData.{lan_data, router_data}
+
+-- ---- interfaces
+
+abbrev pub interface_data : TopologyValue → (router : ℕ) → (device : List ℕ) → (lan vif : Data) → Data
+interface_data t router device lan vif = object_data (
+    (codes "device", string (name_text device))
+    ∷ (codes "lan", lan)
+    ∷ (codes "router", router_data t router)
+    ∷ (codes "vif", vif) ∷ [])
+
+abbrev pub lan_or_null : TopologyValue → Option ℕ → Data
+lan_or_null t None = null
+lan_or_null t (Some lan) = lan_data t lan
+
+-- a vif, if the table has a line for it, with the LAN that it is placed on, for whichever flow
+abbrev pub vif_row : DomainFacts → (router vif : ℕ) → Option VifText → List Data
+vif_row d router vif None = []
+vif_row d router vif (Some v) =
+    interface_data d.topology router v.device (lan_or_null d.topology ((d.nets 0).placed router vif))
+    (count_data vif) ∷ []
+
+abbrev pub vifs_of : DomainFacts → (router : ℕ) → List Data
+vifs_of d router = flat_map (λ vif. vif_row d router vif (d.vifs router vif)) (below 32)
+
+-- an interface of the topology, if its router has no vif of its device
+abbrev pub unmatched_by : Option ℕ → TopologyValue → InterfaceRow → List Data
+unmatched_by None t i = interface_data t i.router i.device (lan_data t i.lan) null ∷ []
+unmatched_by (Some vif) t i = []
+
+abbrev pub unmatched : DomainFacts → InterfaceRow → List Data
+unmatched d i = unmatched_by (vif_with d i.router i.device) d.topology i
+
+-- all vifs by router and number, then those interfaces in the topology's order
+abbrev pub interfaces_data : DomainFacts → List Data
+interfaces_data d =
+    flat_map (vifs_of d) (below (length d.topology.routers))
+    ++ flat_map (unmatched d) d.topology.interfaces
+
+-- ---- the line
+
+abbrev pub source_data : TopologyValue → SourceRow → Data
+source_data t s = object_data (
+    (codes "address", string (dotted s.address)) ∷ (codes "lan", lan_data t s.lan) ∷ [])
+
+abbrev pub parts_data : DomainFacts → Data
+parts_data d = object_data (
+    (codes "interfaces", list_data (interfaces_data d))
+    ∷ (codes "lans", list_data (map (lan_data d.topology) (below (length d.topology.lans))))
+    ∷ (codes "routers", list_data (map (router_data d.topology) (below (length d.topology.routers))))
+    ∷ (codes "sources", list_data (map (source_data d.topology) d.topology.sources)) ∷ [])
+
+-- and with the words of the call, each behind the other
+abbrev pub domain_data : DomainFacts → List (List ℕ) → Data
+domain_data d words = object_data (
+    (codes "domain", parts_data d)
+    ∷ (codes "format", count_data 1)
+    ∷ (codes "words", list_data (map string words)) ∷ [])

@@ -1,0 +1,70 @@
+-- What is told behind the flows in JSON: a line each.
+use Rattle.std.specs.Prelude.{ℕ, ◌+◌, ◌==◌, Bool, List, [], ◌∷◌, ◌++◌, flat_map, map}
+use Rattle.std.specs.Prelude.{if◌then◌else◌, codes}
+use Rattle.mc_tables.specs.Notes.{NotesText}
+use Rattle.mc_text.specs.Addr.{dotted}
+use Rattle.mc_topology.specs.Topology.{TopologyValue}
+use Rattle.mc_explain.specs.LeftOutText.{left_out_routers}
+use Rattle.mc_explain.specs.UnlistedPairs.{with_routers}
+use Rattle.mc_explain.specs.UnlistedText.{further_rows, lowest_of}
+use Rattle.serde_json.specs.Data.{Data, string}
+use Rattle.mc_json.specs.RowData.{count_data, line_of, list_data, object_data}
+use Rattle.mc_json.specs.ToldData.{router_data}
+
+abbrev pub routers_data : TopologyValue → List ℕ → Data
+routers_data t routers = list_data (map (router_data t) routers)
+
+-- an object of one member
+abbrev pub alone : (key : List ℕ) → Data → Data
+alone key d = object_data ((key, d) ∷ [])
+
+-- a source and a group that aren't listed, and the routers that have a row of them
+abbrev pub unlisted_data : TopologyValue → (source group : ℕ) → List ℕ → Data
+unlisted_data t source group routers = alone (codes "unlisted") (object_data (
+    (codes "group", string (dotted group))
+    ∷ (codes "routers", routers_data t routers)
+    ∷ (codes "source", string (dotted source)) ∷ []))
+
+-- how many further rows aren't listed
+abbrev pub unlisted_more_data : (rows : ℕ) → Data
+unlisted_more_data rows = alone (codes "unlisted_more") (alone (codes "rows") (count_data rows))
+
+-- a line for each pair of a group and a source that is shown, with all routers that have a row of it
+abbrev pub unlisted_line : TopologyValue → (pair : (ℕ × ℕ) × List ℕ) → List ℕ
+unlisted_line t pair = line_of (unlisted_data t pair.0.1 pair.0.0 pair.1)
+
+-- and one for the further rows, nothing where there are none
+abbrev pub unlisted_more_line : (rows : ℕ) → List ℕ
+unlisted_more_line rows = if rows == 0 then [] else line_of (unlisted_more_data rows)
+
+abbrev pub unlisted_lines : (all : Bool) → TopologyValue → List NotesText → List ℕ
+unlisted_lines all t notes =
+    flat_map (unlisted_line t) (map (with_routers t notes) (lowest_of all notes))
+    ++ unlisted_more_line (further_rows all t notes)
+
+-- the routers that were left out
+abbrev pub without_data : TopologyValue → List ℕ → Data
+without_data t routers = alone (codes "without") (routers_data t routers)
+
+-- as a line, nothing where there are none
+abbrev pub without_line_of : TopologyValue → List ℕ → List ℕ
+without_line_of t [] = []
+without_line_of t (router ∷ routers) = line_of (without_data t (router ∷ routers))
+
+-- by a mark for each router
+abbrev pub without_line : TopologyValue → (left_out : List Bool) → List ℕ
+without_line t left_out = without_line_of t (left_out_routers t left_out)
+
+-- how many flows there are, and how many of them are right, wanted by nobody, and not right
+abbrev pub summary_data : (right unwanted wrong : ℕ) → Data
+summary_data right unwanted wrong = alone (codes "summary") (object_data (
+    (codes "flows", count_data (right + wrong))
+    ∷ (codes "right", count_data right)
+    ∷ (codes "unwanted", count_data unwanted)
+    ∷ (codes "wrong", count_data wrong) ∷ []))
+
+abbrev pub verdict_word : (is_yes : Bool) → List ℕ
+verdict_word is_yes = if is_yes then codes "yes" else codes "no"
+
+abbrev pub verdict_data : (is_yes : Bool) → Data
+verdict_data is_yes = alone (codes "verdict") (string (verdict_word is_yes))

@@ -1,0 +1,159 @@
+-- What is told of a flow, and of the way of a right one, in JSON: a line each.
+use Rattle.std.specs.Prelude.{ℕ, ◌+◌, Bool, true, false, List, [], ◌∷◌, ◌++◌, map, Option, Some, None}
+use Rattle.std.specs.Prelude.{if◌then◌else◌, codes}
+use Rattle.mc_text.specs.Addr.{dotted}
+use Rattle.mc_topology.specs.Topology.{TopologyValue}
+use Rattle.mc_topology.specs.declared.flow.Flow.{Flow}
+use Rattle.mc_theory.specs.Certificates.{Entry}
+use Rattle.mc_theory.specs.Events.{Event, Outcome}
+use Rattle.mc_theory.specs.Events.Outcome.{Open, NoRow, OtherVif, Sent}
+use Rattle.mc_theory.specs.Nets.{Interface}
+use Rattle.mc_forward.specs.ListedTables.{DomainFacts, facts}
+use Rattle.mc_replay.specs.declared.finding.Finding.{Finding}
+use Rattle.mc_replay.specs.declared.finding.Finding.TheVariants.{Clean, Duplicate, Loop, Stray}
+use Rattle.mc_replay.specs.declared.finding.Finding.TheVariants.{Missed}
+use Rattle.mc_replay.specs.declared.travel.Ended.{Ended}
+use Rattle.mc_explain.specs.WantedText.{missed_besides, wanting}
+use Rattle.serde_json.specs.Data.{Data, null, boolean, string}
+use Rattle.mc_json.specs.RowData.{count_data, line_of, list_data, object_data}
+use Rattle.mc_json.specs.ToldData.{lan_data, router_data}
+
+-- ---- ways
+
+-- the router and the vif that send onto a LAN; the source's own has none
+abbrev pub sender_router : TopologyValue → Option Interface → Data
+sender_router t None = null
+sender_router t (Some i) = router_data t i.0
+
+abbrev pub sender_vif : Option Interface → Data
+sender_vif None = null
+sender_vif (Some i) = count_data i.1
+
+abbrev pub reached_data : TopologyValue → Entry → Data
+reached_data t e = object_data (
+    (codes "lan", lan_data t e.lan)
+    ∷ (codes "need", count_data e.need)
+    ∷ (codes "rank", count_data e.rank)
+    ∷ (codes "router", sender_router t e.forwarder)
+    ∷ (codes "vif", sender_vif e.forwarder) ∷ [])
+
+-- a way with its number
+abbrev pub tree_data : TopologyValue → List Entry → (tree : ℕ) → Data
+tree_data t es tree = object_data (
+    (codes "entries", list_data (map (reached_data t) es))
+    ∷ (codes "tree", count_data tree) ∷ [])
+
+-- ---- a right flow
+
+-- the flow with this number, from 0: on how many LANs a packet has a copy, by the way with which
+-- number, and which LANs want it
+abbrev pub right_data : (number : ℕ) → Flow → (copies tree : ℕ) → (wanted : List Data) → Data
+right_data number f copies tree wanted = object_data (
+    (codes "copies", count_data copies)
+    ∷ (codes "flow", count_data (number + 1))
+    ∷ (codes "group", string (dotted f.group))
+    ∷ (codes "right", boolean true)
+    ∷ (codes "source", string (dotted f.source))
+    ∷ (codes "tree", count_data tree)
+    ∷ (codes "ttl", count_data f.ttl)
+    ∷ (codes "wanted", list_data wanted) ∷ [])
+
+abbrev pub wanted_data : DomainFacts → (number : ℕ) → List Data
+wanted_data d number = map (lan_data d.topology) (wanting d number)
+
+-- ---- one that isn't right
+
+abbrev pub at_lan : TopologyValue → (kind : List ℕ) → (lan : ℕ) → Data
+at_lan t kind lan = object_data (
+    (codes "kind", string kind) ∷ (codes "lan", lan_data t lan) ∷ [])
+
+abbrev pub finding_data : TopologyValue → Finding → Data
+finding_data t Clean = object_data ((codes "kind", string (codes "Clean")) ∷ [])
+finding_data t (Duplicate lan) = at_lan t (codes "Duplicate") lan
+finding_data t (Loop lan) = at_lan t (codes "Loop") lan
+finding_data t (Stray router vif) = object_data (
+    (codes "kind", string (codes "Stray"))
+    ∷ (codes "router", router_data t router)
+    ∷ (codes "vif", count_data vif) ∷ [])
+finding_data t (Missed lan) = at_lan t (codes "Missed") lan
+
+-- a handling that sent no copies
+abbrev pub no_copies_data : TopologyValue → Event → (outcome : List ℕ) → Data
+no_copies_data t e outcome = object_data (
+    (codes "outcome", string outcome)
+    ∷ (codes "router", router_data t e.router)
+    ∷ (codes "ttl", count_data e.ttl)
+    ∷ (codes "vif", count_data e.vif) ∷ [])
+
+abbrev pub outcome_data : TopologyValue → Event → Outcome → Data
+outcome_data t e Open = no_copies_data t e (codes "open")
+outcome_data t e NoRow = no_copies_data t e (codes "no row")
+outcome_data t e OtherVif = no_copies_data t e (codes "other vif")
+outcome_data t e (Sent copies strays) = object_data (
+    (codes "copies", count_data copies)
+    ∷ (codes "outcome", string (codes "sent"))
+    ∷ (codes "router", router_data t e.router)
+    ∷ (codes "strays", count_data strays)
+    ∷ (codes "ttl", count_data e.ttl)
+    ∷ (codes "vif", count_data e.vif) ∷ [])
+
+abbrev pub event_data : TopologyValue → Event → Data
+event_data t e = outcome_data t e e.outcome
+
+-- What is told of a flow that isn't right: what was found at which TTL, the LANs that were missed
+-- besides, the travel's events where they are asked for, and why it is so.
+pub record Wrong : Type 0 where
+  pub also : List Data
+  pub events : Option (List Data)
+  pub finding : Data
+  pub found_ttl : ℕ
+  pub why : List Data
+
+abbrev pub events_member : Option (List Data) → List (List ℕ × Data)
+events_member None = []
+events_member (Some events) = (codes "events", list_data events) ∷ []
+
+abbrev pub wrong_members : (number : ℕ) → Flow → Wrong → List (List ℕ × Data)
+wrong_members number f w =
+    (codes "also", list_data w.also)
+    ∷ (events_member w.events
+    ++ ((codes "finding", w.finding)
+    ∷ (codes "flow", count_data (number + 1))
+    ∷ (codes "found_ttl", count_data w.found_ttl)
+    ∷ (codes "group", string (dotted f.group))
+    ∷ (codes "right", boolean false)
+    ∷ (codes "source", string (dotted f.source))
+    ∷ (codes "ttl", count_data f.ttl)
+    ∷ (codes "why", list_data w.why) ∷ []))
+
+abbrev pub wrong_data : (number : ℕ) → Flow → Wrong → Data
+wrong_data number f w = object_data (wrong_members number f w)
+
+-- the events of a travel, where they are asked for
+abbrev pub events_told : TopologyValue → (asked : Bool) → List Event → Option (List Data)
+events_told t asked es = if asked then Some (map (event_data t) es) else None
+
+-- of a travel that found it, by its events and by the LANs that it missed besides
+abbrev pub wrong_of : TopologyValue → (found_ttl : ℕ) → Finding → List Event → (also : List ℕ)
+    → (why : List Data) → (asked : Bool) → Wrong
+wrong_of t found_ttl finding events also why asked = record {
+  also = map (lan_data t) also;
+  events = events_told t asked events;
+  finding = finding_data t finding;
+  found_ttl = found_ttl;
+  why = why;
+}
+
+-- and as a line
+abbrev pub wrong_line : DomainFacts → (number : ℕ) → Flow → (found_ttl : ℕ) → Finding → List Event
+    → (also : List ℕ) → (why : List Data) → (asked : Bool) → List ℕ
+wrong_line d number f found_ttl finding events also why asked =
+    line_of (wrong_data number f (wrong_of d.topology found_ttl finding events also why asked))
+
+-- of the flow and the travel that ended so
+abbrev pub found_line : (number : ℕ) → Flow → Ended → (found_ttl : ℕ) → (why : List Data)
+    → (asked : Bool) → List ℕ
+found_line number f e found_ttl why asked =
+    wrong_line (facts e.flight.domain) number f found_ttl e.travel.finding e.travel.events.items
+    (missed_besides (facts e.flight.domain) e.flight.flow e.flight.flight.carried e.travel.finding)
+    why asked

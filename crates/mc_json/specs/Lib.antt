@@ -1,0 +1,15 @@
+pub mod RowData
+pub mod ToldData
+pub mod FlowData
+pub mod EndData
+pub mod SearchData
+pub mod WhyData
+pub mod DomainData
+pub mod ObjectLines
+pub use Rattle.serde_json.specs.Data
+pub use Rattle.serde_json.specs.View
+pub use Rattle.serde_json.specs.Written
+pub use Rattle.mc_forward.specs.Domains
+pub use Rattle.mc_forward.specs.ListedTables
+pub use Rattle.mc_explain.specs.Indented
+pub use Rattle.mc_explain.specs.UnlistedLines

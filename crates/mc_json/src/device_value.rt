@@ -1,0 +1,40 @@
+//! Devices of vifs as JSON.
+
+ghost use Rattle.std.specs.Prelude.{◌≡◌, IfOk};
+ghost use Rattle.std.specs.String.{string_bytes};
+ghost use Rattle.serde_json.specs.View.{view as data_of};
+ghost use Rattle.mc_forward.specs.ListedTables.{facts};
+ghost use Rattle.mc_explain.specs.RowText.{name_text};
+ghost use Rattle.mc_json.specs.RowData.{device_data};
+
+use mc_explain::ShownName;
+use mc_forward::FlowView;
+use mc_topology::RouterNo;
+use serde_json::Value;
+use std::alloc::{AllocError, Global};
+
+/// The kernel's word for a vif without a device.
+pub(crate) const NO_DEVICE: &[u8] = b"none";
+
+/// A device's name, as `eth1`.
+pub(crate) fn device_name(alloc: Global, name: &[u8]) -> Result<String, AllocError>
+    ensures { IfOk result (λ text. string_bytes text ≡ name_text name.now) }
+{
+    let name = ShownName { name };
+    format!(in alloc; "{name}")
+}
+
+/// The device of a router's vif, or null where its table has no line for it.
+pub(crate) fn device_value(
+    alloc: Global,
+    view: &FlowView<'_>,
+    router: RouterNo,
+    vif: u8,
+) -> Result<Value, AllocError>
+    ensures { IfOk result (λ value. data_of value ≡ device_data (facts view.now.domain) router vif) }
+{
+    match view.vif(router, vif) {
+        Some(line) => Ok(Value::String(device_name(alloc, line.device())?)),
+        None => Ok(Value::Null),
+    }
+}

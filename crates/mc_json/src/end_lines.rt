@@ -1,0 +1,230 @@
+//! The lines behind the flows: what isn't listed, which routers were left out, how many flows are right,
+//! and the verdict.
+
+ghost use Rattle.std.specs.Prelude.{◌≡◌, ◌++◌, IfOk, OnOk, flat_map};
+ghost use Rattle.std.specs.String.{string_bytes};
+ghost use Rattle.serde_json.specs.View.{view as data_of};
+ghost use Rattle.mc_explain.specs.LeftOutText.{left_out_routers};
+ghost use Rattle.mc_explain.specs.Searched.{is_left_out};
+ghost use Rattle.mc_json.specs.EndData.{summary_data, unlisted_data, unlisted_line, unlisted_lines};
+ghost use Rattle.mc_json.specs.EndData.{unlisted_more_line, verdict_data, verdict_word, without_data};
+ghost use Rattle.mc_json.specs.EndData.{without_line};
+ghost use Rattle.mc_json.specs.RowData.{line_of};
+
+use crate::line::push_line;
+use crate::name_values::router_names;
+use mc_explain::{UnlistedPair, UnlistedPairs};
+use mc_tables::CacheNotes;
+use mc_text::Memory;
+use mc_topology::{RouterNo, Topology};
+use serde_json::{Value, json};
+use std::alloc::{AllocError, Global};
+
+/// A group and a source that aren't listed, and the routers that have a row of them.
+fn unlisted_value(
+    alloc: Global,
+    topology: &Topology,
+    pair: &UnlistedPair,
+) -> Result<Value, AllocError>
+    ensures { IfOk result (λ value. data_of value
+        ≡ unlisted_data topology.now pair.now.0.1 pair.now.0.0 pair.now.1) }
+{
+    let (group, source) = (pair.group(), pair.source());
+    let routers = router_names(alloc, topology, pair.routers())?;
+    let group = format!(in alloc; "{group}")?;
+    let source = format!(in alloc; "{source}")?;
+    json!(in alloc; {"unlisted": {"group": group, "routers": routers, "source": source}})
+}
+
+/// Writes their line.
+fn push_pair(
+    alloc: Global,
+    text: &mut String,
+    topology: &Topology,
+    pair: &UnlistedPair,
+) -> Result<(), AllocError>
+    ensures { OnOk result (string_bytes text.new ≡
+        string_bytes text.old ++ unlisted_line topology.now pair.now) }
+{
+    let value = unlisted_value(alloc, topology, pair)?;
+    push_line(alloc, text, &value)
+}
+
+/// Writes the lines of pairs that are shown.
+fn push_pairs(
+    alloc: Global,
+    text: &mut String,
+    topology: &Topology,
+    shown: &[UnlistedPair],
+) -> Result<(), AllocError>
+    ensures { OnOk result (string_bytes text.new ≡
+        string_bytes text.old ++ flat_map (unlisted_line topology.now) shown.now) }
+{
+    for pair in shown {
+        push_pair(alloc, text, topology, pair)?;
+    }
+    Ok(())
+}
+
+/// Writes the line of the further rows, nothing where there are none.
+fn push_further(text: &mut String, rows: u128) -> Result<(), AllocError>
+    ensures { OnOk result (string_bytes text.new ≡ string_bytes text.old ++ unlisted_more_line rows) }
+{
+    if rows == 0 {
+        return Ok(());
+    }
+    writeln!(text, "{{\"unlisted_more\":{{\"rows\":{rows}}}}}")?;
+    Ok(())
+}
+
+/// Writes which resolved rows the routers have whose source and group are no flow's, by what is noted
+/// of each router's cache, the first router's first: a line for each pair of a group and a source, all
+/// of them or the 20 lowest, with all routers that have a row of it, and how many further rows there
+/// are.
+///
+/// # Errors
+///
+/// `Memory` where a growth was refused.
+pub fn push_unlisted_lines(
+    alloc: Global,
+    text: &mut String,
+    topology: &Topology,
+    notes: &[CacheNotes],
+    all: bool,
+) -> Result<(), Memory>
+    ensures lines { OnOk result (string_bytes text.new ≡
+        string_bytes text.old ++ unlisted_lines all topology.now notes.now) }
+{
+    let pairs = UnlistedPairs::new(alloc, topology, notes, all)?;
+    push_pairs(alloc, text, topology, &pairs.shown)?;
+    push_further(text, pairs.further)?;
+    Ok(())
+}
+
+/// The routers that were left out.
+fn without_value(
+    alloc: Global,
+    topology: &Topology,
+    routers: &[RouterNo],
+) -> Result<Value, AllocError>
+    ensures { IfOk result (λ value. data_of value ≡ without_data topology.now routers.now) }
+{
+    let routers = router_names(alloc, topology, routers)?;
+    json!(in alloc; {"without": routers})
+}
+
+/// Whether a router is marked as left out. Those beyond the marks are not.
+fn is_left_out(left_out: &[bool], router: RouterNo) -> bool
+    ensures { result ≡ is_left_out left_out.now router }
+{
+    match left_out.get(router.0 as usize) {
+        Some(mark) => *mark,
+        None => false,
+    }
+}
+
+/// The routers that are marked, in order; those beyond the marks are not.
+///
+/// # Errors
+///
+/// `AllocError` where a growth was refused.
+pub fn routers_left_out(
+    alloc: Global,
+    topology: &Topology,
+    left_out: &[bool],
+) -> Result<Vec<RouterNo>, AllocError>
+    ensures { IfOk result (λ routers. routers.items ≡ left_out_routers topology.now left_out.now) }
+{
+    let mut routers = Vec::new(alloc);
+    for number in 0..topology.routers() {
+        let router = RouterNo(number);
+        if is_left_out(left_out, router) {
+            routers.push(router)?;
+        }
+    }
+    Ok(routers)
+}
+
+/// Writes the line of the routers that were left out, of which there is a mark for each router, the
+/// first router's first; nothing where none was.
+///
+/// # Errors
+///
+/// `Memory` where a growth was refused.
+pub fn push_without_line(
+    alloc: Global,
+    text: &mut String,
+    topology: &Topology,
+    left_out: &[bool],
+) -> Result<(), Memory>
+    ensures line { OnOk result (string_bytes text.new ≡
+        string_bytes text.old ++ without_line topology.now left_out.now) }
+{
+    let routers = routers_left_out(alloc, topology, left_out)?;
+    if routers.is_empty() {
+        return Ok(());
+    }
+    let value = without_value(alloc, topology, &routers)?;
+    push_line(alloc, text, &value)?;
+    Ok(())
+}
+
+/// How many flows there are, and of which kind.
+fn summary_value(alloc: Global, right: u32, unwanted: u32, wrong: u32) -> Result<Value, AllocError>
+    ensures { IfOk result (λ value. data_of value ≡ summary_data right unwanted wrong) }
+{
+    let flows = u64::from(right) + u64::from(wrong);
+    json!(in alloc; {
+        "summary": {"flows": flows, "right": right, "unwanted": unwanted, "wrong": wrong}
+    })
+}
+
+/// Writes the line of how many flows there are: of how many are right, are right and wanted by
+/// nobody, and are not right.
+///
+/// # Errors
+///
+/// `Memory` where a growth was refused.
+pub fn push_summary_line(
+    alloc: Global,
+    text: &mut String,
+    right: u32,
+    unwanted: u32,
+    wrong: u32,
+) -> Result<(), Memory>
+    ensures line { OnOk result (string_bytes text.new ≡ string_bytes text.old
+        ++ line_of (summary_data right unwanted wrong)) }
+{
+    let value = summary_value(alloc, right, unwanted, wrong)?;
+    push_line(alloc, text, &value)?;
+    Ok(())
+}
+
+/// A verdict in a word.
+fn verdict_word(is_yes: bool) -> &'static str
+    ensures { result.now ≡ verdict_word is_yes }
+{
+    if is_yes { "yes" } else { "no" }
+}
+
+/// The verdict.
+fn verdict_value(alloc: Global, is_yes: bool) -> Result<Value, AllocError>
+    ensures { IfOk result (λ value. data_of value ≡ verdict_data is_yes) }
+{
+    let verdict = verdict_word(is_yes);
+    json!(in alloc; {"verdict": verdict})
+}
+
+/// Writes the line of the verdict.
+///
+/// # Errors
+///
+/// `Memory` where a growth was refused.
+pub fn push_verdict_line(alloc: Global, text: &mut String, is_yes: bool) -> Result<(), Memory>
+    ensures line { OnOk result (string_bytes text.new ≡ string_bytes text.old
+        ++ line_of (verdict_data is_yes)) }
+{
+    let value = verdict_value(alloc, is_yes)?;
+    push_line(alloc, text, &value)?;
+    Ok(())
+}

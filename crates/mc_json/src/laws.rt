@@ -1,0 +1,42 @@
+//! What each line is, whatever it tells: an object that only the last line has a verdict in.
+
+ghost use Rattle.std.specs.Prelude.{◌≡◌, ℕ, Bool, List, codes, false, true};
+ghost use Rattle.serde_json.specs.Data.{Data};
+ghost use Rattle.mc_tables.specs.Notes.{NotesText};
+ghost use Rattle.mc_topology.specs.declared.flow.Flow.{Flow};
+ghost use Rattle.mc_topology.specs.Topology.{TopologyValue};
+ghost use Rattle.mc_theory.specs.Certificates.{Entry};
+ghost use Rattle.mc_theory.specs.Events.{Event};
+ghost use Rattle.mc_forward.specs.ListedTables.{DomainFacts};
+ghost use Rattle.mc_replay.specs.declared.finding.Finding.{Finding};
+ghost use Rattle.mc_json.specs.DomainData.{domain_data};
+ghost use Rattle.mc_json.specs.EndData.{summary_data, unlisted_lines, verdict_data, without_line};
+ghost use Rattle.mc_json.specs.FlowData.{right_data, tree_data, wrong_line};
+ghost use Rattle.mc_json.specs.ObjectLines.{AreObjectLines};
+ghost use Rattle.mc_json.specs.RowData.{line_of};
+
+/// Each line but the verdict's begins an object that isn't the verdict, and has no line feed but its
+/// end, also where words of a call, and names of LANs, routers and devices stand in it.
+pub fn each_line_is_an_object()
+    ensures domain { (d : DomainFacts) (words : List (List ℕ)) →
+        AreObjectLines (line_of (domain_data d words)) }
+    ensures tree { (t : TopologyValue) (es : List Entry) (tree : ℕ) →
+        AreObjectLines (line_of (tree_data t es tree)) }
+    ensures right { (number : ℕ) (f : Flow) (copies tree : ℕ) (wanted : List Data) →
+        AreObjectLines (line_of (right_data number f copies tree wanted)) }
+    ensures wrong { (d : DomainFacts) (number : ℕ) (f : Flow) (found_ttl : ℕ) (finding : Finding)
+        (events : List Event) (also : List ℕ) (why : List Data) (asked : Bool) →
+        AreObjectLines (wrong_line d number f found_ttl finding events also why asked) }
+    ensures unlisted { (all : Bool) (t : TopologyValue) (notes : List NotesText) →
+        AreObjectLines (unlisted_lines all t notes) }
+    ensures without { (t : TopologyValue) (left_out : List Bool) →
+        AreObjectLines (without_line t left_out) }
+    ensures summary { (right unwanted wrong : ℕ) →
+        AreObjectLines (line_of (summary_data right unwanted wrong)) }
+{}
+
+/// The verdict's line.
+pub fn the_verdict_is_a_line()
+    ensures yes { line_of (verdict_data true) ≡ codes "{\"verdict\":\"yes\"}\n" }
+    ensures no { line_of (verdict_data false) ≡ codes "{\"verdict\":\"no\"}\n" }
+{}

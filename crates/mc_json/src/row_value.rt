@@ -1,0 +1,159 @@
+//! Routers' rows as JSON.
+
+ghost use Rattle.std.specs.Prelude.{◌≡◌, IfOk, map};
+ghost use Rattle.std.specs.String.{string_bytes};
+ghost use Rattle.serde_json.specs.View.{view as data_of};
+ghost use Rattle.mc_topology.specs.declared.flow.Flow.{Flow};
+ghost use Rattle.mc_forward.specs.Domains.{pairs_of};
+ghost use Rattle.mc_forward.specs.Journeys.{net_in};
+ghost use Rattle.mc_forward.specs.ListedTables.{facts};
+ghost use Rattle.mc_explain.specs.EverySourceText.{every_source_of};
+ghost use Rattle.mc_explain.specs.RowText.{address_text};
+ghost use Rattle.mc_json.specs.RowData.{entry_data, every_source_data, pair_data, row_data};
+
+use crate::device_value::device_value;
+use mc_forward::{FlowView, RowFor};
+use mc_tables::{CacheNotes, Entry, Oif};
+use mc_text::Addr;
+use mc_topology::{Flow, RouterNo};
+use serde_json::{Value, json};
+use std::alloc::{AllocError, Global};
+
+/// A row's source or its group. The address 0.0.0.0 stands for every one, and is told as `*`.
+fn address(alloc: Global, address: Addr) -> Result<String, AllocError>
+    ensures { IfOk result (λ text. string_bytes text ≡ address_text address) }
+{
+    if address == Addr::from_octets([0, 0, 0, 0]) {
+        String::from_str(alloc, "*")
+    } else {
+        format!(in alloc; "{address}")
+    }
+}
+
+/// An outgoing vif of a router's row.
+fn pair_value(
+    alloc: Global,
+    view: &FlowView<'_>,
+    router: RouterNo,
+    oif: Oif,
+) -> Result<Value, AllocError>
+    ensures { IfOk result (λ value. data_of value
+        ≡ pair_data (facts view.now.domain) router (oif.vif, oif.threshold)) }
+{
+    let Oif { vif, threshold } = oif;
+    let device = device_value(alloc, view, router, vif)?;
+    json!(in alloc; {"device": device, "threshold": threshold, "vif": vif})
+}
+
+/// The outgoing vifs of a router's row.
+fn pair_values(
+    alloc: Global,
+    view: &FlowView<'_>,
+    router: RouterNo,
+    oifs: &[Oif],
+) -> Result<Vec<Value>, AllocError>
+    ensures { IfOk result (λ values. map data_of values.items
+        ≡ map (pair_data (facts view.now.domain) router) (pairs_of oifs.now)) }
+{
+    let mut values = Vec::new(alloc);
+    for oif in oifs {
+        values.push(pair_value(alloc, view, router, *oif)?)?;
+    }
+    Ok(values)
+}
+
+/// What a row is of: its router, its source and its group.
+#[derive(Clone, Copy, Drop)]
+struct RowOf {
+    router: RouterNo,
+    source: Addr,
+    group: Addr,
+}
+
+/// A row of these vifs.
+fn entry_value(
+    alloc: Global,
+    view: &FlowView<'_>,
+    of: RowOf,
+    incoming: u8,
+    oifs: &[Oif],
+) -> Result<Value, AllocError>
+    ensures { IfOk result (λ value. data_of value ≡ entry_data (facts view.now.domain)
+        of.router of.source of.group incoming (pairs_of oifs.now)) }
+{
+    let device = device_value(alloc, view, of.router, incoming)?;
+    let to = pair_values(alloc, view, of.router, oifs)?;
+    let source = address(alloc, of.source)?;
+    let group = address(alloc, of.group)?;
+    let router = view.topology().router_name_or_empty(of.router);
+    json!(in alloc; {
+        "from": {"device": device, "vif": incoming},
+        "group": group,
+        "router": router,
+        "source": source,
+        "to": to
+    })
+}
+
+/// A router's row for a flow. Null for a row for every source, and where there is none.
+pub(crate) fn row_value(
+    alloc: Global,
+    view: &FlowView<'_>,
+    flow: &Flow,
+    router: RouterNo,
+) -> Result<Value, AllocError>
+    ensures { IfOk result (λ value. data_of value ≡ row_data (facts view.now.domain) flow.now router
+        ((net_in view.now).row router)) }
+{
+    match view.row(router) {
+        RowFor::Exact(entry) => {
+            let of = RowOf {
+                router,
+                source: flow.source,
+                group: flow.group,
+            };
+            entry_value(alloc, view, of, entry.iif, entry.oifs)
+        }
+        RowFor::Open | RowFor::NoRow => Ok(Value::Null),
+    }
+}
+
+/// A router's row for every source, with the group that it has.
+fn row_for_every_source<'n>(
+    notes: &'n [CacheNotes],
+    group: Addr,
+    router: RouterNo,
+) -> Option<(Addr, Entry<'n>)>
+    ensures { result ≡ every_source_of notes.now group router }
+{
+    match notes.get(router.0 as usize) {
+        Some(noted) => noted.row_for_every_source(group),
+        None => None,
+    }
+}
+
+/// A router's row for every source, by what is noted of the routers' caches: that of the group, or else
+/// that of the group 0.0.0.0. Null where the notes have none.
+pub(crate) fn every_source_value(
+    alloc: Global,
+    view: &FlowView<'_>,
+    notes: &[CacheNotes],
+    group: Addr,
+    router: RouterNo,
+) -> Result<Value, AllocError>
+    ensures { IfOk result (λ value. data_of value ≡ every_source_data (facts view.now.domain)
+        notes.now group router) }
+{
+    match row_for_every_source(notes, group, router) {
+        Some(row) => {
+            let (every, entry) = row;
+            let of = RowOf {
+                router,
+                source: Addr::from_octets([0, 0, 0, 0]),
+                group: every,
+            };
+            entry_value(alloc, view, of, entry.iif, entry.oifs)
+        }
+        None => Ok(Value::Null),
+    }
+}

@@ -1,0 +1,315 @@
+//! What is told of a flow's fault as JSON, line by line.
+
+ghost use Rattle.std.specs.Prelude.{◌≡◌, ◌++◌, IfOk, OnOk, Some, map};
+ghost use Rattle.serde_json.specs.View.{view as data_of};
+ghost use Rattle.mc_forward.specs.Domains.{vif_of};
+ghost use Rattle.mc_forward.specs.Journeys.{net_in};
+ghost use Rattle.mc_forward.specs.ListedTables.{facts};
+ghost use Rattle.mc_explain.specs.declared.told.Told.TheVariants.{Unplaced};
+ghost use Rattle.mc_json.specs.ToldData.{all_told_data, circle_data, incoming_device, incoming_vif};
+ghost use Rattle.mc_json.specs.ToldData.{least_ttl_data, only_every_source_data, row_alone_data};
+ghost use Rattle.mc_json.specs.ToldData.{sent_onto_data, stopped_at_data, take_out_data, told_data};
+ghost use Rattle.mc_json.specs.ToldData.{unplaced_data, unplaced_kind};
+
+use crate::device_value::{NO_DEVICE, device_value};
+use crate::row_value::{every_source_value, row_value};
+use crate::telling::Telling;
+use mc_explain::Told;
+use mc_forward::{FlowView, RowFor};
+use mc_tables::Vif;
+use mc_topology::{LanNo, RouterNo};
+use serde_json::{Value, json};
+use std::alloc::{AllocError, Global};
+
+/// The vif that a router's row for a flow takes from. Null where it has no row of the flow.
+pub(crate) fn incoming_vif(view: &FlowView<'_>, router: RouterNo) -> Value
+    ensures { data_of result ≡ incoming_vif ((net_in view.now).row router) }
+{
+    match view.row(router) {
+        RowFor::Exact(entry) => Value::from(entry.iif),
+        RowFor::Open | RowFor::NoRow => Value::Null,
+    }
+}
+
+/// The device of that vif. Null where there is none, too.
+pub(crate) fn incoming_device(
+    alloc: Global,
+    view: &FlowView<'_>,
+    router: RouterNo,
+) -> Result<Value, AllocError>
+    ensures { IfOk result (λ value. data_of value ≡ incoming_device (facts view.now.domain) router
+        ((net_in view.now).row router)) }
+{
+    match view.row(router) {
+        RowFor::Exact(entry) => device_value(alloc, view, router, entry.iif),
+        RowFor::Open | RowFor::NoRow => Ok(Value::Null),
+    }
+}
+
+/// Who sent a copy onto a LAN.
+fn sent_onto(
+    alloc: Global,
+    by: &Telling<'_>,
+    lan: LanNo,
+    router: RouterNo,
+    vif: u8,
+) -> Result<Value, AllocError>
+    ensures { IfOk result (λ value. data_of value ≡ sent_onto_data (facts by.now.view.now.domain)
+        by.now.flow.now ((net_in by.now.view.now).row router) lan router vif) }
+{
+    let device = device_value(alloc, by.view, router, vif)?;
+    let row = row_value(alloc, by.view, by.flow, router)?;
+    let topology = by.view.topology();
+    let lan = topology.lan_name_or_empty(lan);
+    let router = topology.router_name_or_empty(router);
+    json!(in alloc; {
+        "device": device,
+        "kind": "sent_onto",
+        "lan": lan,
+        "router": router,
+        "row": row,
+        "vif": vif
+    })
+}
+
+/// Which row of a circle takes copies from a LAN and sends them onto the next.
+fn circle(
+    alloc: Global,
+    by: &Telling<'_>,
+    from: LanNo,
+    onto: LanNo,
+    router: RouterNo,
+    vif: u8,
+) -> Result<Value, AllocError>
+    ensures { IfOk result (λ value. data_of value ≡ circle_data (facts by.now.view.now.domain)
+        by.now.flow.now ((net_in by.now.view.now).row router) from onto router vif) }
+{
+    let from_device = incoming_device(alloc, by.view, router)?;
+    let from_vif = incoming_vif(by.view, router);
+    let device = device_value(alloc, by.view, router, vif)?;
+    let row = row_value(alloc, by.view, by.flow, router)?;
+    let topology = by.view.topology();
+    let from = topology.lan_name_or_empty(from);
+    let onto = topology.lan_name_or_empty(onto);
+    let router = topology.router_name_or_empty(router);
+    json!(in alloc; {
+        "from_device": from_device,
+        "from_lan": from,
+        "from_vif": from_vif,
+        "kind": "circle",
+        "router": router,
+        "row": row,
+        "to_device": device,
+        "to_lan": onto,
+        "to_vif": vif
+    })
+}
+
+/// What may be taken out.
+fn take_out(
+    alloc: Global,
+    by: &Telling<'_>,
+    lan: LanNo,
+    router: RouterNo,
+    vif: u8,
+    least: u8,
+) -> Result<Value, AllocError>
+    ensures { IfOk result (λ value. data_of value ≡ take_out_data (facts by.now.view.now.domain)
+        by.now.flow.now lan router vif least) }
+{
+    let ttl = by.flow.ttl;
+    let device = device_value(alloc, by.view, router, vif)?;
+    let topology = by.view.topology();
+    let lan = topology.lan_name_or_empty(lan);
+    let router = topology.router_name_or_empty(router);
+    json!(in alloc; {
+        "device": device,
+        "kind": "take_out",
+        "lan": lan,
+        "least": least,
+        "router": router,
+        "ttl": ttl,
+        "vif": vif
+    })
+}
+
+/// Why a vif of a table is placed on no LAN.
+fn kind_of_vif(vif: &Vif) -> &'static str
+    ensures { result.now ≡ unplaced_kind (Some vif.now) }
+{
+    if vif.register() {
+        "register_vif"
+    } else if vif.tunnel() {
+        "tunnel"
+    } else if vif.device() == NO_DEVICE {
+        "no_device"
+    } else {
+        "on_no_lan"
+    }
+}
+
+/// Why a router's vif is placed on no LAN.
+fn unplaced_kind(view: &FlowView<'_>, router: RouterNo, vif: u8) -> &'static str
+    ensures { result.now ≡ unplaced_kind (vif_of view.now.domain.tables router vif) }
+{
+    match view.vif(router, vif) {
+        Some(line) => kind_of_vif(line),
+        None => "no_vif_line",
+    }
+}
+
+/// A vif that a copy was sent by, and why it is placed on no LAN.
+fn unplaced(
+    alloc: Global,
+    view: &FlowView<'_>,
+    router: RouterNo,
+    vif: u8,
+) -> Result<Value, AllocError>
+    ensures { IfOk result (λ value. data_of value ≡ unplaced_data (facts view.now.domain) router vif) }
+{
+    let device = device_value(alloc, view, router, vif)?;
+    let kind = unplaced_kind(view, router, vif);
+    let router = view.topology().router_name_or_empty(router);
+    json!(in alloc; {"device": device, "kind": kind, "router": router, "vif": vif})
+}
+
+/// The row that sent the copy.
+fn row_alone(alloc: Global, by: &Telling<'_>, router: RouterNo) -> Result<Value, AllocError>
+    ensures { IfOk result (λ value. data_of value ≡ row_alone_data (facts by.now.view.now.domain)
+        by.now.flow.now ((net_in by.now.view.now).row router) router) }
+{
+    let row = row_value(alloc, by.view, by.flow, router)?;
+    json!(in alloc; {"kind": "row", "row": row})
+}
+
+/// With which TTL a LAN is reached.
+fn least_ttl(alloc: Global, by: &Telling<'_>, lan: LanNo, least: u8) -> Result<Value, AllocError>
+    ensures { IfOk result (λ value. data_of value ≡ least_ttl_data (facts by.now.view.now.domain)
+        by.now.flow.now lan least) }
+{
+    let ttl = by.flow.ttl;
+    let lan = by.view.topology().lan_name_or_empty(lan);
+    json!(in alloc; {"kind": "least_ttl", "lan": lan, "least": least, "ttl": ttl})
+}
+
+/// By which row for every source a copy was met.
+fn only_every_source(
+    alloc: Global,
+    by: &Telling<'_>,
+    router: RouterNo,
+    vif: u8,
+) -> Result<Value, AllocError>
+    ensures { IfOk result (λ value. data_of value ≡ only_every_source_data
+        (facts by.now.view.now.domain) by.now.notes.now by.now.flow.now router vif) }
+{
+    let device = device_value(alloc, by.view, router, vif)?;
+    let row = every_source_value(alloc, by.view, by.notes, by.flow.group, router)?;
+    let router = by.view.topology().router_name_or_empty(router);
+    json!(in alloc; {
+        "device": device,
+        "kind": "only_every_source",
+        "router": router,
+        "row": row,
+        "vif": vif
+    })
+}
+
+/// Where the flow's packet was stopped.
+fn stopped_at(
+    alloc: Global,
+    view: &FlowView<'_>,
+    router: RouterNo,
+    vif: u8,
+    threshold: u8,
+    ttl: u8,
+) -> Result<Value, AllocError>
+    ensures { IfOk result (λ value. data_of value ≡ stopped_at_data (facts view.now.domain)
+        router vif threshold ttl) }
+{
+    let device = device_value(alloc, view, router, vif)?;
+    let router = view.topology().router_name_or_empty(router);
+    json!(in alloc; {
+        "device": device,
+        "kind": "stopped_at",
+        "router": router,
+        "threshold": threshold,
+        "ttl": ttl,
+        "vif": vif
+    })
+}
+
+/// Tells of a vif that a copy was sent by, and of the row that sent it.
+fn push_unplaced(
+    alloc: Global,
+    values: &mut Vec<Value>,
+    by: &Telling<'_>,
+    router: RouterNo,
+    vif: u8,
+) -> Result<(), AllocError>
+    ensures { OnOk result (map data_of values.new.items ≡ map data_of values.old.items
+        ++ told_data (facts by.now.view.now.domain) by.now.notes.now by.now.view.now.flow
+        by.now.flow.now (Unplaced router vif)) }
+{
+    values.push(unplaced(alloc, by.view, router, vif)?)?;
+    values.push(row_alone(alloc, by, router)?)?;
+    Ok(())
+}
+
+/// Tells one thing.
+fn push_line(
+    alloc: Global,
+    values: &mut Vec<Value>,
+    by: &Telling<'_>,
+    told: Told,
+) -> Result<(), AllocError>
+    ensures { OnOk result (map data_of values.new.items ≡ map data_of values.old.items
+        ++ told_data (facts by.now.view.now.domain) by.now.notes.now by.now.view.now.flow
+        by.now.flow.now told) }
+{
+    let view = by.view;
+    let line = match told {
+        Told::SentOnto { lan, router, vif } => sent_onto(alloc, by, lan, router, vif)?,
+        Told::Circle {
+            from,
+            onto,
+            router,
+            vif,
+        } => circle(alloc, by, from, onto, router, vif)?,
+        Told::TakeOut {
+            lan,
+            router,
+            vif,
+            least,
+        } => take_out(alloc, by, lan, router, vif, least)?,
+        Told::Unplaced { router, vif } => {
+            return push_unplaced(alloc, values, by, router, vif);
+        }
+        Told::OnlyEverySource { router, vif } => only_every_source(alloc, by, router, vif)?,
+        Told::LeastTtl { lan, least } => least_ttl(alloc, by, lan, least)?,
+        Told::StoppedAt {
+            router,
+            vif,
+            threshold,
+            ttl,
+        } => stopped_at(alloc, view, router, vif, threshold, ttl)?,
+    };
+    values.push(line)?;
+    Ok(())
+}
+
+/// Tells all of a flow, in order.
+pub(crate) fn push_told(
+    alloc: Global,
+    values: &mut Vec<Value>,
+    by: &Telling<'_>,
+    told: &[Told],
+) -> Result<(), AllocError>
+    ensures { OnOk result (map data_of values.new.items ≡ map data_of values.old.items
+        ++ all_told_data (facts by.now.view.now.domain) by.now.notes.now by.now.view.now.flow
+        by.now.flow.now told.now) }
+{
+    for line in told {
+        push_line(alloc, values, by, *line)?;
+    }
+    Ok(())
+}

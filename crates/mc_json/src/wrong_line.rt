@@ -1,0 +1,222 @@
+//! The line of a flow that isn't right.
+
+ghost use Rattle.std.specs.Prelude.{◌≡◌, ◌<◌, ◌++◌, IfOk, OnOk, None, Some, false, length, map, slice_get};
+ghost use Rattle.std.specs.String.{string_bytes};
+ghost use Rattle.serde_json.specs.View.{items_of, members_view, view as data_of};
+ghost use Rattle.serde_json.specs.Written.{items_have_float};
+ghost use Rattle.mc_topology.specs.declared.flow.Flow.{Flow as FlowValue};
+ghost use Rattle.mc_forward.specs.ListedTables.{facts};
+ghost use Rattle.mc_explain.specs.WantedText.{missed_besides};
+ghost use Rattle.mc_json.specs.FlowData.{found_line, wrong_data, wrong_members, wrong_of};
+ghost use Rattle.mc_json.specs.RowData.{members};
+ghost use Rattle.mc_json.specs.WhyData.{why_data};
+
+use crate::flow_members::flow_members;
+use crate::found_value::{event_values, finding_value};
+use crate::line::push_line;
+use crate::name_values::lan_names;
+use crate::search_value::push_searched;
+use crate::telling::Telling;
+use crate::told_value::push_told;
+use crate::wanted::missed_besides;
+use mc_explain::{LanSearch, Told};
+use mc_forward::{Domain, FlowView};
+use mc_replay::Ended;
+use mc_tables::CacheNotes;
+use mc_text::Memory;
+use mc_topology::Flow;
+use serde_json::{Map, Value, put};
+use std::alloc::{AllocError, Global};
+
+/// What is told of a flow that isn't right, besides the events.
+#[derive(Drop)]
+struct Parts {
+    also: Vec<Value>,
+    finding: Value,
+    found_ttl: u8,
+    why: Vec<Value>,
+}
+
+/// The members of the object of a flow with its number, without events.
+fn wrong_members(
+    alloc: Global,
+    number: u32,
+    flow: &Flow,
+    parts: Parts,
+) -> Result<Map<String, Value>, AllocError>
+    ensures { IfOk result (λ fields. members_view fields.entries
+        ≡ members (wrong_members number flow.now (record {
+          also = map data_of parts.also.items;
+          events = None;
+          finding = data_of parts.finding;
+          found_ttl = parts.found_ttl;
+          why = map data_of parts.why.items;
+        }))) }
+{
+    let mut fields = flow_members(alloc, number, flow)?;
+    put(&mut fields, alloc, "also", Value::from(parts.also))?;
+    put(&mut fields, alloc, "finding", parts.finding)?;
+    put(
+        &mut fields,
+        alloc,
+        "found_ttl",
+        Value::from(parts.found_ttl),
+    )?;
+    put(&mut fields, alloc, "right", Value::from(false))?;
+    put(&mut fields, alloc, "why", Value::from(parts.why))?;
+    Ok(fields)
+}
+
+/// A flow that a travel found not to be right, and why.
+fn wrong_value(
+    alloc: Global,
+    number: u32,
+    flow: &Flow,
+    ended: &Ended<'_>,
+    found_ttl: u8,
+    asked: bool,
+    why: Vec<Value>,
+) -> Result<Value, AllocError>
+    ensures { IfOk result (λ value. data_of value ≡ wrong_data number flow.now
+        (wrong_of ended.now.flight.domain.topology found_ttl ended.now.travel.finding
+        ended.now.travel.events.items (missed_besides (facts ended.now.flight.domain)
+        ended.now.flight.flow ended.now.flight.flight.carried ended.now.travel.finding)
+        (map data_of why.items) asked)) }
+{
+    let topology = ended.flight.flow_view().topology();
+    let finding = ended.travel.finding;
+    let lans = missed_besides(alloc, &ended.flight, finding)?;
+    let parts = Parts {
+        also: lan_names(alloc, topology, &lans)?,
+        finding: finding_value(alloc, topology, finding)?,
+        found_ttl,
+        why,
+    };
+    let mut fields = wrong_members(alloc, number, flow, parts)?;
+    if !asked {
+        return Ok(Value::from(fields));
+    }
+    let events = event_values(alloc, topology, &ended.travel.events)?;
+    put(&mut fields, alloc, "events", Value::from(events))?;
+    Ok(Value::from(fields))
+}
+
+/// Writes the line of such a flow.
+fn push_wrong(
+    alloc: Global,
+    text: &mut String,
+    number: u32,
+    flow: &Flow,
+    ended: &Ended<'_>,
+    found_ttl: u8,
+    asked: bool,
+    why: Vec<Value>,
+) -> Result<(), AllocError>
+    requires { items_have_float (items_of (map data_of why.items)) ≡ false }
+    ensures { OnOk result (string_bytes text.new ≡ string_bytes text.old
+        ++ found_line number flow.now ended.now found_ttl (map data_of why.items) asked) }
+{
+    let value = wrong_value(alloc, number, flow, ended, found_ttl, asked, why)?;
+    push_line(alloc, text, &value)
+}
+
+/// The lines of an explanation.
+fn told_values(alloc: Global, by: &Telling<'_>, told: &[Told]) -> Result<Vec<Value>, AllocError>
+    ensures { IfOk result (λ values. map data_of values.items ≡ why_data
+        (facts by.now.view.now.domain) by.now.notes.now by.now.view.now.flow by.now.flow.now told.now
+        None) }
+{
+    let mut values = Vec::new(alloc);
+    push_told(alloc, &mut values, by, told)?;
+    Ok(values)
+}
+
+/// The same, and behind them what a search found.
+fn missed_values(
+    alloc: Global,
+    by: &Telling<'_>,
+    told: &[Told],
+    search: &LanSearch,
+) -> Result<Vec<Value>, AllocError>
+    ensures { IfOk result (λ values. map data_of values.items ≡ why_data
+        (facts by.now.view.now.domain) by.now.notes.now by.now.view.now.flow by.now.flow.now told.now
+        (Some search.now)) }
+{
+    let mut values = Vec::new(alloc);
+    push_told(alloc, &mut values, by, told)?;
+    push_searched(alloc, &mut values, by, search)?;
+    Ok(values)
+}
+
+/// Writes the line of the flow with this number, of which a travel that starts with this TTL missed a
+/// LAN, and why: these lines and what a search found, by what is noted of each router's cache, the
+/// first router's first. It has the travel's events where they are asked for.
+///
+/// # Errors
+///
+/// `Memory` where a growth was refused.
+pub fn push_missed_line(
+    alloc: Global,
+    text: &mut String,
+    domain: &Domain,
+    notes: &[CacheNotes],
+    flow: u32,
+    ended: &Ended<'_>,
+    found_ttl: u8,
+    asked: bool,
+    told: &[Told],
+    search: &LanSearch,
+) -> Result<(), Memory>
+    requires flow { flow < length domain.now.topology.flows }
+    ensures line { OnOk result ((listed : FlowValue) →
+        slice_get domain.now.topology.flows flow ≡ Some listed → string_bytes text.new ≡
+        string_bytes text.old ++ found_line flow listed ended.now found_ttl (why_data
+        (facts domain.now) notes.now flow listed told.now (Some search.now)) asked) }
+{
+    let view = FlowView::new(domain, flow);
+    let listed = domain.topology().flow(flow);
+    let by = Telling {
+        view: &view,
+        flow: listed,
+        notes,
+    };
+    let why = missed_values(alloc, &by, told, search)?;
+    push_wrong(alloc, text, flow, listed, ended, found_ttl, asked, why)?;
+    Ok(())
+}
+
+/// Writes the line of the flow with this number, which a travel that starts with this TTL found not
+/// to be right, and why: these lines, by what is noted of each router's cache, the first router's
+/// first. It has the travel's events where they are asked for.
+///
+/// # Errors
+///
+/// `Memory` where a growth was refused.
+pub fn push_wrong_line(
+    alloc: Global,
+    text: &mut String,
+    domain: &Domain,
+    notes: &[CacheNotes],
+    flow: u32,
+    ended: &Ended<'_>,
+    found_ttl: u8,
+    asked: bool,
+    told: &[Told],
+) -> Result<(), Memory>
+    requires flow { flow < length domain.now.topology.flows }
+    ensures line { OnOk result ((listed : FlowValue) →
+        slice_get domain.now.topology.flows flow ≡ Some listed → string_bytes text.new ≡
+        string_bytes text.old ++ found_line flow listed ended.now found_ttl (why_data
+        (facts domain.now) notes.now flow listed told.now None) asked) }
+{
+    let view = FlowView::new(domain, flow);
+    let listed = domain.topology().flow(flow);
+    let by = Telling {
+        view: &view,
+        flow: listed,
+        notes,
+    };
+    let why = told_values(alloc, &by, told)?;
+    push_wrong(alloc, text, flow, listed, ended, found_ttl, asked, why)?;
+    Ok(())
+}

@@ -1,0 +1,222 @@
+//! What is written of a flow that isn't right: what is found, and why.
+
+ghost use Rattle.std.specs.Prelude.{◌≡◌, ◌<◌, ◌++◌, IfOk, OnOk, Some, length, slice_get};
+ghost use Rattle.std.specs.String.{string_bytes};
+ghost use Rattle.mc_topology.specs.declared.flow.Flow.{Flow as FlowValue};
+ghost use Rattle.mc_forward.specs.ListedTables.{facts};
+ghost use Rattle.mc_maker.specs.Flown.{HasEnded};
+ghost use Rattle.mc_explain.specs.WantedText.{missed_besides, missed_too_text};
+ghost use Rattle.mc_run.specs.AuditPieces.{IsReady, explanation_in, noted};
+ghost use Rattle.mc_run.specs.AuditReasons.{IsSearchOn, search_by};
+ghost use Rattle.mc_run.specs.AuditRun.{left_out};
+ghost use Rattle.mc_run.specs.AuditObjects.{wrong_object};
+ghost use Rattle.mc_run.specs.AuditText.{events_told, explanation_lines, searched_lines, wrong_lines};
+ghost use Rattle.mc_run.specs.AuditTold.{wrong_told};
+
+use crate::audit_options::AuditOptions;
+use crate::audited_domain::AuditedDomain;
+use crate::found_text::push_found;
+use crate::travel_text::push_events;
+use mc_explain::{LanSearch, Told, push_also_missed, push_search, push_told, search};
+use mc_json::{push_missed_line, push_wrong_line};
+use mc_replay::{Ended, Finding, Travel};
+use mc_text::Memory as NoMemory;
+use mc_topology::Topology;
+use std::alloc::Global;
+
+/// Searches for the LAN that a packet of TTL 255 missed, if it missed one.
+pub(crate) fn searched(
+    alloc: Global,
+    audited: &AuditedDomain<'_>,
+    flow: u32,
+    ended: &Ended<'_>,
+) -> Result<Option<LanSearch>, NoMemory>
+    requires flow { flow < length (noted audited.now).domain.topology.flows }
+    requires ready { IsReady audited.now }
+    requires ended { HasEnded (noted audited.now).domain flow 255 ended.now }
+    ensures { IfOk result (IsSearchOn (search_by (facts (noted audited.now).domain)
+        (noted audited.now).notes (left_out (noted audited.now)) flow ended.now.flight.flight.carried)
+        ended.now.travel.events.items ended.now.travel.finding) }
+{
+    let Finding::Missed(lan) = ended.travel.finding else {
+        return Ok(None);
+    };
+    let found = search(
+        alloc,
+        audited.domain,
+        audited.notes,
+        audited.left_out,
+        audited.interfaces,
+        &ended.flight,
+        &ended.travel.events,
+        flow,
+        lan,
+    )?;
+    Ok(Some(found))
+}
+
+// ---- as text
+
+/// Writes a search, if there was one.
+fn push_searched(
+    text: &mut String,
+    audited: &AuditedDomain<'_>,
+    flow: u32,
+    found: &Option<LanSearch>,
+) -> Result<(), NoMemory>
+    requires { flow < length (noted audited.now).domain.topology.flows }
+    ensures { OnOk result ((listed : FlowValue) →
+        slice_get (noted audited.now).domain.topology.flows flow ≡ Some listed →
+        string_bytes text.new ≡ string_bytes text.old
+        ++ searched_lines (facts (noted audited.now).domain) (noted audited.now).notes flow listed
+        found.now) }
+{
+    match found {
+        Some(found) => push_search(text, audited.domain, audited.notes, flow, found),
+        None => Ok(()),
+    }
+}
+
+/// Writes which LANs a packet missed besides the one that was found, if it missed one.
+fn push_missed_besides(text: &mut String, ended: &Ended<'_>) -> Result<(), NoMemory>
+    ensures { OnOk result (string_bytes text.new ≡ string_bytes text.old
+        ++ missed_too_text ended.now.flight.domain.topology
+        (missed_besides (facts ended.now.flight.domain) ended.now.flight.flow
+        ended.now.flight.flight.carried ended.now.travel.finding)) }
+{
+    match ended.travel.finding {
+        Finding::Missed(lan) => push_also_missed(text, &ended.flight, lan),
+        _ => Ok(()),
+    }
+}
+
+/// Writes what explains a finding: what is told of it, and a search, if there was one.
+fn push_explanation(
+    text: &mut String,
+    audited: &AuditedDomain<'_>,
+    flow: u32,
+    ended: &Ended<'_>,
+    told: &[Told],
+    found: &Option<LanSearch>,
+) -> Result<(), NoMemory>
+    requires flow { flow < length (noted audited.now).domain.topology.flows }
+    requires domain { ended.now.flight.domain ≡ (noted audited.now).domain }
+    ensures { OnOk result ((listed : FlowValue) →
+        slice_get (noted audited.now).domain.topology.flows flow ≡ Some listed →
+        string_bytes text.new ≡ string_bytes text.old
+        ++ explanation_lines (facts (noted audited.now).domain) (noted audited.now).notes flow listed
+        (explanation_in ended.now told.now found.now)) }
+{
+    push_told(text, audited.domain, audited.notes, flow, told)?;
+    push_searched(text, audited, flow, found)?;
+    push_missed_besides(text, ended)
+}
+
+/// Writes the events of a travel, where travels are to be shown.
+fn push_travel(
+    text: &mut String,
+    topology: &Topology,
+    travels: bool,
+    travel: &Travel,
+) -> Result<(), NoMemory>
+    ensures { OnOk result (string_bytes text.new ≡
+        string_bytes text.old ++ events_told travels topology.now travel.now) }
+{
+    if travels {
+        push_events(text, topology, &travel.events)?;
+    }
+    Ok(())
+}
+
+/// Writes that a flow has no certificate, what a packet with this TTL meets, why, and its travel where
+/// travels are to be shown.
+fn push_wrong_lines(
+    text: &mut String,
+    audited: &AuditedDomain<'_>,
+    flow: u32,
+    ended: &Ended<'_>,
+    ttl: u8,
+    travels: bool,
+    told: &[Told],
+    found: &Option<LanSearch>,
+) -> Result<(), NoMemory>
+    requires flow { flow < length (noted audited.now).domain.topology.flows }
+    requires domain { ended.now.flight.domain ≡ (noted audited.now).domain }
+    ensures { OnOk result ((listed : FlowValue) →
+        slice_get (noted audited.now).domain.topology.flows flow ≡ Some listed →
+        string_bytes text.new ≡ string_bytes text.old
+        ++ wrong_lines travels (facts (noted audited.now).domain) (noted audited.now).notes flow listed
+        ttl ended.now.travel (explanation_in ended.now told.now found.now)) }
+{
+    let topology = audited.domain.topology();
+    push_found(
+        text,
+        topology,
+        topology.flow(flow),
+        ttl,
+        ended.travel.finding,
+    )?;
+    push_explanation(text, audited, flow, ended, told, found)?;
+    push_travel(text, topology, travels, &ended.travel)
+}
+
+// ---- in JSON
+
+/// Writes the same as an object.
+fn push_wrong_object(
+    alloc: Global,
+    text: &mut String,
+    audited: &AuditedDomain<'_>,
+    flow: u32,
+    ended: &Ended<'_>,
+    ttl: u8,
+    travels: bool,
+    told: &[Told],
+    found: &Option<LanSearch>,
+) -> Result<(), NoMemory>
+    requires flow { flow < length (noted audited.now).domain.topology.flows }
+    requires domain { ended.now.flight.domain ≡ (noted audited.now).domain }
+    ensures { OnOk result ((listed : FlowValue) →
+        slice_get (noted audited.now).domain.topology.flows flow ≡ Some listed →
+        string_bytes text.new ≡ string_bytes text.old
+        ++ wrong_object travels (facts (noted audited.now).domain) (noted audited.now).notes flow
+        listed ttl ended.now.travel (explanation_in ended.now told.now found.now)) }
+{
+    let AuditedDomain { domain, notes, .. } = *audited;
+    match found {
+        Some(found) => push_missed_line(
+            alloc, text, domain, notes, flow, ended, ttl, travels, told, found,
+        ),
+        None => push_wrong_line(alloc, text, domain, notes, flow, ended, ttl, travels, told),
+    }
+}
+
+// ---- both
+
+/// Writes it as text or in JSON.
+pub(crate) fn push_wrong(
+    alloc: Global,
+    audited: &AuditedDomain<'_>,
+    flow: u32,
+    ended: &Ended<'_>,
+    ttl: u8,
+    options: AuditOptions,
+    told: &[Told],
+    found: &Option<LanSearch>,
+    text: &mut String,
+) -> Result<(), NoMemory>
+    requires flow { flow < length (noted audited.now).domain.topology.flows }
+    requires domain { ended.now.flight.domain ≡ (noted audited.now).domain }
+    ensures { OnOk result ((listed : FlowValue) →
+        slice_get (noted audited.now).domain.topology.flows flow ≡ Some listed →
+        string_bytes text.new ≡ string_bytes text.old
+        ++ wrong_told options (facts (noted audited.now).domain) (noted audited.now).notes flow listed
+        ttl ended.now.travel (explanation_in ended.now told.now found.now)) }
+{
+    let travels = options.travels;
+    if options.json {
+        push_wrong_object(alloc, text, audited, flow, ended, ttl, travels, told, found)
+    } else {
+        push_wrong_lines(text, audited, flow, ended, ttl, travels, told, found)
+    }
+}

@@ -1,0 +1,2 @@
+# the topology alone
+cp examples/network/topology "$1"

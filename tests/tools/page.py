@@ -1,0 +1,292 @@
+#!/usr/bin/env python3
+"""Looks whether mcaudit-page shows what an audit answers, without a browser.
+
+  python3 tests/tools/page.py [PROGRAM]
+
+The page of each folder of examples/faults has to have the verdict, each flow, each line that explains it, each step of
+its travel and each unlisted flow, as tests/audited/answers.py works the text out. It has to be one file that asks for
+nothing from elsewhere, with no elements but its own, whatever the names of the domain are. An answer of which something
+is turned at random makes a page or is refused. And of random domains each arrow that a travel's steps show is one that
+the packet took.
+
+PROGRAM audits the folders. Without it that is the built program, where that is there and knows the words, and else
+answers.py. The last line counts: `N passed, M failed`. The status is 0 if none failed.
+"""
+import base64
+import hashlib
+import html.parser
+import importlib.machinery
+import importlib.util
+import json
+import os
+import random
+import re
+import subprocess
+import sys
+import tempfile
+
+sys.dont_write_bytecode = True
+HERE = os.path.dirname(os.path.abspath(__file__))
+TOP = os.path.join(HERE, "..", "..")
+sys.path.append(os.path.join(TOP, "tests", "audited"))
+import answers
+import random_domains
+
+TOOL = os.path.join(TOP, "tools", "mcaudit-page")
+FAULTS = os.path.join(TOP, "examples", "faults")
+BUILT = os.path.join(TOP, "crates", "mcaudit", "out", "mcaudit")
+WORDS = {"left-out-router": ["--without", "r2"]}
+DOMAINS = 400
+TURNS = 600
+ELEMENTS = {
+    "html", "head", "meta", "title", "style", "body", "script", "header", "p", "div", "h1", "h2", "dl", "dt", "dd", "strong",
+    "main", "section", "form", "label", "input", "fieldset", "legend", "span", "table", "thead", "tbody", "tr", "th", "td", "a",
+    "b", "figure", "button", "svg", "defs", "marker", "path", "g", "rect", "text", "figcaption", "noscript", "ul", "li",
+    "details", "summary", "code", "footer"}
+ELSEWHERE = re.compile(r"https?:|//[a-z]|\bsrc\s*=|@import|<link|url\((?!#)", re.I)
+HOSTILE = ["<script>alert(1)</script>", "</script><img src=x onerror=alert(1)>", "<!--", "-->", "]]>", "\"><svg onload=alert(1)>",
+           "'; alert(1); '", "\u2028\u2029", "&lt;b&gt;", "\ud800", "__proto__", "%s {0} ${1} \\u003c", "\x00\x01\x1b", "ü"]
+
+
+def loaded_tool():
+    """The tool as a module."""
+    loader = importlib.machinery.SourceFileLoader("mcaudit_page", TOOL)
+    module = importlib.util.module_from_spec(importlib.util.spec_from_loader("mcaudit_page", loader))
+    loader.exec_module(module)
+    return module
+
+
+class Read(html.parser.HTMLParser):
+    """What a page has: its elements, its texts, and the insides of its scripts and styles."""
+
+    def __init__(self, page):
+        super().__init__()
+        self.elements, self.texts, self.insides, self.inside = [], [], {}, None
+        self.feed(page)
+
+    def handle_starttag(self, tag, attrs):
+        self.elements.append((tag, dict(attrs)))
+        self.inside = None
+        if tag in ("script", "style"):
+            self.inside = (tag, len(self.elements))
+            self.insides[self.inside] = ""
+
+    def handle_endtag(self, tag):
+        self.inside = None
+
+    def handle_data(self, data):
+        if self.inside:
+            self.insides[self.inside] += data
+        else:
+            self.texts.append(data)
+
+    def handle_comment(self, data):
+        self.elements.append(("a comment", {}))
+
+    def data(self):
+        """What the page's script draws."""
+        number = next(n for n, (_, attrs) in enumerate(self.elements, 1) if attrs.get("id") == "data")
+        return json.loads(self.insides["script", number])
+
+
+class Check:
+    def __init__(self, folder, program):
+        self.folder, self.program = folder, program
+        self.passed = self.failed = 0
+
+    def that(self, name, is_so):
+        self.passed, self.failed = self.passed + bool(is_so), self.failed + (not is_so)
+        if not is_so:
+            print(f"failed: {name}")
+
+    def page(self, name, words):
+        """Makes a page, and returns its text, and the status."""
+        path = os.path.join(self.folder, "report.html")
+        done = subprocess.run([sys.executable, TOOL, *words, "-o", path], capture_output=True, check=False)
+        self.that(f"{name}: {done.stderr.decode()[:500]}", not done.stderr and os.path.exists(path))
+        with open(path, encoding="utf-8") as file:
+            text = file.read()
+        os.unlink(path)
+        return text, done.returncode
+
+    def whole(self, name, page):
+        """Looks whether the page is one file, of its own elements alone. Returns what is read of it."""
+        read = Read(page)
+        others = {tag for tag, _ in read.elements} - ELEMENTS
+        self.that(f"{name}: no elements but its own: {others}", not others)
+        self.that(f"{name}: three scripts", sum(tag == "script" for tag, _ in read.elements) == 3)
+        words = {(key, value) for _, attrs in read.elements for key, value in attrs.items()
+                 if key.startswith("on") or key in ("style", "src") or key.endswith("href") and value[:1] != "#"}
+        self.that(f"{name}: nothing that runs or is fetched: {words}", not words)
+        policy = next(attrs["content"] for _, attrs in read.elements if attrs.get("http-equiv") == "Content-Security-Policy")
+        for (tag, number), inside in read.insides.items():
+            told = "'sha256-" + base64.b64encode(hashlib.sha256(inside.encode()).digest()).decode() + "'"
+            is_data = read.elements[number - 1][1].get("id") == "data"
+            self.that(f"{name}: the policy knows its {tag}", is_data or told in policy)
+        self.that(f"{name}: the policy lets nothing else in", "default-src 'none'" in policy and "unsafe" not in policy)
+        return read
+
+
+def shown_lines(read):
+    """The lines of audit's text that a page shows, worked out of what its script draws."""
+    data, lines = read.data(), []
+    for flow in data["flows"]:
+        words = f"flow {flow['source']} {flow['group']} ttl {flow['ttl']}"
+        if "kind" not in flow:
+            said = "yes" if data["right"] == "right" else data["right"]
+            names = [data["lans"][lan] for lan in flow["wanted"]]
+            lines += [f"{words} {said} copies {flow['copies']}",
+                      f"  wanted {len(names)}: " + (answers.some(names) if names else "no report asks for it")]
+            continue
+        lines += [f"{words} no certificate", f"found ttl {flow['found_ttl']} {flow['kind']} " + flow["place"].split(" (")[0]]
+        reason = data["reasons"][flow["why"]][1:]
+        lines += ["  " + text.replace(data["mark"], f"({flow['source']},{flow['group']})") for text, _ in reason]
+        for port, ttl, outcome, copies, strays, _ in data["travels"][flow["travel"]][1:]:
+            router, device, *_ = data["ports"][port]
+            said = f"sent {copies} strayed {strays}" if outcome == 0 else data["outcomes"][outcome]
+            lines.append(f"event {data['routers'][router]} {device} ttl {ttl} {said}")
+    return lines
+
+
+def with_devices(domain, line):
+    """An event's line with the device in the vif's place."""
+    words = line.split(" ")
+    if words[0] != "event":
+        return line
+    router = domain.routers.index(words[1])
+    device = domain.tables[router].vifs.get(int(words[2]), (b"none",))[0]
+    return " ".join([*words[:2], answers.device_text(answers.escaped(device), words[2]), *words[3:]])
+
+
+def look_at_faults(check):
+    """Looks at the page of each folder of examples/faults."""
+    for name in sorted(it for it in os.listdir(FAULTS) if os.path.isdir(os.path.join(FAULTS, it))):
+        folder, words = os.path.join(FAULTS, name), WORDS.get(name, [])
+        audit = answers.audit([folder, "--travel", "--unlisted", *words])
+        page, status = check.page(name, ["--program", check.program, folder, *words])
+        read = check.whole(name, page)
+        check.that(f"{name}: nothing from elsewhere: {ELSEWHERE.findall(page)}", not ELSEWHERE.search(page))
+        lines = [with_devices(audit.domain, it) for it in audit.output().splitlines()]
+        end = next(n for n, it in enumerate(lines) if it.startswith(("unlisted", "without", "summary")))
+        check.that(f"{name}: flows, explanations and steps", shown_lines(read) == lines[:end])
+        check.that(f"{name}: status", status == audit.status)
+        said = "\n".join(read.texts)
+        check.that(f"{name}: verdict", f"Verdict: {lines[-1].split(' ')[1]}\n" in said)
+        for flow in audit.domain.flows:
+            check.that(f"{name}: row", f"{answers.dotted(flow[0])}\n{answers.dotted(flow[1])}\n{flow[2]}\n" in said)
+        for (group, source), routers in audit.unlisted:
+            row = f"{answers.dotted(source)}\n{answers.dotted(group)}\n{len(routers)}\n{answers.some(routers)}"
+            check.that(f"{name}: unlisted", row in said)
+            check.that(f"{name}: byte order", (group >> 24 in range(224, 240)) != ("is the byte order" in said))
+        for router in audit.left_out:
+            check.that(f"{name}: left out", f"Left out: {router}." in said)
+
+
+def turned(value, names):
+    """The value with each text that is one of the names in the place of another."""
+    if isinstance(value, dict):
+        return {key: turned(it, names) for key, it in value.items()}
+    if isinstance(value, list):
+        return [turned(it, names) for it in value]
+    return names.get(value, value) if isinstance(value, str) else value
+
+
+def look_at_hostile_names(check, tool):
+    """Looks at pages of names that would be markup or script anywhere else."""
+    for place, example in enumerate(["loop-of-three-routers", "missed-by-the-wrong-way", "a-flow-that-is-not-listed"]):
+        lines = answers.audit([os.path.join(FAULTS, example), "--json", "--travel", "--unlisted"]).output().splitlines()
+        known = ["eth0", "eth1", "studio", "hall", "r1", "r2", "10.0.0.5", "239.1.2.3"]
+        for number, hostile in enumerate(HOSTILE):
+            alone = known[(number + 3 * place) % len(known)]
+            for names in {alone: hostile}, {old: hostile + old for old in known}:
+                audit = tool.take_lines([json.dumps(turned(json.loads(line), names)) for line in lines])
+                graph = tool.Graph(audit.domain, tool.roots_of(audit))
+                graph.lay_out()
+                page = tool.page_of(audit, graph, "a folder <b onclick=alert(1)>&amp;").encode("utf-8", "replace").decode()
+                read = check.whole(f"{example} with {names}", page)
+                told = json.dumps(read.data())
+                check.that(f"{example}: {names} is there", all(json.dumps(it)[1:-1] in told for it in names.values()))
+
+
+def places_in(value):
+    """Each place in a value: the object or list, and the key or number there."""
+    children = value.items() if isinstance(value, dict) else enumerate(value) if isinstance(value, list) else ()
+    for key, child in children:
+        yield value, key
+        yield from places_in(child)
+
+
+def look_at_turned_answers(check, tool):
+    """Looks whether each answer of which something is turned makes a page or is refused."""
+    pick = random.Random(TURNS)
+    strange = [None, True, 0, -1, 255, 10 ** 30, 1.5, float("nan"), "", "*", [], {}, [1], {"a": 1}, "r1", "hall", "eth1", "\ud800"]
+    for number in range(TURNS):
+        example = pick.choice(["loop-of-three-routers", "missed-by-the-wrong-way", "a-flow-that-is-not-listed"])
+        lines = list(map(json.loads, answers.audit([os.path.join(FAULTS, example), "--json", "--travel"]).output().splitlines()))
+        for _ in range(pick.randint(1, 3)):
+            value, key = pick.choice(list(places_in(lines)))
+            if pick.random() < 0.2:
+                del value[key]
+            else:
+                value[key] = pick.choice(strange)
+        try:
+            audit = tool.take_lines(map(json.dumps, lines))
+            graph = tool.Graph(audit.domain, tool.roots_of(audit))
+            check.that(f"turn {number} of {example}", graph.words() and tool.page_data(audit, graph))
+        except tool.Refused:
+            check.that(f"turn {number} of {example}", True)
+
+
+def look_at_travels(check, tool):
+    """Looks whether the steps of random travels show only what the packets did."""
+    known, all_sent = 0, 0
+    for number in range(DOMAINS):
+        with tempfile.TemporaryDirectory(prefix="mcaudit-page-") as folder:
+            random_domains.Made(number).write(folder)
+            answer = answers.audit([folder, "--json", "--travel"])
+        audit = tool.take_lines(answer.output().splitlines())
+        for said, flow in zip(answer.answers, audit.flows):
+            if said.is_right:
+                continue
+            for event, step in zip(said.travel.events, audit.travels.values[flow["travel"]][1:]):
+                router = answer.domain.routers.index(event["router"])
+                row = answer.domain.exact(router, said.flow)
+                pairs = row.pairs if event["outcome"] == "sent" else []
+                sent = {vif for vif, threshold in pairs
+                        if event["ttl"] > threshold and answer.domain.placed(router, vif) is not None}
+                shown = {audit.domain.ports[port].vif for port in step[5]}
+                check.that(f"domain {number} flow {flow['number']}: {event} shows {shown}, not {sent}", shown <= sent)
+                known, all_sent = known + len(shown), all_sent + len(sent)
+    print(f"arrows of travels: {known} of {all_sent} are known")
+    check.that("most arrows are known", known > all_sent * 0.8 > 0)
+
+
+def program_in(folder):
+    """The program that audits: the one of the words, the built one, or answers.py in its place."""
+    if len(sys.argv) > 1:
+        return os.path.abspath(sys.argv[1])
+    example = os.path.join(FAULTS, "nobody-wants-it")
+    if os.access(BUILT, os.X_OK):
+        done = subprocess.run([BUILT, "audit", example, "--json", "--travel", "--unlisted"], capture_output=True, check=False)
+        if done.returncode in (0, 1):
+            return BUILT
+    path = os.path.join(folder, "mcaudit")
+    with open(path, "w", encoding="utf-8") as file:
+        file.write(f'#!/bin/sh\nshift\nexec "{sys.executable}" "{TOP}/tests/audited/answers.py" "$@"\n')
+    os.chmod(path, 0o755)
+    return path
+
+
+def main():
+    with tempfile.TemporaryDirectory(prefix="mcaudit-page-") as folder:
+        check, tool = Check(folder, program_in(folder)), loaded_tool()
+        look_at_faults(check)
+        look_at_hostile_names(check, tool)
+        look_at_turned_answers(check, tool)
+        look_at_travels(check, tool)
+    print(f"{check.passed} passed, {check.failed} failed")
+    return 1 if check.failed or not check.passed else 0
+
+
+if __name__ == "__main__":
+    sys.exit(main())

@@ -5,7 +5,8 @@
 # make bench      runs the program on large domains, and writes what that took into bench/RESULTS.md (it needs python3);
 #                 BEFORE=PATH, an earlier build of the program, runs beside it. It fails where a certificate as `make`
 #                 writes it isn't read in a seventh of the time that the same takes behind one space
-# make lab        from routers to a verdict, in network namespaces (it needs root; the file `packages` says what else)
+# make lab        from routers to a verdict and a page, and each kind of fault to its remedy, in network namespaces (it
+#                 needs root; the file `packages` says what else); PAGES=FOLDER keeps the pages there
 # make page-test  tries the page of mcaudit-page in a headless Chromium; PICTURES=FOLDER writes pictures of it there
 # make install    puts the program and its tools into $(PREFIX)/bin, the manual page and the completion into
 #                 $(PREFIX)/share, and the units of systemd and their user into $(PREFIX)/lib
@@ -41,6 +42,7 @@ bench: $(PROGRAM)
 
 lab: $(PROGRAM)
 	sh tests/lab/run.sh $(PROGRAM)
+	sh tests/lab/ten.sh $(PROGRAM) $(PAGES)
 
 page-test:
 	sh tests/packages.sh page

@@ -8,7 +8,7 @@
 # once it is taken out, as the host sees.
 #
 # The switch of l2 snoops: what it shows of the reports, it shows to the port of the router that asked.
-# Usage: run.sh PROGRAM. It needs root, and the lab's packages; what it made it takes away again.
+# Usage: run.sh PROGRAM
 #
 #   source 10.77.0.5 -- l0 -- r1 -- l1 -- r2 -- l2 -- member 10.77.2.7
 #                              \________________/
@@ -17,73 +17,19 @@
 # onto l2, and r2 has no entry for it: the one that it gets in the end makes the second copy.
 
 set -u
-if [ "$(id -u)" -ne 0 ]; then
-    echo 'the lab needs root' >&2
-    exit 1
-fi
-here=$(cd "$(dirname "$0")" && pwd) || exit 1
-sh "$here/../packages.sh" lab || exit 1
-if [ $# -ne 1 ] || [ ! -x "$1" ]; then
-    echo 'Usage: run.sh PROGRAM, the built mcaudit (make)' >&2
-    exit 1
-fi
-
-mcaudit=$(cd "$(dirname "$1")" && pwd)/$(basename "$1")
-tools=$(cd "$here/../../tools" && pwd) || exit 1
-PATH=$(dirname "$mcaudit"):$PATH
-export PATH
-lab=mclab$$
-scratch=$(mktemp -d) || exit 1
-site=$scratch/site
-started=
-
-take_away() {
-    for process in $started; do
-        kill "$process" 2> /dev/null
-        wait "$process" 2> /dev/null
-    done
-    for place in lans r1 r2 source member; do
-        ip netns del "$lab-$place" 2> /dev/null
-    done
-    rm -rf "$scratch"
-}
-trap take_away EXIT
-trap 'exit 1' HUP INT TERM
-
-fail() {
-    echo "lab: $1" >&2
-    exit 1
-}
-
-# Runs the further words at a place.
-at() {
-    place=$lab-$1
-    shift
-    ip netns exec "$place" "$@"
-}
-
-# Joins a place to a LAN by a device with an address.
-join() {
-    ip -n "$lab-lans" link add "$1-$3" type veth peer name "$2" netns "$lab-$1" ||
-        fail "no link of $1 to $3"
-    ip -n "$lab-lans" link set "$1-$3" master "$3" up
-    ip -n "$lab-$1" link set "$2" up
-    ip -n "$lab-$1" address add "$4/24" dev "$2"
-}
+routers='r1 r2'
+members='member=10.77.2.7'
+sender=10.77.0.5
+ttl=4
+groups='239.1.2.3 239.1.2.4'
+# shellcheck source=SCRIPTDIR/network.sh
+. "$(dirname "$0")/network.sh"
 
 build_network() {
-    for place in lans r1 r2 source member; do
-        ip netns add "$lab-$place" || fail "no network namespace $lab-$place"
-        ip -n "$lab-$place" link set lo up
-        echo 0 | at "$place" tee /proc/sys/net/ipv4/conf/all/rp_filter \
-            /proc/sys/net/ipv4/conf/default/rp_filter > /dev/null
-    done
-    for lan in l0 l1 l2; do
-        snooping=0
-        [ "$lan" != l2 ] || snooping=1
-        ip -n "$lab-lans" link add "$lan" type bridge mcast_snooping "$snooping" || fail "no bridge $lan"
-        ip -n "$lab-lans" link set "$lan" up
-    done
+    make_places
+    make_lan l0 0
+    make_lan l1 0
+    make_lan l2 1
     join source eth0 l0 10.77.0.5
     join r1 eth0 l0 10.77.0.1
     join r1 eth1 l1 10.77.1.1
@@ -93,20 +39,6 @@ build_network() {
     join member eth0 l2 10.77.2.7
     ip -n "$lab-r2" route add 10.77.0.0/24 via 10.77.1.1
     ip -n "$lab-member" route add 10.77.0.0/24 via 10.77.2.2
-}
-
-# Starts smcroute on a router, by the lines of standard input.
-start_router() {
-    cat > "$scratch/$1.conf"
-    ip netns exec "$lab-$1" smcrouted -n -N -f "$scratch/$1.conf" -i "$lab-$1" -P "$scratch/$1.pid" \
-        -u "$scratch/$1.sock" > "$scratch/$1.said" 2>&1 &
-    started="$started $!"
-    tries=0
-    until [ "$(at "$1" cat /proc/net/ip_mr_cache | wc -l)" -eq "$2" ]; do
-        tries=$((tries + 1))
-        [ "$tries" -lt 50 ] || fail "smcroute on $1: $(cat "$scratch/$1.said")"
-        sleep 0.2
-    done
 }
 
 start_routers() {
@@ -124,24 +56,6 @@ mroute from eth0 source 10.77.0.5 group 239.1.2.3 to eth1
 END
 }
 
-# Sends packets of both flows all the while that the further words run.
-while_sending() {
-    ip netns exec "$lab-source" python3 "$here/traffic.py" source 10.77.0.5 4 3000 239.1.2.3 239.1.2.4 &
-    sending=$!
-    "$@"
-    status=$?
-    kill "$sending"
-    wait "$sending" 2> /dev/null
-    return "$status"
-}
-
-# Runs one of the tools that ask all routers of the site.
-on_routers() {
-    tool=$1
-    shift
-    "$tools/$tool" "$@" "$site" "r1=!ip netns exec $lab-r1" "r2=!ip netns exec $lab-r2"
-}
-
 # What the topology has beside its comments.
 print_topology() {
     sed -e '/^#/d' -e 's/, # .*/,/' "$site/topology"
@@ -150,33 +64,6 @@ print_topology() {
 # The ports behind which the switch of l2 knows of a router.
 print_router_ports() {
     bridge -n "$lab-lans" -d mdb show dev l2 | sed -n 's/^ *router ports on l2: *\(.*[^ ]\) *$/\1/p'
-}
-
-# Sends three packets of each flow while the member listens, and says what reached it.
-send_packets() {
-    at member python3 "$here/traffic.py" member 10.77.2.7 3 239.1.2.3 239.1.2.4 > "$scratch/came" &
-    listening=$!
-    sleep 1
-    at source python3 "$here/traffic.py" source 10.77.0.5 4 3 239.1.2.3 239.1.2.4
-    wait "$listening"
-    cat "$scratch/came"
-}
-
-# Compares what the further words print with the lines of standard input, and their status.
-expect() {
-    wanted=$1
-    shift
-    cat > "$scratch/expected"
-    "$@" > "$scratch/printed"
-    status=$?
-    diff "$scratch/expected" "$scratch/printed" || fail "$* printed something else"
-    [ "$status" -eq "$wanted" ] || fail "$* ended with $status, not $wanted"
-    cat "$scratch/printed"
-}
-
-# Collects the routers into a new set.
-collect() {
-    on_routers mcaudit-collect || fail 'the tables were not collected'
 }
 
 make_certificate() {
@@ -233,9 +120,9 @@ while_sending on_routers mcaudit-draft --update > "$scratch/update" 2>&1 ||
     fail "the topology is another one at once: $(cat "$scratch/update")"
 
 echo '- Right tables: each packet reaches the member once.'
-expect 0 send_packets <<'END'
-239.1.2.3 3
-239.1.2.4 3
+expect 0 count_packets <<'END'
+member 239.1.2.3 3
+member 239.1.2.4 3
 END
 collect
 expect 0 "$mcaudit" audit "$site" <<'END'
@@ -254,11 +141,10 @@ verdict yes
 END
 
 echo '- One entry too many on r2: packets of 239.1.2.4 reach the member twice.'
-at r2 smcroutectl -i "$lab-r2" -u "$scratch/r2.sock" add eth0 10.77.0.5 239.1.2.4 eth1 ||
-    fail 'no further entry on r2'
-expect 0 send_packets <<'END'
-239.1.2.3 3
-239.1.2.4 6
+change_rows r2 add eth0 10.77.0.5 239.1.2.4 eth1
+expect 0 count_packets <<'END'
+member 239.1.2.3 3
+member 239.1.2.4 6
 END
 collect
 expect 1 "$mcaudit" audit "$site" --travel <<'END'
@@ -282,11 +168,10 @@ verdict no
 END
 
 echo '- The remedy that is told, eth1 out of the row of r2: each packet reaches the member once again.'
-at r2 smcroutectl -i "$lab-r2" -u "$scratch/r2.sock" remove eth0 10.77.0.5 239.1.2.4 eth1 ||
-    fail 'the entry on r2 stays'
-expect 0 send_packets <<'END'
-239.1.2.3 3
-239.1.2.4 3
+change_rows r2 remove eth0 10.77.0.5 239.1.2.4 eth1
+expect 0 count_packets <<'END'
+member 239.1.2.3 3
+member 239.1.2.4 3
 END
 collect
 expect 0 "$mcaudit" audit "$site" --faults <<'END'

@@ -382,7 +382,7 @@ complete_words() {
 check_shell() {
     cd "$here/../.." || return 1
     # shellcheck disable=SC2046 # names without spaces
-    shellcheck $(grep -slE '^#!/bin/(ba)?sh' tools/* tests/tools/*.sh tests/tools/commands/* tests/lab/*.sh \
+    shellcheck -x $(grep -slE '^#!/bin/(ba)?sh' tools/* tests/tools/*.sh tests/tools/commands/* tests/lab/*.sh \
         tests/*.sh) tools/mcaudit.bash
 }
 

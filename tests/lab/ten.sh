@@ -1,0 +1,301 @@
+#!/bin/sh
+# From nothing to a verdict and a page of ten routers, and each kind of fault with its remedy, on a network of this
+# machine's kernel: ten routers with smcroute, ten LANs and four hosts, in network namespaces. mcaudit-site makes the
+# whole folder and judges it, and mcaudit-page shows it. Then one fault after the other is made, audit has to tell it
+# and what ends it, just that is done, and audit has to say yes. Before and after the hosts count what comes.
+# Usage: ten.sh PROGRAM [PAGES], a folder that keeps the pages
+#
+#   source -- l0 -- r1 -- l1 -- r2 -- l2 -- r4 -- l4 -- r6 -- l5 -- r7 -- l6 -- r8 -- l7 -- r9 -- l8 -- r10 -- l9
+#                          \--- r3 -- l3 -- r5 --/            m5                      m7                       m9
+#
+# LAN l5 is 10.77.5.0/24, and so on; r7 has the addresses 10.77.5.7 and 10.77.6.7, and eth0 is the one nearer to the
+# source. 239.1.2.3 goes by r2 and r4 to all members, 239.1.2.4 by r3 and r5 to m5. r9 has a device more, alone0.
+
+set -u
+routers='r1 r2 r3 r4 r5 r6 r7 r8 r9 r10'
+members='m5=10.77.5.77 m7=10.77.7.77 m9=10.77.9.77'
+sender=10.77.0.50
+ttl=16
+groups='239.1.2.3 239.1.2.4'
+pages=${2:-}
+[ $# -ne 2 ] || set -- "$1"
+# shellcheck source=SCRIPTDIR/network.sh
+. "$(dirname "$0")/network.sh"
+[ -n "$pages" ] || pages=$scratch
+
+# Joins a router to the LAN nearer to the source and to the one behind it.
+join_router() {
+    join "r$1" eth0 "l$2" "10.77.$2.$1"
+    join "r$1" eth1 "l$3" "10.77.$3.$1"
+}
+
+build_network() {
+    make_places
+    for lan in 0 1 2 3 4 5 6 7 8 9; do make_lan "l$lan" 0; done
+    join_router 1 0 1
+    join_router 2 1 2
+    join_router 3 1 3
+    join_router 4 2 4
+    join_router 5 3 4
+    join_router 6 4 5
+    join_router 7 5 6
+    join_router 8 6 7
+    join_router 9 7 8
+    join_router 10 8 9
+    ip -n "$lab-lans" link add r9-alone type veth peer name alone0 netns "$lab-r9" || fail 'no device alone0'
+    ip -n "$lab-lans" link set r9-alone up
+    ip -n "$lab-r9" link set alone0 up
+    ip -n "$lab-r9" address add 10.78.0.1/30 dev alone0
+    join source eth0 l0 "$sender"
+    for lan in 5 7 9; do join "m$lan" eth0 "l$lan" "10.77.$lan.77"; done
+}
+
+# Starts a router whose rows send these groups from eth0 to eth1, by the line of standard input for eth1.
+start_forwarding() {
+    router=$1
+    shift
+    {
+        echo phyint eth0 enable
+        cat
+        [ "$router" != r9 ] || echo phyint alone0 enable
+        for group; do echo "mroute from eth0 source $sender group $group to eth1"; done
+    } | start_router "$router" $(($# + 1))
+}
+
+start_routers() {
+    echo phyint eth1 enable > "$scratch/eth1"
+    for router in r1 r6; do start_forwarding "$router" 239.1.2.3 239.1.2.4 < "$scratch/eth1"; done
+    for router in r2 r4 r7 r8 r9 r10; do start_forwarding "$router" 239.1.2.3 < "$scratch/eth1"; done
+    for router in r3 r5; do start_forwarding "$router" 239.1.2.4 < "$scratch/eth1"; done
+}
+
+start_members() {
+    for member in $members; do
+        wanted=239.1.2.3
+        [ "${member%%=*}" != m5 ] || wanted=$groups
+        # shellcheck disable=SC2086 # a word each
+        ip netns exec "$lab-${member%%=*}" python3 "$here/traffic.py" member "${member#*=}" 3600 $wanted > /dev/null &
+        started="$started $!"
+    done
+}
+
+# All is right: what audit says, and what the members count.
+expect_right() {
+    expect 0 count_packets <<'END'
+m5 239.1.2.3 3
+m5 239.1.2.4 3
+m7 239.1.2.3 3
+m7 239.1.2.4 0
+m9 239.1.2.3 3
+m9 239.1.2.4 0
+END
+    collect
+    expect 0 "$mcaudit" audit "$site" <<'END'
+flow 10.77.0.50 239.1.2.3 ttl 16 yes copies 9
+  wanted 3: 10.77.5.0-24 10.77.7.0-24 10.77.9.0-24
+flow 10.77.0.50 239.1.2.4 ttl 16 yes copies 5
+  wanted 1: 10.77.5.0-24
+summary flows 2 right 2 wrong 0 unwanted 0
+verdict yes
+END
+}
+
+# Makes a page of the folder as it is, which says what audit says.
+make_page() {
+    "$tools/mcaudit-page" "$site" -o "$pages/$1.html" > "$scratch/paged"
+    [ $? -eq "$2" ] || fail "the page $1 ended with another status than $2"
+    cat "$scratch/paged"
+    [ -s "$pages/$1.html" ] || fail "there is no page $1"
+}
+
+begun=$(date +%s)
+build_network
+start_routers
+start_members
+
+echo '- From nothing: the whole folder in one go, its verdict, and its page.'
+while_sending on_routers mcaudit-site init --ask --empty --wait 5 > "$scratch/init" 2> "$scratch/said"
+status=$?
+cat "$scratch/init"
+if [ "$status" -ne 1 ] || ! grep -q '^verdict yes$' "$scratch/init" || ! grep -q 'unsure: r9 alone0' "$scratch/said"; then
+    fail "init ended with $status, where it is unsure of alone0 alone: $(cat "$scratch/said")"
+fi
+make_page right 0
+taken=$(($(date +%s) - begun))
+echo "lab: from nothing to the page of ten routers: $taken s"
+[ "$taken" -lt 600 ] || fail 'that took ten minutes'
+expect_right
+
+echo '- Duplicate: r3 forwards 239.1.2.3 as well, and r5 with it. Each packet comes twice from l4 on.'
+change_rows r5 add eth0 "$sender" 239.1.2.3 eth1
+change_rows r3 add eth0 "$sender" 239.1.2.3 eth1
+expect 0 count_packets <<'END'
+m5 239.1.2.3 6
+m5 239.1.2.4 3
+m7 239.1.2.3 6
+m7 239.1.2.4 0
+m9 239.1.2.3 6
+m9 239.1.2.4 0
+END
+collect
+expect 1 "$mcaudit" audit "$site" --faults <<'END'
+flow 10.77.0.50 239.1.2.3 ttl 16 no certificate
+found ttl 255 Duplicate 10.77.4.0-24
+  sent onto 10.77.4.0-24 by r4 at eth1: row (10.77.0.50,239.1.2.3) from eth0 to eth1 in cache-r4
+  sent onto 10.77.4.0-24 by r5 at eth1: row (10.77.0.50,239.1.2.3) from eth0 to eth1 in cache-r5
+  one way to end it: take eth1 out of this row of r5; each LAN that this flow's packets reach is reached without it
+  audit again after each change
+summary flows 2 right 1 wrong 1 unwanted 0
+verdict no
+END
+make_page duplicate 1
+echo '- The remedy that is told: eth1 out of the row of r5.'
+change_rows r5 remove eth0 "$sender" 239.1.2.3 eth1
+expect 0 count_packets <<'END'
+m5 239.1.2.3 3
+m5 239.1.2.4 3
+m7 239.1.2.3 3
+m7 239.1.2.4 0
+m9 239.1.2.3 3
+m9 239.1.2.4 0
+END
+collect
+"$mcaudit" audit "$site" > "$scratch/audited" || fail "after the remedy: $(cat "$scratch/audited")"
+cat "$scratch/audited"
+change_rows r3 remove eth0 "$sender" 239.1.2.3 eth1
+
+# Sent with 16, a copy is on l1 with 15, 11, 7 and 3: each time round takes four. So l5 carries copies with 12, 8 and 4,
+# l7 with 10, 6 and 2, and l9 with 8 and 4: r10 lets the third fall, which has 1 on l8.
+echo '- Loop: r5 sends 239.1.2.3 back onto l3, and r3 onto l1.'
+change_rows r5 add eth1 "$sender" 239.1.2.3 eth0
+change_rows r3 add eth1 "$sender" 239.1.2.3 eth0
+expect 0 count_packets <<'END'
+m5 239.1.2.3 9
+m5 239.1.2.4 3
+m7 239.1.2.3 9
+m7 239.1.2.4 0
+m9 239.1.2.3 6
+m9 239.1.2.4 0
+END
+collect
+expect 1 "$mcaudit" audit "$site" --faults <<'END'
+flow 10.77.0.50 239.1.2.3 ttl 16 no certificate
+found ttl 255 Loop 10.77.1.0-24
+  10.77.1.0-24 to 10.77.2.0-24 by r2 from eth0 to eth1: row (10.77.0.50,239.1.2.3) from eth0 to eth1 in cache-r2
+  10.77.2.0-24 to 10.77.4.0-24 by r4 from eth0 to eth1: row (10.77.0.50,239.1.2.3) from eth0 to eth1 in cache-r4
+  10.77.4.0-24 to 10.77.3.0-24 by r5 from eth1 to eth0: row (10.77.0.50,239.1.2.3) from eth1 to eth0 in cache-r5
+  10.77.3.0-24 to 10.77.1.0-24 by r3 from eth1 to eth0: row (10.77.0.50,239.1.2.3) from eth1 to eth0 in cache-r3
+  one way to end it: take eth0 out of this row of r3; each LAN that this flow's packets reach is reached without it
+  audit again after each change
+summary flows 2 right 1 wrong 1 unwanted 0
+verdict no
+END
+make_page loop 1
+echo '- The remedy that is told: eth0 out of the row of r3.'
+change_rows r3 remove eth1 "$sender" 239.1.2.3 eth0
+expect 0 count_packets <<'END'
+m5 239.1.2.3 3
+m5 239.1.2.4 3
+m7 239.1.2.3 3
+m7 239.1.2.4 0
+m9 239.1.2.3 3
+m9 239.1.2.4 0
+END
+collect
+"$mcaudit" audit "$site" > "$scratch/audited" || fail "after the remedy: $(cat "$scratch/audited")"
+cat "$scratch/audited"
+change_rows r5 remove eth1 "$sender" 239.1.2.3 eth0
+expect_right
+
+echo '- Stray: r9 sends 239.1.2.3 by alone0 as well, which is on no LAN of the topology.'
+change_rows r9 remove eth0 "$sender" 239.1.2.3 eth1
+change_rows r9 add eth0 "$sender" 239.1.2.3 eth1 alone0
+collect
+stray=$(at r9 sed -n 's/^ *\([0-9]*\) alone0 .*/\1/p' /proc/net/ip_mr_vif)
+expect 1 "$mcaudit" audit "$site" --faults <<END
+flow 10.77.0.50 239.1.2.3 ttl 16 no certificate
+found ttl 255 Stray r9 $stray
+  alone0 of r9 is on no listed LAN
+  row (10.77.0.50,239.1.2.3) from eth0 to eth1 alone0 in cache-r9
+summary flows 2 right 1 wrong 1 unwanted 0
+verdict no
+END
+make_page stray 1
+echo '- The remedy of the guide: alone0 out of the row of r9.'
+change_rows r9 remove eth0 "$sender" 239.1.2.3 alone0
+expect_right
+
+echo '- Missed: the row of r8 has lost eth1. m7 and m9 get nothing.'
+change_rows r8 remove eth0 "$sender" 239.1.2.3 eth1
+expect 0 count_packets <<'END'
+m5 239.1.2.3 3
+m5 239.1.2.4 3
+m7 239.1.2.3 0
+m7 239.1.2.4 0
+m9 239.1.2.3 0
+m9 239.1.2.4 0
+END
+collect
+expect 1 "$mcaudit" audit "$site" --faults <<'END'
+flow 10.77.0.50 239.1.2.3 ttl 16 no certificate
+found ttl 255 Missed 10.77.7.0-24
+  it gets as far as: r8
+  10.77.7.0-24: r8 takes it from 10.77.6.0-24, which carries it, and does not send to eth1: row (10.77.0.50,239.1.2.3) from eth0 to none in cache-r8
+  10.77.7.0-24: expected from this LAN by r9
+  10.77.7.0-24: no row of this source sends onto it
+  also missed: 10.77.9.0-24
+summary flows 2 right 1 wrong 1 unwanted 0
+verdict no
+END
+make_page missed 1
+echo '- The remedy of the guide: the row of r8 gets eth1.'
+change_rows r8 add eth0 "$sender" 239.1.2.3 eth1
+expect_right
+
+# A copy that is sent with 16 has 10 on l7. To have 13 there it is sent with 19.
+echo '- Missed at the time to live of the flow: r9 sends by eth1 only above threshold 12. m9 gets nothing.'
+kill "$(cat "$scratch/r9.pid")"
+until [ "$(at r9 cat /proc/net/ip_mr_cache | wc -l)" -eq 1 ]; do sleep 0.2; done
+start_forwarding r9 239.1.2.3 <<'END'
+phyint eth1 enable ttl-threshold 12
+END
+collect
+expect 1 "$mcaudit" audit "$site" --faults <<'END'
+flow 10.77.0.50 239.1.2.3 ttl 16 no certificate
+found ttl 16 Missed 10.77.9.0-24
+  10.77.9.0-24 is reached by packets sent with ttl 19 or more; this flow is listed with ttl 16
+  stopped at r9 eth1: the copy has ttl 10, and is sent only above threshold 12
+summary flows 2 right 1 wrong 1 unwanted 0
+verdict no
+END
+make_page threshold 1
+ttl=18
+expect 0 count_packets <<'END'
+m5 239.1.2.3 3
+m5 239.1.2.4 3
+m7 239.1.2.3 3
+m7 239.1.2.4 0
+m9 239.1.2.3 0
+m9 239.1.2.4 0
+END
+echo '- The remedy of the guide: the source sends with 19, and the topology says so.'
+ttl=19
+sed -i 's/group = "239.1.2.3", ttl = 16/group = "239.1.2.3", ttl = 19/' "$site/topology"
+expect 0 count_packets <<'END'
+m5 239.1.2.3 3
+m5 239.1.2.4 3
+m7 239.1.2.3 3
+m7 239.1.2.4 0
+m9 239.1.2.3 3
+m9 239.1.2.4 0
+END
+collect
+expect 0 "$mcaudit" audit "$site" <<'END'
+flow 10.77.0.50 239.1.2.3 ttl 19 yes copies 9
+  wanted 3: 10.77.5.0-24 10.77.7.0-24 10.77.9.0-24
+flow 10.77.0.50 239.1.2.4 ttl 16 yes copies 5
+  wanted 1: 10.77.5.0-24
+summary flows 2 right 2 wrong 0 unwanted 0
+verdict yes
+END
+echo 'lab: each remedy is one'

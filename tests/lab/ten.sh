@@ -108,6 +108,14 @@ make_page() {
     [ -s "$pages/$1.html" ] || fail "there is no page $1"
 }
 
+# One run of the monitor, with TIME for each set's.
+watch_once() {
+    on_routers mcaudit-monitor --keep 300 > "$scratch/watched" 2> "$scratch/said"
+    watched=$?
+    sed 's/20[0-9]*T[0-9]*Z/TIME/' "$scratch/watched"
+    return "$watched"
+}
+
 begun=$(date +%s)
 build_network
 start_routers
@@ -125,6 +133,10 @@ taken=$(($(date +%s) - begun))
 echo "lab: from nothing to the page of ten routers: $taken s"
 [ "$taken" -lt 600 ] || fail 'that took ten minutes'
 expect_right
+expect 0 watch_once <<'END'
+TIME: verdict yes, flows 2, right 2, wrong 0, unwanted 0, unlisted 0
+no audit before it is there to compare with
+END
 
 echo '- Duplicate: r3 forwards 239.1.2.3 as well, and r5 with it. Each packet comes twice from l4 on.'
 change_rows r5 add eth0 "$sender" 239.1.2.3 eth1
@@ -137,7 +149,13 @@ m7 239.1.2.4 0
 m9 239.1.2.3 6
 m9 239.1.2.4 0
 END
-collect
+expect 1 watch_once <<'END'
+TIME: verdict no, flows 2, right 1, wrong 1, unwanted 0, unlisted 0
+wrong: 10.77.0.50 239.1.2.3 Duplicate 10.77.4.0-24
+changed since TIME:
+flow 10.77.0.50 239.1.2.3: fault come: Duplicate 10.77.4.0-24
+verdict no, was yes
+END
 expect 1 "$mcaudit" audit "$site" --faults <<'END'
 flow 10.77.0.50 239.1.2.3 ttl 16 no certificate
 found ttl 255 Duplicate 10.77.4.0-24

@@ -1,5 +1,5 @@
 -- What is written of all flows, before and behind them, and what it says of the files.
-use Rattle.std.proofs.Common.{◌≡◌, ℕ, Bool, List, ◌++◌, length, Option, Some, None, Result, Err}
+use Rattle.std.proofs.Common.{◌≡◌, ℕ, Bool, List, ◌++◌, length, Option, Some, None, Result, Ok, Err}
 use Rattle.std.proofs.Common.{refl, sym, ap, subst, ◌∙◌, append_assoc}
 use Rattle.std.specs.Prelude.{◌==◌, ◌&&◌, IfOk, IfSome, flat_map}
 use Rattle.mc_layout.specs.Files.{FileText}
@@ -13,11 +13,12 @@ use Rattle.mc_domain.specs.Meaning.{FilesMeanListed, OfDomain}
 use Rattle.mc_domain.specs.NotesOfFiles.{AreNotesOf}
 use Rattle.mc_run.specs.AuditEnd.{are_right, begin_lines, count as count_of, end_by, is_right}
 use Rattle.mc_run.specs.AuditEnd.{is_unwanted, is_wrong, verdict_told}
-use Rattle.mc_run.specs.AuditPieces.{AreFlowsPushed, yes_of}
+use Rattle.mc_run.specs.AuditPieces.{AreFlowsPushed, said_of, yes_of}
 use Rattle.mc_run.specs.AuditRun.{AuditSaysYes, IsAudited, MeansNoted, NotedValue, is_whole, is_yes}
 use Rattle.mc_run.specs.AuditRun.{left_out}
 use Rattle.mc_run.specs.declared.audit_options.AuditOptions.{AuditOptions}
 use Rattle.mc_run.specs.declared.audit_said.AuditAnswer.{AuditAnswer}
+use Rattle.mc_run.specs.declared.audit_said.AuditSaid.{AuditSaid}
 use Rattle.mc_run.specs.declared.fault.RunFault.{RunFault}
 use Rattle.mc_run.specs.declared.fault.RunFault.TheVariants.{Write}
 use Rattle.mc_run.specs.Said.{IsSaid}
@@ -125,3 +126,23 @@ pub said_parts : (s t : Result Said RunFault) (y : Result Bool RunFault) (old ne
     → s ≡ t → IsSaid s y old new → IsSaid t y old new
 said_parts s t y old new same is =
     subst (λ (u : Result Said RunFault). IsSaid u y old new) same is
+
+-- no answer comes where there was nothing to say
+none_said : (f : RunFault) (p : Result Said RunFault) (s : Result Bool RunFault) (all : Bool)
+    (old new : Option (List ℕ)) → p ≡ Err f → Ok all ≡ s → IsSaid p s old new → ⊥
+none_said f p s all old new none same is =
+    let said : IsSaid (Err f) s old new =
+    subst (λ (u : Result Said RunFault). IsSaid u s old new) none is in
+    subst (λ (t : Result Bool RunFault). IsSaid (Err f) t old new) (sym same) said
+
+-- and what holds of the number that was counted holds of the number that is answered
+pub unwanted_so : (P : ℕ → Type 0) (a : Result AuditSaid RunFault) (p : Result Said RunFault)
+    (n : ℕ) (s : Result Bool RunFault) (r : Result AuditAnswer RunFault)
+    (old new : Option (List ℕ)) → IfOk a (λ audit. P audit.unwanted) → p ≡ said_of a
+    → ((audit : AuditSaid) → a ≡ Ok audit → n ≡ audit.unwanted) → IsSaid p s old new
+    → yes_of r ≡ s → IfOk r (λ answer. answer.unwanted ≡ n) → IfOk r (λ answer. P answer.unwanted)
+unwanted_so P a p n s (Err f) old new holds parts counted is same told = tt
+unwanted_so P (Ok audit) p n s (Ok answer) old new holds parts counted is same told =
+    subst P (sym (told ∙ counted audit refl)) holds
+unwanted_so P (Err f) p n s (Ok answer) old new holds parts counted is same told =
+    absurd (none_said f p s answer.yes old new parts same is)

@@ -8,6 +8,8 @@ pub mod EndsLemmas
 mod LookLemmas
 pub mod MakeLemmas
 pub mod MissedLemmas
+mod OneAudit
+mod OneFlown
 pub mod PackingLemmas
 pub mod ReasonLemmas
 pub mod ReplayLemmas

@@ -121,6 +121,14 @@ of_listed_with Holds (Some text) d lists moves means holds = record {
   holds = moves means.0 means.2 holds;
 }
 
+-- what is so of whatever an input tells is so of what it told
+pub told_so : {X A F : Type 0} (Means : X → Type 0) (So : A → X → Type 0) (told : Option X)
+    (r : Result A F) → ((x : X) → Means x → IfOk r (λ a. So a x)) → IfSome told Means
+    → IfOk r (λ a. IfSome told (So a))
+told_so Means So told (Err f) follows means = tt
+told_so Means So None (Ok a) follows means = tt
+told_so Means So (Some x) (Ok a) follows means = follows x means
+
 -- what follows of a domain follows of what is meant
 pub more_meant : {X D : Type 0} (Means : X → D → Type 0) (Holds More : D → Type 0)
     → ((d : D) → Holds d → More d) → (x : X) → OfDomain Means Holds x → OfDomain Means More x

@@ -1,5 +1,5 @@
 -- What an audit tells of a flow, as lines of text or in JSON, and which ways were told before.
-use Rattle.std.specs.Prelude.{◌≡◌, ℕ, ◌==◌, ◌&&◌, not, Bool, true, false, List, [], ◌∷◌, ◌++◌, length}
+use Rattle.std.specs.Prelude.{ℕ, ◌==◌, ◌&&◌, not, Bool, true, false, List, [], ◌∷◌, length}
 use Rattle.std.specs.Prelude.{if◌then◌else◌}
 use Rattle.mc_tables.specs.Notes.{NotesText}
 use Rattle.mc_topology.specs.declared.flow.Flow.{Flow}

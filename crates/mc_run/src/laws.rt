@@ -16,6 +16,8 @@ ghost use Rattle.mc_run.specs.InputMeaning.{MeansCertified};
 ghost use Rattle.mc_run.specs.CheckRun.{IsLineStart, IsVerdictText, WroteAtStart, WroteYes};
 ghost use Rattle.mc_run.specs.MakeRun.{IsMadeText, lists_of};
 
+use mc_domain::notes_are_determined;
+
 /// What `make` writes where it answers true, `check` says yes to.
 pub fn made_certificates_are_accepted()
     // If it has at most 16,777,216 bytes, it is read as the lists that were made, line feed and
@@ -52,6 +54,16 @@ pub fn one_domain_at_most()
     ensures files { (files : List FileText) (d e : DomainValue)
         → MeansFiles files d → MeansFiles files e → d ≡ e }
 {}
+
+/// Of one folder's files, and of one call's words, `audit` writes one text and gives one answer: what it
+/// says is a function of them, down to each line that explains a fault.
+pub fn an_audit_says_one_thing()
+    ensures { (names : List (List ℕ)) (files : List FileText) (o : AuditOptions) (all every : Bool)
+        (text other : List ℕ) → IsAuditText o names files all text
+        → IsAuditText o names files every other → (all ≡ every) × (text ≡ other) }
+{
+    notes_are_determined();
+}
 
 /// The line `verdict yes`, by which a reader knows a yes, stands in what is written exactly where
 /// every flow's list is accepted.

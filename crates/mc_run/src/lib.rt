@@ -30,7 +30,10 @@ pub use audit_options::AuditOptions;
 pub use audit_said::AuditAnswer;
 pub use check::run_check;
 pub use fault::RunFault;
-pub use laws::{made_certificates_are_accepted, one_domain_at_most, the_line_that_says_yes};
+pub use laws::{
+    an_audit_says_one_thing, made_certificates_are_accepted, one_domain_at_most,
+    the_line_that_says_yes,
+};
 pub use make::run_make;
 pub use pack::run_pack;
 pub use refusal_text::refusal_lines;

@@ -162,7 +162,10 @@ fn end_audit(
     answer: Result<bool, RunFault>,
 ) -> ExitCode {
     if let Err(RunFault::NoSuchRouter(place)) = answer {
-        let name = words.without.get(place as usize - 1).unwrap_or(&"");
+        let name = words
+            .without
+            .get(place.saturating_sub(1) as usize)
+            .unwrap_or(&"");
         let _ = eprintln!(rt; "refused: without: {name}");
         return ExitCode::from(2);
     }

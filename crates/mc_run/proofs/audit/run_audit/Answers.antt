@@ -1,7 +1,10 @@
 use Rattle.std.proofs.Common.{map}
+use Rattle.std.specs.Prelude.{IfSome}
+use Rattle.mc_domain.specs.Meaning.{OfDomain}
 use Rattle.mc_run.specs.AuditPieces.{said_of}
-use Rattle.mc_run.specs.AuditRun.{HeadlineOf, IsAuditText, SaysOfEach, SaysWhichAreRight}
-use Rattle.mc_run.proofs.AuditAll.{answer_so, said_parts, write_so, yes_so}
+use Rattle.mc_run.specs.AuditRun.{HasUnwanted, HeadlineOf, IsAuditText, MeansNoted, SaysOfEach}
+use Rattle.mc_run.specs.AuditRun.{SaysWhichAreRight}
+use Rattle.mc_run.proofs.AuditAll.{answer_so, said_parts, unwanted_so, write_so, yes_so}
 use Rattle.mc_run.proofs.AuditLemmas.{each_said, headline_kept, no_write_said, right_said}
 use Rattle.mc_run.proofs.AuditLemmas.{said_alone}
 use Rattle.mc_run.proofs.RunLemmas.{headline_told, written_part, written_whole}
@@ -20,6 +23,17 @@ returns-clause-right g c =
     (said_parts c.parts-said.result.0 (said_of c.audit_of.result) c.say.result
     (g.W.Output.took c.args.output.now) (g.W.Output.took c.say.new.output)
     c.parts-said.ensures.said c.say.ensures.ended))
+
+pub returns-clause-unwanted : goal.returns-clause-unwanted
+returns-clause-unwanted g c =
+    let told = g.F.FileSource.told c.args.files.now in
+    let o = c.args.options in
+    let names = map (λ name. name.now) c.args.without.now in
+    unwanted_so (λ n. IfSome told (OfDomain (MeansNoted o names) (λ v. HasUnwanted v o n)))
+    c.audit_of.result c.parts-said.result.0 c.parts-said.result.1 c.say.result
+    c.with_unwanted.result (g.W.Output.took c.args.output.now) (g.W.Output.took c.say.new.output)
+    c.audit_of.ensures.unwanted c.parts-said.ensures.said c.parts-said.ensures.unwanted
+    c.say.ensures.ended c.with_unwanted.ensures.yes c.with_unwanted.ensures.unwanted
 
 pub returns-clause-each : goal.returns-clause-each
 returns-clause-each g c =

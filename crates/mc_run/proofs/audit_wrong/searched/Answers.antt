@@ -1,8 +1,4 @@
-use Rattle.mc_forward.specs.ListedTables.{facts}
-use Rattle.mc_run.specs.AuditPieces.{noted}
-use Rattle.mc_run.specs.AuditReasons.{search_by}
-use Rattle.mc_run.specs.AuditRun.{left_out}
-use Rattle.mc_run.proofs.ReasonLemmas.{lan_missed, search_found}
+use Rattle.mc_run.proofs.ReasonLemmas.{lan_missed}
 use Rattle.mc_run.proofs.audit_wrong.searched.Goals as goal
 
 pub search-requires-clause-missed : goal.search-requires-clause-missed

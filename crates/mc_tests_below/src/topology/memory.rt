@@ -67,16 +67,16 @@ fn wants_memory(rt: &impl Abort, fault: TopologyFault) -> bool {
     false
 }
 
-/// There are nine of each part but the flows.
+/// There are nine of each part but the sources and the flows.
 fn check_counts(rt: &impl Abort, topology: &Topology) {
     assert!(rt; topology.lans() == 9);
     assert!(rt; topology.routers() == 9);
     assert!(rt; topology.interfaces() == 9);
-    assert!(rt; topology.sources() == 9);
 }
 
-/// There are nine flows, and the ninth of each part is found.
+/// There are nine sources and nine flows, and the ninth of each part is found.
 fn check_ninth(rt: &impl Abort, topology: &Topology) {
+    assert!(rt; topology.sources() == 9);
     assert!(rt; topology.flows() == 9);
     assert!(rt; topology.lan_no("l8") == Some(LanNo(8)));
     assert!(rt; topology.router_no("r8") == Some(RouterNo(8)));

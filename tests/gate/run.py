@@ -16,7 +16,8 @@ It works on a copy of the repository, in steps:
             tests/tools tries the shell tools
 
 Where a package is missing or the proofs fail, it ends there. At the end stands what each step and each crate took in
-processor time; with REPORT, a path, the same as a page in Markdown. The last line counts everything, `N passed, M
+processor time; with REPORT, a path, the same as a page in Markdown, and no proof that an earlier run passed on this
+machine is taken over. The last line counts everything, `N passed, M
 failed`, and the status is 0 if nothing failed.
 """
 import os
@@ -195,7 +196,7 @@ def main():
         gate.step("packages", "sh", "tests/packages.sh", "gate")
         gate.step("each thing once", "sh", "tests/house/check.sh")
         if not gate.failed:
-            gate.step("proofs, tests and programs", "rt", "ci")
+            gate.step("proofs, tests and programs", "rt", "ci", *(["--anew"] if len(sys.argv) > 1 else []))
         if not gate.failed:
             for path in edits:
                 copy_file(root, room, path)

@@ -4,7 +4,6 @@ use Rattle.std.proofs.Common.{Err, refl, sym, ap, subst, ◌∙◌, append_assoc
 use Rattle.std.specs.Prelude.{OnOk, slice_get}
 use Rattle.mc_topology.specs.declared.flow.Flow.{Flow}
 use Rattle.mc_topology.specs.Topology.{TopologyValue}
-use Rattle.mc_theory.specs.Events.{Event}
 use Rattle.mc_theory.specs.Findings.{IsTravel}
 use Rattle.mc_theory.specs.Flights.{start}
 use Rattle.mc_forward.specs.Domains.{DomainValue, net_of}
@@ -20,8 +19,6 @@ use Rattle.mc_maker.specs.declared.flown.Flown.{Flown}
 use Rattle.mc_maker.specs.declared.flown.Flown.TheVariants.{AtGreatest, AtLeast}
 use Rattle.mc_explain.specs.Explained.{IsExplained}
 use Rattle.mc_explain.specs.ExplanationText.{told_lines}
-use Rattle.mc_explain.specs.SearchReach.{IsSearched}
-use Rattle.mc_explain.specs.Searched.{Search}
 use Rattle.mc_explain.specs.WantedText.{missed_besides, missed_too_text}
 use Rattle.mc_explain.specs.declared.searching.LanSearch.{LanSearch}
 use Rattle.mc_explain.specs.declared.told.Told.{Told}
@@ -48,14 +45,6 @@ lan_missed d flow ttl lan ended has same =
     missed_within n count first_choices.numbers first_choices.last run.picks (start n ttl) lan
     (subst (λ (x : Finding). IsTravel n count first_choices.numbers first_choices.last run.picks
     (start n ttl) (finding_value x)) same run.travel)
-
--- what is found of a LAN is found where the travel missed one
-pub search_found : (s : Search) (events read : List Event) (finding : Finding) (lan : ℕ)
-    (found : LanSearch) → finding ≡ Missed lan → read ≡ events → IsSearched s read lan found
-    → IsSearchOn s events finding (Some found)
-search_found s events read finding lan found same whole is =
-    subst (λ (x : Finding). IsSearchOn s events x (Some found)) (sym same)
-    (subst (λ (es : List Event). IsSearched s es lan found) whole is)
 
 -- ---- what explains it
 

@@ -1,5 +1,4 @@
-use Rattle.std.proofs.Common.{map}
-use Rattle.std.specs.Prelude.{IfSome}
+use Rattle.std.proofs.Common.{map, IfSome}
 use Rattle.mc_domain.specs.Meaning.{OfDomain}
 use Rattle.mc_run.specs.AuditPieces.{said_of}
 use Rattle.mc_run.specs.AuditRun.{HasUnwanted, HeadlineOf, IsAuditText, MeansNoted, SaysOfEach}
@@ -26,14 +25,12 @@ returns-clause-right g c =
 
 pub returns-clause-unwanted : goal.returns-clause-unwanted
 returns-clause-unwanted g c =
-    let told = g.F.FileSource.told c.args.files.now in
-    let o = c.args.options in
-    let names = map (λ name. name.now) c.args.without.now in
-    unwanted_so (λ n. IfSome told (OfDomain (MeansNoted o names) (λ v. HasUnwanted v o n)))
-    c.audit_of.result c.parts-said.result.0 c.parts-said.result.1 c.say.result
-    c.with_unwanted.result (g.W.Output.took c.args.output.now) (g.W.Output.took c.say.new.output)
-    c.audit_of.ensures.unwanted c.parts-said.ensures.said c.parts-said.ensures.unwanted
-    c.say.ensures.ended c.with_unwanted.ensures.yes c.with_unwanted.ensures.unwanted
+    let means = MeansNoted c.args.options (map (λ name. name.now) c.args.without.now) in
+    unwanted_so (λ n. IfSome (g.F.FileSource.told c.args.files.now)
+    (OfDomain means (λ v. HasUnwanted v c.args.options n))) c.audit_of.result _ _
+    c.say.result c.with_unwanted.result _ _ c.audit_of.ensures.unwanted
+    c.parts-said.ensures.said c.parts-said.ensures.unwanted c.say.ensures.ended
+    c.with_unwanted.ensures.yes c.with_unwanted.ensures.unwanted
 
 pub returns-clause-each : goal.returns-clause-each
 returns-clause-each g c =

@@ -43,6 +43,7 @@ bench: $(PROGRAM)
 lab: $(PROGRAM)
 	sh tests/lab/run.sh $(PROGRAM)
 	sh tests/lab/ten.sh $(PROGRAM) $(PAGES)
+	sh tests/lab/pim.sh $(PROGRAM)
 
 page-test:
 	sh tests/packages.sh page

@@ -110,7 +110,7 @@ send() {
 
 # Sends packets of all flows all the while that the further words run.
 while_sending() {
-    send 6000 &
+    send 6000 2> /dev/null &
     sending=$!
     "$@"
     status=$?

@@ -116,6 +116,10 @@ watch_once() {
     return "$watched"
 }
 
+replay_first() {
+    "$mcaudit" pack "$site" > "$scratch/bundle" && "$mcaudit" replay 1 16 < "$scratch/bundle"
+}
+
 begun=$(date +%s)
 build_network
 start_routers
@@ -138,6 +142,24 @@ TIME: verdict yes, flows 2, right 2, wrong 0, unwanted 0, unlisted 0
 no audit before it is there to compare with
 END
 
+first=$(readlink -f "$site")
+# smcroute gives a router a row that sends to nobody where packets come that none of its lines is for.
+echo '- The travel of one packet: every copy ends where no row sends it on.'
+expect 0 replay_first <<'END'
+replay 10.77.0.50 239.1.2.3 ttl 16
+event r1 0 ttl 16 sent 1 strayed 0
+event r2 0 ttl 15 sent 1 strayed 0
+event r3 0 ttl 15 sent 0 strayed 0
+event r4 0 ttl 14 sent 1 strayed 0
+event r5 1 ttl 13 sent 0 strayed 0
+event r6 0 ttl 13 sent 1 strayed 0
+event r7 0 ttl 12 sent 1 strayed 0
+event r8 0 ttl 11 sent 1 strayed 0
+event r9 0 ttl 10 sent 1 strayed 0
+event r10 0 ttl 9 sent 1 strayed 0
+finding Clean
+END
+
 echo '- Duplicate: r3 forwards 239.1.2.3 as well, and r5 with it. Each packet comes twice from l4 on.'
 change_rows r5 add eth0 "$sender" 239.1.2.3 eth1
 change_rows r3 add eth0 "$sender" 239.1.2.3 eth1
@@ -153,6 +175,10 @@ expect 1 watch_once <<'END'
 TIME: verdict no, flows 2, right 1, wrong 1, unwanted 0, unlisted 0
 wrong: 10.77.0.50 239.1.2.3 Duplicate 10.77.4.0-24
 changed since TIME:
+flow 10.77.0.50 239.1.2.3: fault come: Duplicate 10.77.4.0-24
+verdict no, was yes
+END
+expect 1 "$tools/mcaudit-diff" "$first" "$site" <<'END'
 flow 10.77.0.50 239.1.2.3: fault come: Duplicate 10.77.4.0-24
 verdict no, was yes
 END
@@ -266,6 +292,18 @@ summary flows 2 right 1 wrong 1 unwanted 0
 verdict no
 END
 make_page missed 1
+expect 1 "$mcaudit" audit "$site" --faults --without r8 <<'END'
+flow 10.77.0.50 239.1.2.3 ttl 16 no certificate
+found ttl 255 Missed 10.77.7.0-24
+  it comes to no router of this search whose tables are known
+  10.77.7.0-24: r8 is left out: its tables are not known
+  10.77.7.0-24: expected from this LAN by r9
+  also missed: 10.77.9.0-24
+without r8
+summary flows 2 right 1 wrong 1 unwanted 0
+  left out: r8: the verdict is no, since a yes is said of whole domains only
+verdict no
+END
 echo '- The remedy of the guide: the row of r8 gets eth1.'
 change_rows r8 add eth0 "$sender" 239.1.2.3 eth1
 expect_right

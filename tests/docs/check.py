@@ -3,7 +3,7 @@
 
   python3 tests/docs/check.py        at the top of the repository
 
-Looked at are README.md, docs/*.md and the manual page. Of what stands there between backticks (or is bold in the
+Looked at are *.md, docs/*.md and the manual page. Of what stands there between backticks (or is bold in the
 manual page) these are names of something, and each has to be there:
 
   a path, or a file's name          a file of the repository
@@ -13,6 +13,7 @@ manual page) these are names of something, and each has to be there:
   `Type::name`, `some_name`, `Name` a word of the code, the definitions, the tests or the tools
   `call`: `clause`, `clause`        in a table's column of clauses: each is the name of a clause, and those of a call
                                     that the crate has are that call's
+  [text](path)                      a file, beside the document or below it
 
 It reads the sources alone, so it takes seconds. Each line that is printed is `FILE:LINE: NAME: what is wrong`. The last
 line counts the names, `N passed, M failed`, and the status is 0 if none failed and one was looked at.
@@ -31,6 +32,7 @@ SNAKE = re.compile(r"[a-z][a-z0-9]*(?:_[a-z0-9]+)+")
 CAMEL = re.compile(r"[A-Z][a-z0-9]+(?:[A-Z][a-z0-9]*)*")
 SIMPLE = re.compile(r"[a-z_]+")
 OPTION = re.compile(r"--[a-z][a-z-]+")
+LINK = re.compile(r"\]\(([^)#:]+)(?:#[^)]*)?\)")
 CLAUSE = re.compile(r"^\s*(?:ensures|requires) ([a-z_]\w*) \{", re.M)
 HEAD = re.compile(r"^ *(?:pub(?:\([^)]*\))? )?fn (\w+)", re.M)
 # Words that documents show which stand in another program's texts, or in those of a network.
@@ -149,6 +151,9 @@ def look_at(path, sources):
         if fault := fault_of(name, sources):
             wrong.append((number, name, fault))
     for number, line in enumerate(text.split("\n"), 1):
+        links = LINK.findall(line)
+        looked += len(links)
+        wrong += [(number, it, "no such file") for it in links if not os.path.exists(os.path.join(os.path.dirname(path), it))]
         cells = [cell.strip() for cell in line.strip("|").split(" | ")]
         if line.startswith("|") and len(cells) > 1:
             faults, passed = clause_faults(cells[-1].rstrip(" |"), sources)
@@ -160,7 +165,8 @@ def look_at(path, sources):
 def main():
     sources = Sources()
     failed, looked = 0, 0
-    documents = ["README.md", *sorted(glob.glob(os.path.join(TOP, "docs", "*.md"))), "docs/mcaudit.1"]
+    documents = [it for folder in ("", "docs") for it in sorted(glob.glob(os.path.join(TOP, folder, "*.md")))]
+    documents.append("docs/mcaudit.1")
     for path in documents:
         wrong, count = look_at(os.path.join(TOP, path), sources)
         looked += count

@@ -1,5 +1,5 @@
 #!/usr/bin/env python3
-"""Runs the commands that README.md shows, and compares what they write with what it shows.
+"""Runs the commands that README.md and docs/TOUR.md show, and compares what they write with what it shows.
 
   python3 tests/docs/run_blocks.py PROGRAM
 
@@ -47,8 +47,10 @@ def main():
     with tempfile.TemporaryDirectory(prefix="mcaudit-docs-") as folder:
         shutil.copytree(os.path.join(TOP, "examples"), folder, dirs_exist_ok=True)
         shutil.copytree(os.path.join(TOP, "examples"), os.path.join(folder, "examples"))
-        with open(os.path.join(TOP, "README.md"), encoding="utf-8") as file:
-            blocks = BLOCK.findall(file.read())
+        blocks = []
+        for name in ("README.md", "docs/TOUR.md"):
+            with open(os.path.join(TOP, name), encoding="utf-8") as file:
+                blocks += BLOCK.findall(file.read())
         for commands in map(commands_of, blocks):
             for (command, shown), written in zip(commands, run(commands, folder, program), strict=True):
                 if written == shown:

@@ -10,7 +10,7 @@ It works on a copy of the repository, in steps:
   proofs    `rt ci` proves each crate and its tests from nothing, runs the tests, and builds and runs the program
   edits     tests/edits/try.py tries the wrong bodies of crates/*/must-fail, many in one check: the prover must
             refuse each. (The copy that `rt ci` sees has none of them: it would try each in a check of its own.)
-  cases     tests/docs looks whether what the documents name is there, and runs what README shows; tests/cli has cases of
+  cases     tests/docs looks whether what the documents name is there, and runs what README and the tour show; tests/cli has cases of
             the program that was built; tests/audited works out anew what it says of random domains; tests/refusals
             refuses it each request for memory, each read and each write in turn, and the tests about memory each growth;
             tests/tools tries the shell tools
@@ -176,9 +176,10 @@ def try_program(gate):
     gate.step("the script for the edits", sys.executable, "tests/edits/try.py", "--selftest")
     gate.step("edits", sys.executable, "tests/edits/try.py")
     gate.step("what documents name", sys.executable, "tests/docs/check.py")
+    gate.step("what the page of proofs has", sys.executable, "tests/docs/proofs.py")
     gate.step("cases of the program", "sh", "tests/cli/run.sh", program)
     gate.step("tables of the program", sys.executable, "tests/cli/tables.py", program)
-    gate.step("what README shows", sys.executable, "tests/docs/run_blocks.py", program)
+    gate.step("what README and the tour show", sys.executable, "tests/docs/run_blocks.py", program)
     gate.step("audits worked out anew", sys.executable, "tests/audited/run.py", program)
     gate.step("the schema of audits", "/usr/bin/python3", "tests/audited/schema.py")
     gate.step("refusals of memory, reads and writes", sys.executable, "tests/refusals/run.py", program, *TESTS)

@@ -70,7 +70,7 @@ class Sources:
         command = read(os.path.join(TOP, "crates/mc_words/src/command.rt"))
         self.commands = set(re.findall(r'bare_command\(\s*alloc,\s*"(\w+)"', command))
         self.options |= {f"--{name}" for name in re.findall(r'(?:flag|option)\(alloc, "(\w+)"', command)}
-        self.targets = set(re.findall(r"^([a-z]+):", read(os.path.join(TOP, "Makefile")), re.M))
+        self.targets = set(re.findall(r"^([a-z-]+):", read(os.path.join(TOP, "Makefile")), re.M))
         self.tools = {os.path.basename(it) for it in glob.glob(os.path.join(TOP, "tools", "*"))}
 
     def read_clauses(self, path):

@@ -10,8 +10,13 @@
 # make page-test  tries the page of mcaudit-page in a headless Chromium; PICTURES=FOLDER writes pictures of it there
 # make install    puts the program and its tools into $(PREFIX)/bin, the manual page and the completion into
 #                 $(PREFIX)/share, and the units of systemd and their user into $(PREFIX)/lib
+# make uninstall  takes them away again
+# make dist       makes out/mcaudit-VERSION.tar.gz, the source, and out/mcaudit-VERSION-linux-x86_64.tar.gz, what
+#                 `make install` installs
+# make deb        makes a Debian package of that, out/mcaudit_VERSION_amd64.deb; tests/package/run.sh tries it
 
 PREFIX ?= /usr/local
+VERSION = $(shell cat VERSION)
 PROGRAM = crates/mcaudit/out/mcaudit
 TOOLS = mcaudit-collect mcaudit-diff mcaudit-draft mcaudit-monitor mcaudit-page mcaudit-query mcaudit-reports mcaudit-site
 UNITS = $(DESTDIR)$(PREFIX)/lib/systemd/system
@@ -19,7 +24,7 @@ SOURCES = $(shell find crates \( -path '*/out' -o -path 'crates/mc_tests_*' \) -
 # the libraries below the program, lowest first
 LIBRARIES = $(filter-out mcaudit mc_tests_%,$(shell sed -n 's/^\([a-z_]*\):.*/\1/p' crates.txt))
 
-.PHONY: all example test bench lab page-test install
+.PHONY: all example test bench lab page-test install uninstall dist deb
 
 all: $(PROGRAM)
 
@@ -61,3 +66,15 @@ install: $(PROGRAM)
 	install -D -m 644 tools/mcaudit.bash $(DESTDIR)$(PREFIX)/share/bash-completion/completions/mcaudit
 	for tool in $(TOOLS); do \
 		ln -sf mcaudit $(DESTDIR)$(PREFIX)/share/bash-completion/completions/$$tool || exit 1; done
+
+uninstall:
+	for name in mcaudit $(TOOLS); do rm -f $(DESTDIR)$(PREFIX)/bin/$$name \
+		$(DESTDIR)$(PREFIX)/share/bash-completion/completions/$$name || exit 1; done
+	rm -f $(DESTDIR)$(PREFIX)/share/man/man1/mcaudit.1 $(DESTDIR)$(PREFIX)/lib/sysusers.d/mcaudit.conf \
+		$(UNITS)/mcaudit-monitor.timer $(UNITS)/mcaudit-monitor.service
+
+dist: $(PROGRAM)
+	sh packaging/dist.sh $(VERSION)
+
+deb: $(PROGRAM)
+	sh packaging/deb.sh $(VERSION)

@@ -1,0 +1,39 @@
+#!/bin/sh
+# Makes a Debian package of what `make install` installs, in the folder out. Usage: deb.sh VERSION
+set -eu
+cd "$(dirname "$0")/.."
+version=$1
+room=$(mktemp -d)
+trap 'rm -rf "$room"' EXIT
+chmod 755 "$room"
+mkdir -p out "$room/DEBIAN" "$room/usr/share/doc/mcaudit"
+make -s install DESTDIR="$room" PREFIX=/usr
+gzip -9n "$room/usr/share/man/man1/mcaudit.1"
+cp README.md docs/GUIDE.md docs/FORMATS.md docs/PROMISES.md docs/audit.schema.json "$room/usr/share/doc/mcaudit"
+gzip -9n < CHANGELOG.md > "$room/usr/share/doc/mcaudit/changelog.gz"
+{
+    echo 'mcaudit may be used by either of these two licences.'
+    echo
+    cat LICENSE-MIT
+    echo
+    echo 'Apache-2.0: on Debian systems in /usr/share/common-licenses/Apache-2.0'
+} > "$room/usr/share/doc/mcaudit/copyright"
+cat > "$room/DEBIAN/control" <<END
+Package: mcaudit
+Version: $version
+Architecture: amd64
+Maintainer: $(git log -1 --format='%an <%ae>')
+Section: net
+Priority: optional
+Installed-Size: $(du -sk "$room/usr" | cut -f 1)
+Depends: libc6 (>= 2.34)
+Recommends: python3 (>= 3.11), openssh-client, graphviz
+Suggests: tcpdump, prometheus-node-exporter
+Description: auditor of the multicast forwarding state of a domain of Linux routers
+ It reads the multicast tables of all routers, and what the hosts of each LAN
+ want, and says whether each stream reaches every LAN that wants it, once, and
+ nothing else: no loop, no duplicate, no silent LAN. With tools that collect
+ the tables, draft the topology, show an audit as a page and watch a domain.
+END
+find "$room" -type d -exec chmod 755 {} +
+dpkg-deb --root-owner-group --build "$room" "out/mcaudit_${version}_amd64.deb"

@@ -1,0 +1,51 @@
+#!/bin/sh
+# Installs the Debian package in a clean root, tries the program and its tools there, and removes it again: nothing is
+# left. Usage: run.sh PACKAGE, what `make deb` makes. It needs root, debootstrap, and a mirror of Debian.
+set -eu
+package=$(realpath "$1")
+examples=$(realpath "$(dirname "$0")/../../examples")
+room=$(mktemp -d)
+trap 'rm -rf "$room"' EXIT
+
+in_room() {
+    chroot "$room" env DEBIAN_FRONTEND=noninteractive LC_ALL=C "$@"
+}
+
+fail() {
+    echo "package: $*" >&2
+    exit 1
+}
+
+print_files() {
+    in_room find / -xdev \( -path /proc -o -path /sys -o -path /dev -o -path /tmp -o -path /var/cache -o -path /var/log \
+        -o -path /var/lib/dpkg -o -path /var/lib/apt \) -prune -o -iname '*mcaudit*' -print
+}
+
+debootstrap --variant=minbase --include=python3-minimal bookworm "$room" > "$room.log" 2>&1 || fail "$(tail -n 3 "$room.log")"
+rm "$room.log"
+cp "$package" "$room/tmp/mcaudit.deb"
+cp -R "$examples/network" "$examples/second-router" "$room/tmp"
+in_room apt-get install -y --no-install-recommends /tmp/mcaudit.deb > /dev/null
+status=0
+in_room mcaudit audit /tmp/second-router > "$room/tmp/audited" || status=$?
+[ "$status" -eq 1 ] || fail "an audit of a fault ended with $status"
+cmp "$room/tmp/audited" - <<'END' || fail 'the audit says something else'
+flow 10.0.0.5 239.1.2.3 ttl 3 no certificate
+found ttl 255 Duplicate l2
+  sent onto l2 by r3 at eth1: row (10.0.0.5,239.1.2.3) from eth0 to eth1 in cache-r3
+  sent onto l2 by r2 at eth1: row (10.0.0.5,239.1.2.3) from eth0 to eth1 in cache-r2
+  one way to end it: take eth1 out of this row of r2; each LAN that this flow's packets reach is reached without it
+  audit again after each change
+summary flows 1 right 0 wrong 1 unwanted 0
+verdict no
+END
+in_room mcaudit audit /tmp/network | grep -qx 'verdict yes' || fail 'an audit of what is right says no yes'
+for tool in collect diff draft monitor page query reports site; do
+    in_room "mcaudit-$tool" --version
+done
+in_room test -s /usr/share/man/man1/mcaudit.1.gz || in_room test -e /etc/dpkg/dpkg.cfg.d || fail 'no manual page'
+[ -n "$(print_files)" ] || fail 'nothing was installed'
+in_room apt-get remove -y --purge mcaudit > /dev/null
+left=$(print_files)
+[ -z "$left" ] || fail "left behind: $left"
+echo 'package: installed, tried, and removed'

@@ -300,6 +300,9 @@ class Explained:
                       vif=vif, row=self.exact(router))
 
     def take_out(self, lan):
+        """The remedy. It is one of all rows, and so none is told where routers are left out."""
+        if self.domain.left_out:
+            return
         router, vif = self.travel.second()[2]
         self.tell("take_out", lan=self.lan(lan), router=self.router(router), device=self.device(router, vif), vif=vif,
                   least=need_of(self.travel.hops_back(self.travel.first_on(lan))), ttl=self.flow[2])
@@ -595,7 +598,7 @@ class Answer:
             if tree not in trees:
                 trees[tree] = len(trees)
                 new = [{"entries": self.entries, "tree": trees[tree]}]
-            return new + [self.names | {"copies": len(self.entries), "right": True, "tree": trees[tree],
+            return new + [self.names | {"copies": len(self.entries), "right": None if self.domain.left_out else True, "tree": trees[tree],
                                         "wanted": [lans[lan] for lan in self.wanted]}]
         kind, *place = self.travel.finding
         finding = {"kind": kind, "lan": lans[place[0]]} if len(place) == 1 else (

@@ -33,11 +33,13 @@ pub tree-object : (t : TopologyValue) (es : List Entry) (tree : ℕ)
 unfolding escape_byte
 tree-object t es tree = one-line (tree_data t es tree) refl refl
 
-pub right-object : (number : ℕ) (f : Flow) (copies tree : ℕ) (wanted : List Data)
-    → AreObjectLines (line_of (right_data number f copies tree wanted))
+pub right-object : (whole : Bool) (number : ℕ) (f : Flow) (copies tree : ℕ) (wanted : List Data)
+    → AreObjectLines (line_of (right_data whole number f copies tree wanted))
 unfolding escape_byte
-right-object number f copies tree wanted =
-    one-line (right_data number f copies tree wanted) refl refl
+right-object true number f copies tree wanted =
+    one-line (right_data true number f copies tree wanted) refl refl
+right-object false number f copies tree wanted =
+    one-line (right_data false number f copies tree wanted) refl refl
 
 pub wrong-object : (d : DomainFacts) (number : ℕ) (f : Flow) (found_ttl : ℕ) (finding : Finding)
     (events : List Event) (also : List ℕ) (why : List Data) (asked : Bool)

@@ -134,9 +134,10 @@ tree-plain t es tree = rw (items-plain (reached_data t) (reached-plain t) es)
 pub lans-plain : (t : TopologyValue) (lans : List ℕ) → ArePlain (map (lan_data t) lans)
 lans-plain t lans = items-plain (lan_data t) (λ lan. refl) lans
 
-pub right-plain : (number : ℕ) (f : Flow) (copies tree : ℕ) (wanted : List Data) → ArePlain wanted
-    → has_float (right_data number f copies tree wanted) ≡ false
-right-plain number f copies tree wanted plain = rw plain
+pub right-plain : (whole : Bool) (number : ℕ) (f : Flow) (copies tree : ℕ) (wanted : List Data)
+    → ArePlain wanted → has_float (right_data whole number f copies tree wanted) ≡ false
+right-plain true number f copies tree wanted plain = rw plain
+right-plain false number f copies tree wanted plain = rw plain
 
 outcome-plain : (t : TopologyValue) (e : Event) (o : Outcome) → has_float (outcome_data t e o) ≡ false
 outcome-plain t e open_row = refl

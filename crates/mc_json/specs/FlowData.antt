@@ -45,14 +45,20 @@ tree_data t es tree = object_data (
 
 -- ---- a right flow
 
+-- that it is right, where the whole domain is known; else that can't be told
+abbrev pub right_mark : (whole : Bool) → Data
+right_mark true = boolean true
+right_mark false = null
+
 -- the flow with this number, from 0: on how many LANs a packet has a copy, by the way with which
 -- number, and which LANs want it
-abbrev pub right_data : (number : ℕ) → Flow → (copies tree : ℕ) → (wanted : List Data) → Data
-right_data number f copies tree wanted = object_data (
+abbrev pub right_data : (whole : Bool) → (number : ℕ) → Flow → (copies tree : ℕ)
+    → (wanted : List Data) → Data
+right_data whole number f copies tree wanted = object_data (
     (codes "copies", count_data copies)
     ∷ (codes "flow", count_data (number + 1))
     ∷ (codes "group", string (dotted f.group))
-    ∷ (codes "right", boolean true)
+    ∷ (codes "right", right_mark whole)
     ∷ (codes "source", string (dotted f.source))
     ∷ (codes "tree", count_data tree)
     ∷ (codes "ttl", count_data f.ttl)

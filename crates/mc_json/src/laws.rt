@@ -22,8 +22,8 @@ pub fn each_line_is_an_object()
         AreObjectLines (line_of (domain_data d words)) }
     ensures tree { (t : TopologyValue) (es : List Entry) (tree : ℕ) →
         AreObjectLines (line_of (tree_data t es tree)) }
-    ensures right { (number : ℕ) (f : Flow) (copies tree : ℕ) (wanted : List Data) →
-        AreObjectLines (line_of (right_data number f copies tree wanted)) }
+    ensures right { (whole : Bool) (number : ℕ) (f : Flow) (copies tree : ℕ) (wanted : List Data) →
+        AreObjectLines (line_of (right_data whole number f copies tree wanted)) }
     ensures wrong { (d : DomainFacts) (number : ℕ) (f : Flow) (found_ttl : ℕ) (finding : Finding)
         (events : List Event) (also : List ℕ) (why : List Data) (asked : Bool) →
         AreObjectLines (wrong_line d number f found_ttl finding events also why asked) }

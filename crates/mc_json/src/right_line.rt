@@ -5,7 +5,8 @@ ghost use Rattle.std.specs.String.{string_bytes};
 ghost use Rattle.serde_json.specs.View.{view as data_of};
 ghost use Rattle.mc_topology.specs.declared.flow.Flow.{Flow};
 ghost use Rattle.mc_forward.specs.ListedTables.{facts};
-ghost use Rattle.mc_json.specs.FlowData.{reached_data, right_data, tree_data, wanted_data};
+ghost use Rattle.mc_json.specs.FlowData.{reached_data, right_data, right_mark, tree_data};
+ghost use Rattle.mc_json.specs.FlowData.{wanted_data};
 ghost use Rattle.mc_json.specs.RowData.{line_of};
 
 use crate::flow_members::flow_members;
@@ -85,9 +86,21 @@ pub fn push_tree_line(
     Ok(())
 }
 
-/// A right flow with its number, and the LANs that want it.
+/// That a flow is right, where the whole domain is known.
+fn mark_of(whole: bool) -> Value
+    ensures { data_of result ≡ right_mark whole }
+{
+    if whole {
+        Value::from(true)
+    } else {
+        Value::Null
+    }
+}
+
+/// A flow without a fault, with its number, and the LANs that want it.
 fn right_value(
     alloc: Global,
+    whole: bool,
     number: u32,
     flow: &Flow,
     copies: usize,
@@ -95,11 +108,11 @@ fn right_value(
     wanted: Vec<Value>,
 ) -> Result<Value, AllocError>
     ensures { IfOk result (λ value. data_of value
-        ≡ right_data number flow.now copies tree (map data_of wanted.items)) }
+        ≡ right_data whole number flow.now copies tree (map data_of wanted.items)) }
 {
     let mut fields = flow_members(alloc, number, flow)?;
     put(&mut fields, alloc, "copies", Value::from(copies))?;
-    put(&mut fields, alloc, "right", Value::from(true))?;
+    put(&mut fields, alloc, "right", mark_of(whole))?;
     put(&mut fields, alloc, "tree", Value::from(tree))?;
     put(&mut fields, alloc, "wanted", Value::from(wanted))?;
     Ok(Value::from(fields))
@@ -114,8 +127,9 @@ fn wanted_values(alloc: Global, view: &FlowView<'_>) -> Result<Vec<Value>, Alloc
     lan_names(alloc, view.topology(), &lans)
 }
 
-/// Writes the line of the right flow with this number: on how many LANs a packet of it has a copy,
-/// by the way with which number, and which LANs want it.
+/// Writes the line of the flow with this number, which has no fault: that it is right, where the whole
+/// domain is known, on how many LANs a packet of it has a copy, by the way with which number, and which
+/// LANs want it.
 ///
 /// # Errors
 ///
@@ -124,6 +138,7 @@ pub fn push_right_line(
     alloc: Global,
     text: &mut String,
     domain: &Domain,
+    whole: bool,
     flow: u32,
     copies: usize,
     tree: u32,
@@ -131,12 +146,13 @@ pub fn push_right_line(
     requires flow { flow < length domain.now.topology.flows }
     ensures line { OnOk result ((listed : Flow) → slice_get domain.now.topology.flows flow ≡ Some listed
         → string_bytes text.new ≡ string_bytes text.old
-        ++ line_of (right_data flow listed copies tree (wanted_data (facts domain.now) flow))) }
+        ++ line_of (right_data whole flow listed copies tree
+        (wanted_data (facts domain.now) flow))) }
 {
     let view = FlowView::new(domain, flow);
     let listed = domain.topology().flow(flow);
     let wanted = wanted_values(alloc, &view)?;
-    let value = right_value(alloc, flow, listed, copies, tree, wanted)?;
+    let value = right_value(alloc, whole, flow, listed, copies, tree, wanted)?;
     push_line(alloc, text, &value)?;
     Ok(())
 }

@@ -37,7 +37,7 @@ use Rattle.mc_explain.specs.declared.told.Told.{Told}
 use Rattle.mc_run.specs.AuditEnd.{FlowAnswer, are_right, count, is_right, is_unwanted, is_wrong}
 use Rattle.mc_run.specs.AuditEnd.{with_standing}
 use Rattle.mc_run.specs.AuditPieces.{AreFlowsPushed, IsFlowPushed, explanation_in}
-use Rattle.mc_run.specs.AuditReasons.{IsExplanation}
+use Rattle.mc_run.specs.AuditReasons.{IsExplanation, told_where}
 use Rattle.mc_run.specs.AuditRun.{IsAnswer, NotedValue, is_whole, left_out, ways_told}
 use Rattle.mc_run.specs.AuditText.{Explanation}
 use Rattle.mc_run.specs.AuditTold.{is_left_out, right_told, standing_of, standing_of_right}
@@ -79,6 +79,10 @@ travel_flown d flow (AtLeast greatest least) is = (least.flight.flight, is.2.run
 abbrev no_explanation : Explanation
 no_explanation = record { told = []; search = None; also = [] }
 
+nothing_told : (whole : Bool) → [] ≡ told_where whole []
+nothing_told true = refl
+nothing_told false = refl
+
 -- the flow's list was accepted,
 pub flow_right : {X : Type 0} (v : NotedValue) (o : AuditOptions) (flow : ℕ) (r : Result Standing X)
     (x : Flown) (entries : Vec Reached Global) (seen : Tree) (told new_told : List Tree)
@@ -117,8 +121,12 @@ flow_right v o flow (Ok s) x entries seen told new_told old new lt flies is same
           headline = subst (λ (es : Tree). HeadlineHolds n (length es)) list holds;
         };
         explained = subst (λ (y : Flown).
-            IsExplanation v.domain v.notes (left_out v) flow y no_explanation) (sym same)
-            (record { told = refl; search = refl; also = refl });
+            IsExplanation v.domain v.notes (left_out v) (is_whole v) flow y no_explanation)
+            (sym same) (record {
+              told = record { all = []; explained = refl; shown = nothing_told (is_whole v) };
+              search = refl;
+              also = refl;
+            });
         wanted = refl;
         spelled = refl;
       };
@@ -136,7 +144,7 @@ pub flow_wrong : (v : NotedValue) (o : AuditOptions) (flow : ℕ) (x : Flown) (t
     → IsExamined v.domain flow (examined_by v.domain flow x)
     → ((f : Flow) → slice_get v.domain.topology.flows flow ≡ Some f
     → examined_by v.domain flow x ≡ examined.Found ttl travel)
-    → IsExplanation v.domain v.notes (left_out v) flow x e
+    → IsExplanation v.domain v.notes (left_out v) (is_whole v) flow x e
     → ((f : Flow) → slice_get v.domain.topology.flows flow ≡ Some f
     → new ≡ old ++ wrong_told o (facts v.domain) v.notes flow f ttl travel e)
     → (ways : List Tree) → IsFlowPushed v o flow Wrong ways ways old new

@@ -220,7 +220,7 @@ audit_right v o all written a =
 
 line_so : (v : NotedValue) (o : AuditOptions) (told : List Tree) (flow : ℕ) (f : Flow) (x : Examined)
     (flown : Flown) (e : Explanation) (wanted lines : List ℕ) → IsFlown v.domain flow flown
-    → IsChecked v.domain flow x → IsExplanation v.domain v.notes (left_out v) flow flown e
+    → IsChecked v.domain flow x → IsExplanation v.domain v.notes (left_out v) (is_whole v) flow flown e
     → wanted ≡ wanting (facts v.domain) flow
     → lines ≡ answer_lines o (is_whole v) (facts v.domain) v.notes told flow f x e wanted
     → SaysYesOf v o flow f lines ⊎ SaysWhatIsFound v o flow f lines

@@ -237,7 +237,7 @@ right_other : (json whole : Bool) (t : TopologyValue) (told : List Tree) (number
     → AreOther (right_by json whole t told number f es wanted)
 right_other true whole t told number f es wanted ok =
     both_other (way_line t told es) _ (way_other t told es)
-    (objects_other _ (right-object number f (length es) (place_of (with_tree told es) es)
+    (objects_other _ (right-object whole number f (length es) (place_of (with_tree told es) es)
     (map (lan_data t) wanted)))
 right_other false whole t told number f es wanted ok =
     both_other (right_line whole t f (length es)) (wanted_text t wanted)

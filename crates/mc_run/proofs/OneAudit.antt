@@ -201,7 +201,7 @@ answer_one v o told flow a b ok p q =
     let flown = flown_one d flow p.flown q.flown p.flies q.flies
     (examined a.examined p.flown p.examined p.checked.examined)
     (examined b.examined q.flown q.examined q.checked.examined) in
-    let explained = explanation_one d v.notes (left_out v) flow p.flown q.flown p.explanation
+    let explained = explanation_one d v.notes (left_out v) (is_whole v) flow p.flown q.flown p.explanation
     q.explanation ok flown p.explained q.explained in
     let wanted : a.wanted ≡ b.wanted = p.wanted ∙ sym q.wanted in
     let lines = λ (f : Flow) (x : Examined) (w : List ℕ) (y : Explanation).

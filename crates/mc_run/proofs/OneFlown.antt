@@ -34,6 +34,7 @@ use Rattle.mc_explain.specs.declared.searching.LanSearch.{LanSearch}
 use Rattle.mc_explain.specs.declared.told.Told.{Told}
 use Rattle.mc_explain.proofs.OneLemmas.{explained-one}
 use Rattle.mc_run.specs.AuditReasons.{IsExplanation, IsSearchFor, IsSearchOn, also_missed, search_by}
+use Rattle.mc_run.specs.AuditReasons.{told_where}
 use Rattle.mc_run.specs.AuditText.{Explanation}
 use Rattle.mc_run.specs.MakeRun.{IsExamined}
 
@@ -307,13 +308,15 @@ pub record SameExplanation (x y : Explanation) : Type 0 where
   pub search : SameSearch x.search y.search
   pub also : x.also ≡ y.also
 
-pub explanation_one : (d : DomainValue) (notes : List NotesText) (left_out : List Bool) (flow : ℕ)
-    (a b : Flown) (x y : Explanation) → IsDomain d → SameFlown a b
-    → IsExplanation d notes left_out flow a x → IsExplanation d notes left_out flow b y
+pub explanation_one : (d : DomainValue) (notes : List NotesText) (left_out : List Bool)
+    (whole : Bool) (flow : ℕ) (a b : Flown) (x y : Explanation) → IsDomain d → SameFlown a b
+    → IsExplanation d notes left_out whole flow a x → IsExplanation d notes left_out whole flow b y
     → SameExplanation x y
-explanation_one d notes left_out flow a b x y ok same p q = record {
-  told = explained-one d flow b x.told y.told (net-of_domain d flow ok)
-      (explained_same d flow a b x.told same p.told) q.told;
+explanation_one d notes left_out whole flow a b x y ok same p q = record {
+  told = p.told.shown
+      ∙ ap (told_where whole) (explained-one d flow b p.told.all q.told.all (net-of_domain d flow ok)
+      (explained_same d flow a b p.told.all same p.told.explained) q.told.explained)
+      ∙ sym q.told.shown;
   search = searched_one (facts d) notes left_out flow a b x.search y.search same p.search q.search;
   also = p.also ∙ also_same (facts d) flow a b same ∙ sym q.also;
 }

@@ -1,5 +1,6 @@
 -- What explains a finding, and how that is written.
-use Rattle.std.proofs.Common.{◌≡◌, ℕ, ◌<◌, Bool, List, ◌++◌, length, Option, Some, None, Result, Ok}
+use Rattle.std.proofs.Common.{◌≡◌, ℕ, ◌<◌, Bool, true, false, not, filter, List, ◌++◌, length, Option, Some}
+use Rattle.std.proofs.Common.{None, Result, Ok}
 use Rattle.std.proofs.Common.{Err, refl, sym, ap, subst, ◌∙◌, append_assoc}
 use Rattle.std.specs.Prelude.{OnOk, slice_get}
 use Rattle.mc_topology.specs.declared.flow.Flow.{Flow}
@@ -26,8 +27,9 @@ use Rattle.mc_json.specs.FlowData.{found_line, wrong_line}
 use Rattle.mc_json.specs.WhyData.{why_data}
 use Rattle.mc_run.specs.AuditObjects.{wrong_object}
 use Rattle.mc_run.specs.AuditPieces.{explanation_in}
-use Rattle.mc_run.specs.AuditReasons.{IsExplanation, IsSearchOn, search_by}
-use Rattle.mc_run.specs.AuditRun.{NotedValue, left_out}
+use Rattle.mc_run.specs.AuditReasons.{IsExplanation, IsSearchOn, IsToldWhere, is_remedy, search_by}
+use Rattle.mc_run.specs.AuditReasons.{told_where}
+use Rattle.mc_run.specs.AuditRun.{NotedValue, is_whole, left_out}
 use Rattle.mc_run.specs.AuditText.{Explanation, events_told, explanation_lines, searched_lines}
 use Rattle.mc_run.specs.AuditText.{wrong_lines}
 use Rattle.mc_run.specs.MakeRun.{found_lines}
@@ -70,28 +72,34 @@ besides d flow ttl ended has =
     ap (λ (e : DomainValue). missed_besides (facts e) ended.flight.flow cs x) has.domain
     ∙ ap (λ (n : ℕ). missed_besides (facts d) n cs x) has.flow_flown
 
+-- where routers are left out, what is kept is what is told
+pub kept_told : (whole : Bool) (told kept : List Told) → whole ≡ false
+    → kept ≡ filter (λ t. not (is_remedy t)) told → kept ≡ told_where whole told
+kept_told true told kept part same = absurd cc
+kept_told false told kept part same = same
+
 pub greatest_explained : (v : NotedValue) (flow : ℕ) (x : Flown) (ended : Ended) (told : List Told)
     (found : Option LanSearch) → x ≡ AtGreatest ended → IsFlown v.domain flow x
-    → IsExplained v.domain flow x told
+    → IsToldWhere (is_whole v) v.domain flow x told
     → IsSearchOn (search_by (facts v.domain) v.notes (left_out v) flow ended.flight.flight.carried)
     ended.travel.events.items ended.travel.finding found
-    → IsExplanation v.domain v.notes (left_out v) flow x (explanation_in ended told found)
+    → IsExplanation v.domain v.notes (left_out v) (is_whole v) flow x (explanation_in ended told found)
 greatest_explained v flow x ended told found same flies why search =
-    subst (λ (y : Flown). IsExplanation v.domain v.notes (left_out v) flow y
+    subst (λ (y : Flown). IsExplanation v.domain v.notes (left_out v) (is_whole v) flow y
     (explanation_in ended told found)) (sym same) (record {
-      told = subst (λ (y : Flown). IsExplained v.domain flow y told) same why;
+      told = subst (λ (y : Flown). IsToldWhere (is_whole v) v.domain flow y told) same why;
       search = search;
       also = besides v.domain flow 255 ended (greatest_ended v.domain flow x ended same flies);
     })
 
 pub least_explained : (v : NotedValue) (flow : ℕ) (x : Flown) (greatest least : Ended)
     (told : List Told) → x ≡ AtLeast greatest least → IsFlown v.domain flow x
-    → IsExplained v.domain flow x told
-    → IsExplanation v.domain v.notes (left_out v) flow x (explanation_in least told None)
+    → IsToldWhere (is_whole v) v.domain flow x told
+    → IsExplanation v.domain v.notes (left_out v) (is_whole v) flow x (explanation_in least told None)
 least_explained v flow x greatest least told same flies why =
-    subst (λ (y : Flown). IsExplanation v.domain v.notes (left_out v) flow y
+    subst (λ (y : Flown). IsExplanation v.domain v.notes (left_out v) (is_whole v) flow y
     (explanation_in least told None)) (sym same) (record {
-      told = subst (λ (y : Flown). IsExplained v.domain flow y told) same why;
+      told = subst (λ (y : Flown). IsToldWhere (is_whole v) v.domain flow y told) same why;
       search = refl;
       also = besides v.domain flow (net_of v.domain flow).ttl least
           (least_ended v.domain flow x greatest least same flies);

@@ -262,11 +262,15 @@ same_also whole f flow (flown.AtGreatest ended) = refl
 same_also whole f flow (flown.AtLeast greatest least) = refl
 
 same_explanation : {whole d : DomainValue} → SaysTheSame whole d → (notes : List NotesText)
-    (names : List (List ℕ)) (flow : ℕ) (x : Flown) (e : Explanation)
-    → IsExplanation d notes (left_out_marks d.topology names) flow x e
-    → IsExplanation whole notes (left_out_marks whole.topology names) flow (flown_in whole x) e
-same_explanation {whole = whole} {d = d} same notes names flow x e is = record {
-  told = same_told same flow x e.told is.told;
+    (names : List (List ℕ)) (known : Bool) (flow : ℕ) (x : Flown) (e : Explanation)
+    → IsExplanation d notes (left_out_marks d.topology names) known flow x e
+    → IsExplanation whole notes (left_out_marks whole.topology names) known flow (flown_in whole x) e
+same_explanation {whole = whole} {d = d} same notes names known flow x e is = record {
+  told = record {
+    all = is.told.all;
+    explained = same_told same flow x is.told.all is.told.explained;
+    shown = is.told.shown;
+  };
   search = same_search whole (facts whole) notes (left_out_marks whole.topology names) flow x e.search
       (by_facts (λ f. IsSearchFor f notes (left_out_marks f.topology names) flow x e.search) same
       is.search);
@@ -287,7 +291,8 @@ same_answer {whole = whole} {d = d} same notes names o told flow a is = record {
   flies = same_flown same flow is.flown is.flies;
   examined = is.examined ∙ sym (same_examined_by same flow is.flown);
   checked = same_checked same flow a.examined is.checked;
-  explained = same_explanation same notes names flow is.flown is.explanation is.explained;
+  explained = same_explanation same notes names (length names == 0) flow is.flown is.explanation
+      is.explained;
   wanted = by_facts (λ f. a.wanted ≡ wanting f flow) same is.wanted;
   spelled = by_facts (λ f. a.lines ≡ answer_lines o (length names == 0) f notes told flow is.listed
       a.examined is.explanation a.wanted) same is.spelled;

@@ -1,7 +1,8 @@
 -- A line that says yes stands in what is written exactly where all is well: last, at a line's start.
 use Rattle.std.proofs.Common.{◌≡◌, ℕ, Bool, true, false, List, [], ◌∷◌, ◌++◌, inl, inr, Some, refl}
 use Rattle.std.proofs.Common.{cond, sym, ap, ◌∙◌, append_assoc, arith, Option, Result}
-use Rattle.std.specs.Prelude.{codes, drop, flat_map, slice_index, IfOk, IfSome, IsTrue}
+use Rattle.std.specs.Prelude.{◌==◌, codes, drop, flat_map, length, slice_index, IfOk, IfSome, IsTrue}
+use Rattle.std.proofs.lemmas.Bool.{and_parts, false≢true, ne_eqb}
 use Rattle.json.specs.Print.{escape_byte}
 use Rattle.mc_text.proofs.BundleWords.{Without}
 use Rattle.mc_explain.proofs.FeedLemmas.{plain}
@@ -215,3 +216,19 @@ audit_says_yes o names = line_says_yes o names (codes "verdict yes") (inl refl)
 pub audit_says_yes_object : (o : AuditOptions) (names : List (List ℕ))
     → SaysYesBy yes_object (IsAuditText o names)
 audit_says_yes_object o names = line_says_yes o names yes_object (inr refl)
+
+-- ---- which audits say it
+
+no_name : (names : List (List ℕ)) → (length names == 0) ≡ true → names ≡ []
+no_name [] none = refl
+no_name (name ∷ names) none =
+    let some : (length (name ∷ names) == 0) ≡ false =
+    ne_eqb (length (name ∷ names)) 0 (λ e. omega (arith, e)) in
+    absurd (false≢true (sym some ∙ none))
+
+-- those of whole domains
+pub whole_alone : (names : List (List ℕ)) (files : List FileText) (o : AuditOptions)
+    (written : List ℕ) → IsAuditText o names files true written → names ≡ []
+whole_alone names files o written is =
+    let whole = (and_parts _ _ (sym is.holds.answer)).0 in
+    no_name names (ap (λ (ns : List (List ℕ)). length ns == 0) (sym is.means.without) ∙ whole)

@@ -21,11 +21,11 @@ way_line t told es =
     if is_some (place_in told es) then [] else line_of (tree_data t es (length told))
 
 -- and behind it the flow, by the number of its way, with the LANs that want it
-abbrev pub right_objects : TopologyValue → (told : List Tree) → (number : ℕ) → Flow → Tree
-    → (wanted : List ℕ) → List ℕ
-right_objects t told number f es wanted =
+abbrev pub right_objects : (whole : Bool) → TopologyValue → (told : List Tree) → (number : ℕ) → Flow
+    → Tree → (wanted : List ℕ) → List ℕ
+right_objects whole t told number f es wanted =
     way_line t told es
-    ++ line_of (right_data number f (length es) (place_of (with_tree told es) es)
+    ++ line_of (right_data whole number f (length es) (place_of (with_tree told es) es)
     (map (lan_data t) wanted))
 
 -- ---- a flow that isn't

@@ -1,5 +1,5 @@
 -- What explains what is found of a flow, by the flights of its packets.
-use Rattle.std.specs.Prelude.{◌≡◌, ℕ, Bool, List, [], Option, Some, None}
+use Rattle.std.specs.Prelude.{◌≡◌, ℕ, Bool, true, false, not, List, [], filter, Option, Some, None}
 use Rattle.mc_tables.specs.Notes.{NotesText}
 use Rattle.mc_theory.specs.Events.{Event}
 use Rattle.mc_theory.specs.Findings.{copy_on}
@@ -16,6 +16,9 @@ use Rattle.mc_explain.specs.SearchReach.{IsSearched}
 use Rattle.mc_explain.specs.Searched.{Search}
 use Rattle.mc_explain.specs.WantedText.{missed_besides}
 use Rattle.mc_explain.specs.declared.searching.LanSearch.{LanSearch}
+use Rattle.mc_explain.specs.declared.told.Told.{Told}
+use Rattle.mc_explain.specs.declared.told.Told.TheVariants.{Circle, LeastTtl, OnlyEverySource}
+use Rattle.mc_explain.specs.declared.told.Told.TheVariants.{SentOnto, StoppedAt, TakeOut, Unplaced}
 use Rattle.mc_run.specs.AuditText.{Explanation}
 
 -- the LANs that were missed besides, by the copies of the packet of which it is told
@@ -56,9 +59,32 @@ IsSearchFor d notes left_out flow (AtGreatest ended) search =
     ended.travel.events.items ended.travel.finding search
 IsSearchFor d notes left_out flow (AtLeast greatest least) search = search ≡ None
 
+-- whether it says how a fault can be ended
+abbrev pub is_remedy : Told → Bool
+is_remedy (TakeOut lan router vif least) = true
+is_remedy (SentOnto lan router vif) = false
+is_remedy (Circle from onto router vif) = false
+is_remedy (Unplaced router vif) = false
+is_remedy (OnlyEverySource router vif) = false
+is_remedy (LeastTtl lan least) = false
+is_remedy (StoppedAt router vif threshold ttl) = false
+
+-- All of this, where the whole domain is known. Else no remedy is among it: it would be one of the rows
+-- that were read, and a router that is left out may need what it takes away.
+abbrev pub told_where : (whole : Bool) → List Told → List Told
+told_where true told = told
+told_where false told = filter (λ t. not (is_remedy t)) told
+
+-- what is told of a flow that was examined
+pub record IsToldWhere (whole : Bool) (d : DomainValue) (flow : ℕ) (flown : Flown) (told : List Told)
+    : Type 0 where
+  pub all : List Told
+  pub explained : IsExplained d flow flown all
+  pub shown : told ≡ told_where whole all
+
 -- This explains what was found of a domain's flow, whose packets flew so.
-pub record IsExplanation (d : DomainValue) (notes : List NotesText) (left_out : List Bool) (flow : ℕ)
-    (flown : Flown) (x : Explanation) : Type 0 where
-  pub told : IsExplained d flow flown x.told
+pub record IsExplanation (d : DomainValue) (notes : List NotesText) (left_out : List Bool)
+    (whole : Bool) (flow : ℕ) (flown : Flown) (x : Explanation) : Type 0 where
+  pub told : IsToldWhere whole d flow flown x.told
   pub search : IsSearchFor (facts d) notes left_out flow flown x.search
   pub also : x.also ≡ also_missed (facts d) flow flown

@@ -64,7 +64,8 @@ pub record IsAnswer (v : NotedValue) (o : AuditOptions) (told : List Tree) (flow
   pub flies : IsFlown v.domain flow flown
   pub examined : a.examined ≡ examined_by v.domain flow flown
   pub checked : IsChecked v.domain flow a.examined
-  pub explained : IsExplanation v.domain v.notes (left_out v) flow flown explanation
+  pub explained : IsExplanation v.domain v.notes (left_out v) (is_whole v) flow flown
+      explanation
   pub wanted : a.wanted ≡ wanting (facts v.domain) flow
   pub spelled : a.lines ≡ answer_lines o (is_whole v) (facts v.domain) v.notes told flow listed
       a.examined explanation a.wanted
@@ -157,8 +158,9 @@ abbrev pub SaysWhichAreRight : AuditOptions → (names : List (List ℕ)) → Li
 SaysWhichAreRight o names files all written =
     OfDomain (MeansNoted o names) (λ v. TellsWhichAreRight v o all written) files
 
--- The lines say yes to the flow with so many copies, and so it is: the flow is right, the checker
--- accepts a list of so many entries, and the headline holds with so many named.
+-- The lines say yes to the flow with so many copies, or that no fault is known where routers are left
+-- out, and so it is of the tables that were read: the flow is right, the checker accepts a list of so
+-- many entries, and the headline holds with so many named.
 pub record SaysYesOf (v : NotedValue) (o : AuditOptions) (flow : ℕ) (f : Flow) (lines : List ℕ)
     : Type 0 where
   pub list : Tree
@@ -183,7 +185,8 @@ pub record SaysWhatIsFound (v : NotedValue) (o : AuditOptions) (flow : ℕ) (f :
   pub fault : FindsFault travel
   pub ttl_told : IsTtlOfFault v.domain flow ttl
   pub flies : IsFlown v.domain flow flown
-  pub explained : IsExplanation v.domain v.notes (left_out v) flow flown explanation
+  pub explained : IsExplanation v.domain v.notes (left_out v) (is_whole v) flow flown
+      explanation
   pub spelled : lines ≡ wrong_told o (facts v.domain) v.notes flow f ttl travel explanation
 
 -- This is written of the domain: for each flow in order lines that say the one or the other of it,

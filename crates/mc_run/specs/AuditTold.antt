@@ -27,7 +27,7 @@ unless_left_out faults wanted lines = if is_left_out faults wanted then [] else 
 
 abbrev pub right_by : (json whole : Bool) → TopologyValue → (told : List Tree) → (number : ℕ) → Flow
     → Tree → (wanted : List ℕ) → List ℕ
-right_by true whole t told number f es wanted = right_objects t told number f es wanted
+right_by true whole t told number f es wanted = right_objects whole t told number f es wanted
 right_by false whole t told number f es wanted = right_lines whole t f (length es) wanted
 
 -- what is told of a flow that goes this way, where the whole domain is known, or not

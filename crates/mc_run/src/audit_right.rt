@@ -117,25 +117,28 @@ fn standing_of(domain: &Domain, flow: u32) -> Standing
 fn push_right_objects(
     alloc: Global,
     text: &mut String,
-    domain: &Domain,
+    audited: &AuditedDomain<'_>,
     flow: u32,
     entries: &[Reached],
     copies: u32,
     ways: &mut DifferentTrees,
 ) -> Result<Standing, NoMemory>
-    requires flow { flow < length domain.now.topology.flows }
+    requires flow { flow < length (noted audited.now).domain.topology.flows }
     requires copies { copies ≡ length entries.now }
     requires few { length ways.old < 4096 }
     ensures standing { IfOk result (λ standing.
-        standing ≡ standing_of_right (wanting (facts domain.now) flow)) }
+        standing ≡ standing_of_right (wanting (facts (noted audited.now).domain) flow)) }
     ensures ways { OnOk result (ways.new ≡ with_tree ways.old entries.now) }
     ensures lines { OnOk result ((listed : FlowValue) →
-        slice_get domain.now.topology.flows flow ≡ Some listed →
-        string_bytes text.new ≡ string_bytes text.old ++ right_objects domain.now.topology ways.old
-        flow listed entries.now (wanting (facts domain.now) flow)) }
+        slice_get (noted audited.now).domain.topology.flows flow ≡ Some listed →
+        string_bytes text.new ≡ string_bytes text.old ++ right_objects (is_whole (noted audited.now))
+        (noted audited.now).domain.topology ways.old flow listed entries.now
+        (wanting (facts (noted audited.now).domain) flow)) }
 {
+    let domain = audited.domain;
+    let whole = audited.without.is_empty();
     let number = push_way(alloc, text, domain.topology(), ways, entries)?;
-    push_right_line(alloc, text, domain, flow, copies as usize, number)?;
+    push_right_line(alloc, text, domain, whole, flow, copies as usize, number)?;
     Ok(standing_of(domain, flow))
 }
 
@@ -171,7 +174,7 @@ fn push_right(
         return Ok(Standing::Wanted);
     }
     if options.json {
-        push_right_objects(alloc, text, audited.domain, flow, entries, copies, ways)
+        push_right_objects(alloc, text, audited, flow, entries, copies, ways)
     } else {
         push_right_lines(text, audited, flow, copies)
     }

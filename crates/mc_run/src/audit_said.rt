@@ -10,7 +10,7 @@ use crate::said::Said;
 /// What an audit answers.
 #[derive(Clone, Copy, Debug, PartialEq, Eq)]
 pub struct AuditAnswer {
-    /// Whether every listed flow is right.
+    /// Whether every listed flow is right, and no router is left out.
     pub yes: bool,
     /// How many flows are right and wanted by no LAN.
     pub unwanted: u32,
@@ -19,7 +19,7 @@ pub struct AuditAnswer {
 /// What an audit has to say.
 #[derive(Drop)]
 pub(crate) struct AuditSaid {
-    /// The text, and whether every listed flow is right.
+    /// The text, and whether every listed flow is right and no router is left out.
     pub(crate) said: Said,
     /// How many flows are right and wanted by no LAN.
     pub(crate) unwanted: u32,

@@ -1,6 +1,6 @@
 //! What follows from the definitions of the runs alone, for whoever runs one after the other.
 
-ghost use Rattle.std.specs.Prelude.{◌≡◌, ◌≤◌, ◌++◌, ◌⊎◌, ℕ, Bool, true, List, Ok, Option, Some};
+ghost use Rattle.std.specs.Prelude.{◌≡◌, ◌≤◌, ◌++◌, ◌⊎◌, ℕ, Bool, true, List, [], Ok, Option, Some};
 ghost use Rattle.std.specs.Prelude.{codes, if◌then◌else◌, is_some, length, slice_get};
 ghost use Rattle.mc_text.specs.Bundle.{PartText, IsBundle};
 ghost use Rattle.mc_theory.specs.Certificates.{IsAccepted};
@@ -66,7 +66,7 @@ pub fn an_audit_says_one_thing()
 }
 
 /// The line `verdict yes`, by which a reader knows a yes, stands in what is written exactly where
-/// every flow's list is accepted.
+/// every flow's list is accepted, and in an audit where no router is left out.
 pub fn the_line_that_says_yes()
     // Where all are, `check` writes it at a line's start.
     ensures says { (text written old : List ℕ) → IsVerdictText text true written
@@ -89,4 +89,7 @@ pub fn the_line_that_says_yes()
         → written ≡ front ++ (words ++ rest)
         → (all ≡ true) × (words ≡ (if o.json then yes_object else codes "verdict yes"))
         × (rest ≡ codes "\n") }
+    // Where a router is left out there is none.
+    ensures audit_whole { (names : List (List ℕ)) (files : List FileText) (o : AuditOptions)
+        (written : List ℕ) → IsAuditText o names files true written → names ≡ [] }
 {}

@@ -12,5 +12,5 @@ push_line-requires c =
     let plain = subst ArePlain (sym c.in_ok-wanted.ensures)
     (lans-plain view.domain.topology (wanting (facts view.domain) view.flow)) in
     ap has_float c.in_ok-value.ensures
-    ∙ right-plain c.args.flow c.flow-listed.result.now c.args.copies c.args.tree
+    ∙ right-plain c.args.whole c.args.flow c.flow-listed.result.now c.args.copies c.args.tree
     (map data_of c.in_ok-wanted.wanted.items) plain

@@ -31,9 +31,9 @@ Recommends: python3 (>= 3.11), openssh-client, graphviz
 Suggests: tcpdump, prometheus-node-exporter
 Description: auditor of the multicast forwarding state of a domain of Linux routers
  It reads the multicast tables of all routers, and what the hosts of each LAN
- want, and says whether each stream reaches every LAN that wants it, once, and
- nothing else: no loop, no duplicate, no silent LAN. With tools that collect
- the tables, draft the topology, show an audit as a page and watch a domain.
+ want, and says whether each stream reaches every LAN that wants it: no loop,
+ no duplicate, no silent LAN. With tools that collect the tables, draft the
+ topology, show an audit as a page and watch a domain.
 END
 find "$room" -type d -exec chmod 755 {} +
 dpkg-deb --root-owner-group --build "$room" "out/mcaudit_${version}_amd64.deb"

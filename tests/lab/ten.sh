@@ -79,16 +79,21 @@ start_members() {
     done
 }
 
-# All is right: what audit says, and what the members count.
-expect_right() {
-    expect 0 count_packets <<'END'
-m5 239.1.2.3 3
+# So many packets of 239.1.2.3 come to m5, m7 and m9 of three that are sent, and each of 239.1.2.4 to m5 alone.
+expect_counts() {
+    expect 0 count_packets <<END
+m5 239.1.2.3 $1
 m5 239.1.2.4 3
-m7 239.1.2.3 3
+m7 239.1.2.3 $2
 m7 239.1.2.4 0
-m9 239.1.2.3 3
+m9 239.1.2.3 $3
 m9 239.1.2.4 0
 END
+}
+
+# All is right: what audit says, and what the members count.
+expect_right() {
+    expect_counts 3 3 3
     collect
     expect 0 "$mcaudit" audit "$site" <<'END'
 flow 10.77.0.50 239.1.2.3 ttl 16 yes copies 9
@@ -163,14 +168,7 @@ END
 echo '- Duplicate: r3 forwards 239.1.2.3 as well, and r5 with it. Each packet comes twice from l4 on.'
 change_rows r5 add eth0 "$sender" 239.1.2.3 eth1
 change_rows r3 add eth0 "$sender" 239.1.2.3 eth1
-expect 0 count_packets <<'END'
-m5 239.1.2.3 6
-m5 239.1.2.4 3
-m7 239.1.2.3 6
-m7 239.1.2.4 0
-m9 239.1.2.3 6
-m9 239.1.2.4 0
-END
+expect_counts 6 6 6
 expect 1 watch_once <<'END'
 TIME: verdict no, flows 2, right 1, wrong 1, unwanted 0, unlisted 0
 wrong: 10.77.0.50 239.1.2.3 Duplicate 10.77.4.0-24
@@ -195,14 +193,7 @@ END
 make_page duplicate 1
 echo '- The remedy that is told: eth1 out of the row of r5.'
 change_rows r5 remove eth0 "$sender" 239.1.2.3 eth1
-expect 0 count_packets <<'END'
-m5 239.1.2.3 3
-m5 239.1.2.4 3
-m7 239.1.2.3 3
-m7 239.1.2.4 0
-m9 239.1.2.3 3
-m9 239.1.2.4 0
-END
+expect_counts 3 3 3
 collect
 "$mcaudit" audit "$site" > "$scratch/audited" || fail "after the remedy: $(cat "$scratch/audited")"
 cat "$scratch/audited"
@@ -213,14 +204,7 @@ change_rows r3 remove eth0 "$sender" 239.1.2.3 eth1
 echo '- Loop: r5 sends 239.1.2.3 back onto l3, and r3 onto l1.'
 change_rows r5 add eth1 "$sender" 239.1.2.3 eth0
 change_rows r3 add eth1 "$sender" 239.1.2.3 eth0
-expect 0 count_packets <<'END'
-m5 239.1.2.3 9
-m5 239.1.2.4 3
-m7 239.1.2.3 9
-m7 239.1.2.4 0
-m9 239.1.2.3 6
-m9 239.1.2.4 0
-END
+expect_counts 9 9 6
 collect
 expect 1 "$mcaudit" audit "$site" --faults <<'END'
 flow 10.77.0.50 239.1.2.3 ttl 16 no certificate
@@ -237,14 +221,7 @@ END
 make_page loop 1
 echo '- The remedy that is told: eth0 out of the row of r3.'
 change_rows r3 remove eth1 "$sender" 239.1.2.3 eth0
-expect 0 count_packets <<'END'
-m5 239.1.2.3 3
-m5 239.1.2.4 3
-m7 239.1.2.3 3
-m7 239.1.2.4 0
-m9 239.1.2.3 3
-m9 239.1.2.4 0
-END
+expect_counts 3 3 3
 collect
 "$mcaudit" audit "$site" > "$scratch/audited" || fail "after the remedy: $(cat "$scratch/audited")"
 cat "$scratch/audited"
@@ -271,14 +248,7 @@ expect_right
 
 echo '- Missed: the row of r8 has lost eth1. m7 and m9 get nothing.'
 change_rows r8 remove eth0 "$sender" 239.1.2.3 eth1
-expect 0 count_packets <<'END'
-m5 239.1.2.3 3
-m5 239.1.2.4 3
-m7 239.1.2.3 0
-m7 239.1.2.4 0
-m9 239.1.2.3 0
-m9 239.1.2.4 0
-END
+expect_counts 3 0 0
 collect
 expect 1 "$mcaudit" audit "$site" --faults <<'END'
 flow 10.77.0.50 239.1.2.3 ttl 16 no certificate
@@ -326,25 +296,11 @@ verdict no
 END
 make_page threshold 1
 ttl=18
-expect 0 count_packets <<'END'
-m5 239.1.2.3 3
-m5 239.1.2.4 3
-m7 239.1.2.3 3
-m7 239.1.2.4 0
-m9 239.1.2.3 0
-m9 239.1.2.4 0
-END
+expect_counts 3 3 0
 echo '- The remedy of the guide: the source sends with 19, and the topology says so.'
 ttl=19
 sed -i 's/group = "239.1.2.3", ttl = 16/group = "239.1.2.3", ttl = 19/' "$site/topology"
-expect 0 count_packets <<'END'
-m5 239.1.2.3 3
-m5 239.1.2.4 3
-m7 239.1.2.3 3
-m7 239.1.2.4 0
-m9 239.1.2.3 3
-m9 239.1.2.4 0
-END
+expect_counts 3 3 3
 collect
 expect 0 "$mcaudit" audit "$site" <<'END'
 flow 10.77.0.50 239.1.2.3 ttl 19 yes copies 9

@@ -88,7 +88,7 @@ _mcaudit_site() {
         mapfile -t COMPREPLY < <(compgen -W 'init lans --version --help' -- "$word")
     elif [ "${COMP_WORDS[1]}" = init ]; then
         _mcaudit_tool "$word" "${COMP_WORDS[COMP_CWORD - 1]}" directory \
-            --routers --ssh --ttl --wait --tries --static --ask --empty --help
+            --routers --ssh --ttl --wait --tries --static --ask --ask-routers --empty --help
     else
         _mcaudit_tool "$word" "${COMP_WORDS[COMP_CWORD - 1]}" directory --help
     fi
@@ -96,7 +96,7 @@ _mcaudit_site() {
 
 _mcaudit_reports() {
     _mcaudit_tool "${COMP_WORDS[COMP_CWORD]}" "${COMP_WORDS[COMP_CWORD - 1]}" file \
-        -o --by --capture --text --static --all --empty --ask --tries --wait --slack --routers --ssh \
+        -o --by --capture --text --static --all --empty --ask --ask-routers --tries --wait --slack --routers --ssh \
         --version --help
 }
 

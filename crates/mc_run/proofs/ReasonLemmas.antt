@@ -18,7 +18,6 @@ use Rattle.mc_maker.specs.Examined.{first_choices}
 use Rattle.mc_maker.specs.Flown.{HasEnded, IsFlown}
 use Rattle.mc_maker.specs.declared.flown.Flown.{Flown}
 use Rattle.mc_maker.specs.declared.flown.Flown.TheVariants.{AtGreatest, AtLeast}
-use Rattle.mc_explain.specs.Explained.{IsExplained}
 use Rattle.mc_explain.specs.ExplanationText.{told_lines}
 use Rattle.mc_explain.specs.WantedText.{missed_besides, missed_too_text}
 use Rattle.mc_explain.specs.declared.searching.LanSearch.{LanSearch}

@@ -44,9 +44,12 @@ fn interface_value(
     ensures { IfOk result (λ value. data_of value
         ≡ interface_data topology.now router device.now (data_of lan) (data_of vif)) }
 {
-    let device = device_name(alloc, device)?;
-    let router = topology.router_name_or_empty(router);
-    json!(in alloc; {"device": device, "lan": lan, "router": router, "vif": vif})
+    json!(in alloc; {
+        "device": device_name(alloc, device)?,
+        "lan": lan,
+        "router": topology.router_name_or_empty(router),
+        "vif": vif
+    })
 }
 
 /// Tells a vif, if its table has a line for it.
@@ -194,9 +197,10 @@ fn source_value(alloc: Global, topology: &Topology, source: Source) -> Result<Va
     ensures { IfOk result (λ value. data_of value ≡ source_data topology.now source) }
 {
     let Source { address, lan } = source;
-    let address = format!(in alloc; "{address}")?;
-    let lan = topology.lan_name_or_empty(lan);
-    json!(in alloc; {"address": address, "lan": lan})
+    json!(in alloc; {
+        "address": format!(in alloc; "{address}")?,
+        "lan": topology.lan_name_or_empty(lan)
+    })
 }
 
 /// All sources, each with its LAN.
@@ -228,15 +232,11 @@ fn parts_value(alloc: Global, domain: &Domain) -> Result<Value, AllocError>
     ensures { IfOk result (λ value. data_of value ≡ parts_data (facts domain.now)) }
 {
     let topology = domain.topology();
-    let interfaces = interface_values(alloc, domain)?;
-    let lans = lan_values(alloc, topology)?;
-    let routers = router_values(alloc, topology)?;
-    let sources = source_values(alloc, topology)?;
     json!(in alloc; {
-        "interfaces": interfaces,
-        "lans": lans,
-        "routers": routers,
-        "sources": sources
+        "interfaces": interface_values(alloc, domain)?,
+        "lans": lan_values(alloc, topology)?,
+        "routers": router_values(alloc, topology)?,
+        "sources": source_values(alloc, topology)?
     })
 }
 
@@ -245,9 +245,11 @@ fn domain_value(alloc: Global, domain: &Domain, words: &[String]) -> Result<Valu
     ensures { IfOk result (λ value. data_of value
         ≡ domain_data (facts domain.now) (map string_bytes words.now)) }
 {
-    let parts = parts_value(alloc, domain)?;
-    let words = word_values(alloc, words)?;
-    json!(in alloc; {"domain": parts, "format": 1u8, "words": words})
+    json!(in alloc; {
+        "domain": parts_value(alloc, domain)?,
+        "format": 1u8,
+        "words": word_values(alloc, words)?
+    })
 }
 
 /// Writes the first line: a domain, and the words of the call.

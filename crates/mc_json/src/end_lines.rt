@@ -30,10 +30,13 @@ fn unlisted_value(
         ≡ unlisted_data topology.now pair.now.0.1 pair.now.0.0 pair.now.1) }
 {
     let (group, source) = (pair.group(), pair.source());
-    let routers = router_names(alloc, topology, pair.routers())?;
-    let group = format!(in alloc; "{group}")?;
-    let source = format!(in alloc; "{source}")?;
-    json!(in alloc; {"unlisted": {"group": group, "routers": routers, "source": source}})
+    json!(in alloc; {
+        "unlisted": {
+            "group": format!(in alloc; "{group}")?,
+            "routers": router_names(alloc, topology, pair.routers())?,
+            "source": format!(in alloc; "{source}")?
+        }
+    })
 }
 
 /// Writes their line.
@@ -109,8 +112,7 @@ fn without_value(
 ) -> Result<Value, AllocError>
     ensures { IfOk result (λ value. data_of value ≡ without_data topology.now routers.now) }
 {
-    let routers = router_names(alloc, topology, routers)?;
-    json!(in alloc; {"without": routers})
+    json!(in alloc; {"without": router_names(alloc, topology, routers)?})
 }
 
 /// Whether a router is marked as left out. Those beyond the marks are not.

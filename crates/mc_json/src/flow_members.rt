@@ -28,12 +28,12 @@ pub(crate) fn flow_members(
         ttl,
         ..
     } = *flow;
-    let group = format!(in alloc; "{group}")?;
-    let source = format!(in alloc; "{source}")?;
     let number = u64::from(number) + 1;
     let mut fields = Map::new(alloc);
     put(&mut fields, alloc, "flow", Value::from(number))?;
+    let group = format!(in alloc; "{group}")?;
     put(&mut fields, alloc, "group", Value::from(group))?;
+    let source = format!(in alloc; "{source}")?;
     put(&mut fields, alloc, "source", Value::from(source))?;
     put(&mut fields, alloc, "ttl", Value::from(ttl))?;
     Ok(fields)

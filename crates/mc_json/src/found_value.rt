@@ -21,8 +21,12 @@ fn no_copies(
         ≡ no_copies_data topology.now event.now outcome.now) }
 {
     let (vif, ttl) = (event.vif, event.ttl);
-    let router = topology.router_name_or_empty(event.router);
-    json!(in alloc; {"outcome": outcome, "router": router, "ttl": ttl, "vif": vif})
+    json!(in alloc; {
+        "outcome": outcome,
+        "router": topology.router_name_or_empty(event.router),
+        "ttl": ttl,
+        "vif": vif
+    })
 }
 
 /// A handling.
@@ -35,11 +39,10 @@ fn event_value(alloc: Global, topology: &Topology, event: &Event) -> Result<Valu
         Outcome::OtherVif => no_copies(alloc, topology, event, "other vif"),
         Outcome::Sent { copies, strays } => {
             let (vif, ttl) = (event.vif, event.ttl);
-            let router = topology.router_name_or_empty(event.router);
             json!(in alloc; {
                 "copies": copies,
                 "outcome": "sent",
-                "router": router,
+                "router": topology.router_name_or_empty(event.router),
                 "strays": strays,
                 "ttl": ttl,
                 "vif": vif
@@ -68,8 +71,7 @@ pub(crate) fn event_values(
 fn at_lan(alloc: Global, topology: &Topology, kind: &str, lan: LanNo) -> Result<Value, AllocError>
     ensures { IfOk result (λ value. data_of value ≡ at_lan topology.now kind.now lan) }
 {
-    let lan = topology.lan_name_or_empty(lan);
-    json!(in alloc; {"kind": kind, "lan": lan})
+    json!(in alloc; {"kind": kind, "lan": topology.lan_name_or_empty(lan)})
 }
 
 /// A finding.

@@ -62,8 +62,7 @@ fn tree_value(
 ) -> Result<Value, AllocError>
     ensures { IfOk result (λ value. data_of value ≡ tree_data topology.now entries.now tree) }
 {
-    let entries = reached_values(alloc, topology, entries)?;
-    json!(in alloc; {"entries": entries, "tree": tree})
+    json!(in alloc; {"entries": reached_values(alloc, topology, entries)?, "tree": tree})
 }
 
 /// Writes the line of a way with this number, by the names of the topology.
@@ -111,10 +110,10 @@ fn right_value(
         ≡ right_data whole number flow.now copies tree (map data_of wanted.items)) }
 {
     let mut fields = flow_members(alloc, number, flow)?;
+    put(&mut fields, alloc, "wanted", Value::from(wanted))?;
     put(&mut fields, alloc, "copies", Value::from(copies))?;
     put(&mut fields, alloc, "right", mark_of(whole))?;
     put(&mut fields, alloc, "tree", Value::from(tree))?;
-    put(&mut fields, alloc, "wanted", Value::from(wanted))?;
     Ok(Value::from(fields))
 }
 

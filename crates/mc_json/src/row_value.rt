@@ -41,8 +41,11 @@ fn pair_value(
         ≡ pair_data (facts view.now.domain) router (oif.vif, oif.threshold)) }
 {
     let Oif { vif, threshold } = oif;
-    let device = device_value(alloc, view, router, vif)?;
-    json!(in alloc; {"device": device, "threshold": threshold, "vif": vif})
+    json!(in alloc; {
+        "device": device_value(alloc, view, router, vif)?,
+        "threshold": threshold,
+        "vif": vif
+    })
 }
 
 /// The outgoing vifs of a router's row.
@@ -81,17 +84,12 @@ fn entry_value(
     ensures { IfOk result (λ value. data_of value ≡ entry_data (facts view.now.domain)
         of.router of.source of.group incoming (pairs_of oifs.now)) }
 {
-    let device = device_value(alloc, view, of.router, incoming)?;
-    let to = pair_values(alloc, view, of.router, oifs)?;
-    let source = address(alloc, of.source)?;
-    let group = address(alloc, of.group)?;
-    let router = view.topology().router_name_or_empty(of.router);
     json!(in alloc; {
-        "from": {"device": device, "vif": incoming},
-        "group": group,
-        "router": router,
-        "source": source,
-        "to": to
+        "from": {"device": device_value(alloc, view, of.router, incoming)?, "vif": incoming},
+        "group": address(alloc, of.group)?,
+        "router": view.topology().router_name_or_empty(of.router),
+        "source": address(alloc, of.source)?,
+        "to": pair_values(alloc, view, of.router, oifs)?
     })
 }
 

@@ -35,8 +35,7 @@ fn lan_alone(
 ) -> Result<Value, AllocError>
     ensures { IfOk result (λ value. data_of value ≡ lan_alone topology.now kind.now lan) }
 {
-    let lan = topology.lan_name_or_empty(lan);
-    json!(in alloc; {"kind": kind, "lan": lan})
+    json!(in alloc; {"kind": kind, "lan": topology.lan_name_or_empty(lan)})
 }
 
 /// What is told of a router alone.
@@ -49,9 +48,11 @@ fn router_alone(
 ) -> Result<Value, AllocError>
     ensures { IfOk result (λ value. data_of value ≡ router_alone topology.now kind.now lan router) }
 {
-    let lan = topology.lan_name_or_empty(lan);
-    let router = topology.router_name_or_empty(router);
-    json!(in alloc; {"kind": kind, "lan": lan, "router": router})
+    json!(in alloc; {
+        "kind": kind,
+        "lan": topology.lan_name_or_empty(lan),
+        "router": topology.router_name_or_empty(router)
+    })
 }
 
 /// The device of an interface of the topology, empty for one that it hasn't.
@@ -77,10 +78,12 @@ fn with_device(
     ensures { IfOk result (λ value. data_of value
         ≡ with_device topology.now kind.now lan router interface) }
 {
-    let device = interface_name(alloc, topology, interface)?;
-    let lan = topology.lan_name_or_empty(lan);
-    let router = topology.router_name_or_empty(router);
-    json!(in alloc; {"device": device, "kind": kind, "lan": lan, "router": router})
+    json!(in alloc; {
+        "device": interface_name(alloc, topology, interface)?,
+        "kind": kind,
+        "lan": topology.lan_name_or_empty(lan),
+        "router": topology.router_name_or_empty(router)
+    })
 }
 
 /// Which row for every source a router has.
@@ -93,11 +96,13 @@ fn every_source(
     ensures { IfOk result (λ value. data_of value ≡ every_source_line (facts by.now.view.now.domain)
         by.now.notes.now by.now.flow.now lan router) }
 {
-    let row = every_source_value(alloc, by.view, by.notes, by.flow.group, router)?;
     let topology = by.view.topology();
-    let lan = topology.lan_name_or_empty(lan);
-    let router = topology.router_name_or_empty(router);
-    json!(in alloc; {"kind": "every_source", "lan": lan, "router": router, "row": row})
+    json!(in alloc; {
+        "kind": "every_source",
+        "lan": topology.lan_name_or_empty(lan),
+        "router": topology.router_name_or_empty(router),
+        "row": every_source_value(alloc, by.view, by.notes, by.flow.group, router)?
+    })
 }
 
 /// Why a vif of a table that a row takes from is placed on no LAN.
@@ -138,20 +143,14 @@ fn from_unplaced(
     ensures { IfOk result (λ value. data_of value ≡ from_unplaced_line (facts by.now.view.now.domain)
         by.now.flow.now ((net_in by.now.view.now).row router) lan router) }
 {
-    let from_device = incoming_device(alloc, by.view, router)?;
-    let from_vif = incoming_vif(by.view, router);
-    let row = row_value(alloc, by.view, by.flow, router)?;
-    let kind = from_kind(by.view, router);
     let topology = by.view.topology();
-    let lan = topology.lan_name_or_empty(lan);
-    let router = topology.router_name_or_empty(router);
     json!(in alloc; {
-        "from_device": from_device,
-        "from_vif": from_vif,
-        "kind": kind,
-        "lan": lan,
-        "router": router,
-        "row": row
+        "from_device": incoming_device(alloc, by.view, router)?,
+        "from_vif": incoming_vif(by.view, router),
+        "kind": from_kind(by.view, router),
+        "lan": topology.lan_name_or_empty(lan),
+        "router": topology.router_name_or_empty(router),
+        "row": row_value(alloc, by.view, by.flow, router)?
     })
 }
 
@@ -168,20 +167,15 @@ fn does_not_send(
     ensures { IfOk result (λ value. data_of value ≡ does_not_send_line (facts by.now.view.now.domain)
         by.now.flow.now ((net_in by.now.view.now).row router) lan router vif from carried) }
 {
-    let device = device_value(alloc, by.view, router, vif)?;
-    let row = row_value(alloc, by.view, by.flow, router)?;
     let topology = by.view.topology();
-    let from = topology.lan_name_or_empty(from);
-    let lan = topology.lan_name_or_empty(lan);
-    let router = topology.router_name_or_empty(router);
     json!(in alloc; {
         "carried": carried,
-        "device": device,
-        "from_lan": from,
+        "device": device_value(alloc, by.view, router, vif)?,
+        "from_lan": topology.lan_name_or_empty(from),
         "kind": "does_not_send",
-        "lan": lan,
-        "router": router,
-        "row": row,
+        "lan": topology.lan_name_or_empty(lan),
+        "router": topology.router_name_or_empty(router),
+        "row": row_value(alloc, by.view, by.flow, router)?,
         "vif": vif
     })
 }
@@ -199,17 +193,13 @@ fn stopped(
     ensures { IfOk result (λ value. data_of value ≡ stopped_line (facts by.now.view.now.domain)
         by.now.flow.now ((net_in by.now.view.now).row router) lan router vif threshold ttl) }
 {
-    let device = device_value(alloc, by.view, router, vif)?;
-    let row = row_value(alloc, by.view, by.flow, router)?;
     let topology = by.view.topology();
-    let lan = topology.lan_name_or_empty(lan);
-    let router = topology.router_name_or_empty(router);
     json!(in alloc; {
-        "device": device,
+        "device": device_value(alloc, by.view, router, vif)?,
         "kind": "stopped",
-        "lan": lan,
-        "router": router,
-        "row": row,
+        "lan": topology.lan_name_or_empty(lan),
+        "router": topology.router_name_or_empty(router),
+        "row": row_value(alloc, by.view, by.flow, router)?,
         "threshold": threshold,
         "ttl": ttl,
         "vif": vif
@@ -228,23 +218,16 @@ fn waits_for(
     ensures { IfOk result (λ value. data_of value ≡ waits_for_line (facts by.now.view.now.domain)
         by.now.flow.now ((net_in by.now.view.now).row router) lan router vif from) }
 {
-    let from_device = incoming_device(alloc, by.view, router)?;
-    let from_vif = incoming_vif(by.view, router);
-    let device = device_value(alloc, by.view, router, vif)?;
-    let row = row_value(alloc, by.view, by.flow, router)?;
     let topology = by.view.topology();
-    let from = topology.lan_name_or_empty(from);
-    let lan = topology.lan_name_or_empty(lan);
-    let router = topology.router_name_or_empty(router);
     json!(in alloc; {
-        "device": device,
-        "from_device": from_device,
-        "from_lan": from,
-        "from_vif": from_vif,
+        "device": device_value(alloc, by.view, router, vif)?,
+        "from_device": incoming_device(alloc, by.view, router)?,
+        "from_lan": topology.lan_name_or_empty(from),
+        "from_vif": incoming_vif(by.view, router),
         "kind": "waits_for",
-        "lan": lan,
-        "router": router,
-        "row": row,
+        "lan": topology.lan_name_or_empty(lan),
+        "router": topology.router_name_or_empty(router),
+        "row": row_value(alloc, by.view, by.flow, router)?,
         "vif": vif
     })
 }
@@ -258,9 +241,11 @@ fn expected(
 ) -> Result<Value, AllocError>
     ensures { IfOk result (λ value. data_of value ≡ expected_line topology.now lan routers.now) }
 {
-    let routers = router_names(alloc, topology, routers)?;
-    let lan = topology.lan_name_or_empty(lan);
-    json!(in alloc; {"kind": "expected_from_here", "lan": lan, "routers": routers})
+    json!(in alloc; {
+        "kind": "expected_from_here",
+        "lan": topology.lan_name_or_empty(lan),
+        "routers": router_names(alloc, topology, routers)?
+    })
 }
 
 /// A line of a search.
@@ -364,8 +349,7 @@ fn reach_value(
 ) -> Result<Value, AllocError>
     ensures { IfOk result (λ value. data_of value ≡ reach_line topology.now kind.now routers.now) }
 {
-    let routers = router_names(alloc, topology, routers)?;
-    json!(in alloc; {"kind": kind, "routers": routers})
+    json!(in alloc; {"kind": kind, "routers": router_names(alloc, topology, routers)?})
 }
 
 /// Tells what a search comes to, and its lines.

@@ -57,17 +57,13 @@ fn sent_onto(
     ensures { IfOk result (λ value. data_of value ≡ sent_onto_data (facts by.now.view.now.domain)
         by.now.flow.now ((net_in by.now.view.now).row router) lan router vif) }
 {
-    let device = device_value(alloc, by.view, router, vif)?;
-    let row = row_value(alloc, by.view, by.flow, router)?;
     let topology = by.view.topology();
-    let lan = topology.lan_name_or_empty(lan);
-    let router = topology.router_name_or_empty(router);
     json!(in alloc; {
-        "device": device,
+        "device": device_value(alloc, by.view, router, vif)?,
         "kind": "sent_onto",
-        "lan": lan,
-        "router": router,
-        "row": row,
+        "lan": topology.lan_name_or_empty(lan),
+        "router": topology.router_name_or_empty(router),
+        "row": row_value(alloc, by.view, by.flow, router)?,
         "vif": vif
     })
 }
@@ -84,23 +80,16 @@ fn circle(
     ensures { IfOk result (λ value. data_of value ≡ circle_data (facts by.now.view.now.domain)
         by.now.flow.now ((net_in by.now.view.now).row router) from onto router vif) }
 {
-    let from_device = incoming_device(alloc, by.view, router)?;
-    let from_vif = incoming_vif(by.view, router);
-    let device = device_value(alloc, by.view, router, vif)?;
-    let row = row_value(alloc, by.view, by.flow, router)?;
     let topology = by.view.topology();
-    let from = topology.lan_name_or_empty(from);
-    let onto = topology.lan_name_or_empty(onto);
-    let router = topology.router_name_or_empty(router);
     json!(in alloc; {
-        "from_device": from_device,
-        "from_lan": from,
-        "from_vif": from_vif,
+        "from_device": incoming_device(alloc, by.view, router)?,
+        "from_lan": topology.lan_name_or_empty(from),
+        "from_vif": incoming_vif(by.view, router),
         "kind": "circle",
-        "router": router,
-        "row": row,
-        "to_device": device,
-        "to_lan": onto,
+        "router": topology.router_name_or_empty(router),
+        "row": row_value(alloc, by.view, by.flow, router)?,
+        "to_device": device_value(alloc, by.view, router, vif)?,
+        "to_lan": topology.lan_name_or_empty(onto),
         "to_vif": vif
     })
 }
@@ -118,16 +107,13 @@ fn take_out(
         by.now.flow.now lan router vif least) }
 {
     let ttl = by.flow.ttl;
-    let device = device_value(alloc, by.view, router, vif)?;
     let topology = by.view.topology();
-    let lan = topology.lan_name_or_empty(lan);
-    let router = topology.router_name_or_empty(router);
     json!(in alloc; {
-        "device": device,
+        "device": device_value(alloc, by.view, router, vif)?,
         "kind": "take_out",
-        "lan": lan,
+        "lan": topology.lan_name_or_empty(lan),
         "least": least,
-        "router": router,
+        "router": topology.router_name_or_empty(router),
         "ttl": ttl,
         "vif": vif
     })
@@ -167,10 +153,13 @@ fn unplaced(
 ) -> Result<Value, AllocError>
     ensures { IfOk result (λ value. data_of value ≡ unplaced_data (facts view.now.domain) router vif) }
 {
-    let device = device_value(alloc, view, router, vif)?;
     let kind = unplaced_kind(view, router, vif);
-    let router = view.topology().router_name_or_empty(router);
-    json!(in alloc; {"device": device, "kind": kind, "router": router, "vif": vif})
+    json!(in alloc; {
+        "device": device_value(alloc, view, router, vif)?,
+        "kind": kind,
+        "router": view.topology().router_name_or_empty(router),
+        "vif": vif
+    })
 }
 
 /// The row that sent the copy.
@@ -178,8 +167,7 @@ fn row_alone(alloc: Global, by: &Telling<'_>, router: RouterNo) -> Result<Value,
     ensures { IfOk result (λ value. data_of value ≡ row_alone_data (facts by.now.view.now.domain)
         by.now.flow.now ((net_in by.now.view.now).row router) router) }
 {
-    let row = row_value(alloc, by.view, by.flow, router)?;
-    json!(in alloc; {"kind": "row", "row": row})
+    json!(in alloc; {"kind": "row", "row": row_value(alloc, by.view, by.flow, router)?})
 }
 
 /// With which TTL a LAN is reached.
@@ -188,8 +176,12 @@ fn least_ttl(alloc: Global, by: &Telling<'_>, lan: LanNo, least: u8) -> Result<V
         by.now.flow.now lan least) }
 {
     let ttl = by.flow.ttl;
-    let lan = by.view.topology().lan_name_or_empty(lan);
-    json!(in alloc; {"kind": "least_ttl", "lan": lan, "least": least, "ttl": ttl})
+    json!(in alloc; {
+        "kind": "least_ttl",
+        "lan": by.view.topology().lan_name_or_empty(lan),
+        "least": least,
+        "ttl": ttl
+    })
 }
 
 /// By which row for every source a copy was met.
@@ -202,14 +194,11 @@ fn only_every_source(
     ensures { IfOk result (λ value. data_of value ≡ only_every_source_data
         (facts by.now.view.now.domain) by.now.notes.now by.now.flow.now router vif) }
 {
-    let device = device_value(alloc, by.view, router, vif)?;
-    let row = every_source_value(alloc, by.view, by.notes, by.flow.group, router)?;
-    let router = by.view.topology().router_name_or_empty(router);
     json!(in alloc; {
-        "device": device,
+        "device": device_value(alloc, by.view, router, vif)?,
         "kind": "only_every_source",
-        "router": router,
-        "row": row,
+        "router": by.view.topology().router_name_or_empty(router),
+        "row": every_source_value(alloc, by.view, by.notes, by.flow.group, router)?,
         "vif": vif
     })
 }
@@ -226,12 +215,10 @@ fn stopped_at(
     ensures { IfOk result (λ value. data_of value ≡ stopped_at_data (facts view.now.domain)
         router vif threshold ttl) }
 {
-    let device = device_value(alloc, view, router, vif)?;
-    let router = view.topology().router_name_or_empty(router);
     json!(in alloc; {
-        "device": device,
+        "device": device_value(alloc, view, router, vif)?,
         "kind": "stopped_at",
-        "router": router,
+        "router": view.topology().router_name_or_empty(router),
         "threshold": threshold,
         "ttl": ttl,
         "vif": vif

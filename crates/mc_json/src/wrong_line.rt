@@ -1,14 +1,18 @@
 //! The line of a flow that isn't right.
 
-ghost use Rattle.std.specs.Prelude.{◌≡◌, ◌<◌, ◌++◌, IfOk, OnOk, None, Some, false, length, map, slice_get};
+ghost use Rattle.std.specs.Prelude.{◌≡◌, ◌<◌, ◌+◌, ◌∷◌, ◌++◌, [], IfOk, OnOk, None, Some, codes, false};
+ghost use Rattle.std.specs.Prelude.{length, map, slice_get};
 ghost use Rattle.std.specs.String.{string_bytes};
+ghost use Rattle.serde_json.specs.Data.{boolean, string};
 ghost use Rattle.serde_json.specs.View.{items_of, members_view, view as data_of};
 ghost use Rattle.serde_json.specs.Written.{items_have_float};
+ghost use Rattle.mc_text.specs.Addr.{dotted};
 ghost use Rattle.mc_topology.specs.declared.flow.Flow.{Flow as FlowValue};
 ghost use Rattle.mc_forward.specs.ListedTables.{facts};
 ghost use Rattle.mc_explain.specs.WantedText.{missed_besides};
-ghost use Rattle.mc_json.specs.FlowData.{found_line, wrong_data, wrong_members, wrong_of};
-ghost use Rattle.mc_json.specs.RowData.{members};
+ghost use Rattle.mc_json.specs.FlowData.{found_line, wrong_data, wrong_of};
+ghost use Rattle.mc_json.specs.RowData.{count_data, list_data, members};
+ghost use Rattle.mc_json.specs.ToldData.{lan_data};
 ghost use Rattle.mc_json.specs.WhyData.{why_data};
 
 use crate::flow_members::flow_members;
@@ -28,43 +32,40 @@ use mc_topology::Flow;
 use serde_json::{Map, Value, put};
 use std::alloc::{AllocError, Global};
 
-/// What is told of a flow that isn't right, besides the events.
-#[derive(Drop)]
-struct Parts {
-    also: Vec<Value>,
-    finding: Value,
-    found_ttl: u8,
-    why: Vec<Value>,
-}
-
-/// The members of the object of a flow with its number, without events.
-fn wrong_members(
+/// The members of the object of a flow that isn't right, by its number, the TTL and why it is so.
+fn faulty_members(
     alloc: Global,
     number: u32,
     flow: &Flow,
-    parts: Parts,
+    found_ttl: u8,
+    why: Vec<Value>,
 ) -> Result<Map<String, Value>, AllocError>
-    ensures { IfOk result (λ fields. members_view fields.entries
-        ≡ members (wrong_members number flow.now (record {
-          also = map data_of parts.also.items;
-          events = None;
-          finding = data_of parts.finding;
-          found_ttl = parts.found_ttl;
-          why = map data_of parts.why.items;
-        }))) }
+    ensures { IfOk result (λ fields. members_view fields.entries ≡ members (
+        (codes "flow", count_data (number + 1))
+        ∷ (codes "found_ttl", count_data found_ttl)
+        ∷ (codes "group", string (dotted flow.now.group))
+        ∷ (codes "right", boolean false)
+        ∷ (codes "source", string (dotted flow.now.source))
+        ∷ (codes "ttl", count_data flow.now.ttl)
+        ∷ (codes "why", list_data (map data_of why.items)) ∷ [])) }
 {
     let mut fields = flow_members(alloc, number, flow)?;
-    put(&mut fields, alloc, "also", Value::from(parts.also))?;
-    put(&mut fields, alloc, "finding", parts.finding)?;
-    put(
-        &mut fields,
-        alloc,
-        "found_ttl",
-        Value::from(parts.found_ttl),
-    )?;
+    put(&mut fields, alloc, "why", Value::from(why))?;
+    put(&mut fields, alloc, "found_ttl", Value::from(found_ttl))?;
     put(&mut fields, alloc, "right", Value::from(false))?;
-    put(&mut fields, alloc, "why", Value::from(parts.why))?;
     Ok(fields)
+}
+
+/// The LANs that a travel missed besides the one that was found.
+fn also_values(alloc: Global, ended: &Ended<'_>) -> Result<Vec<Value>, AllocError>
+    ensures { IfOk result (λ values. map data_of values.items
+        ≡ map (lan_data ended.now.flight.domain.topology) (missed_besides
+        (facts ended.now.flight.domain) ended.now.flight.flow ended.now.flight.flight.carried
+        ended.now.travel.finding)) }
+{
+    let topology = ended.flight.flow_view().topology();
+    let lans = missed_besides(alloc, &ended.flight, ended.travel.finding)?;
+    lan_names(alloc, topology, &lans)
 }
 
 /// A flow that a travel found not to be right, and why.
@@ -84,15 +85,11 @@ fn wrong_value(
         (map data_of why.items) asked)) }
 {
     let topology = ended.flight.flow_view().topology();
-    let finding = ended.travel.finding;
-    let lans = missed_besides(alloc, &ended.flight, finding)?;
-    let parts = Parts {
-        also: lan_names(alloc, topology, &lans)?,
-        finding: finding_value(alloc, topology, finding)?,
-        found_ttl,
-        why,
-    };
-    let mut fields = wrong_members(alloc, number, flow, parts)?;
+    let mut fields = faulty_members(alloc, number, flow, found_ttl, why)?;
+    let also = also_values(alloc, ended)?;
+    put(&mut fields, alloc, "also", Value::from(also))?;
+    let found = finding_value(alloc, topology, ended.travel.finding)?;
+    put(&mut fields, alloc, "finding", found)?;
     if !asked {
         return Ok(Value::from(fields));
     }

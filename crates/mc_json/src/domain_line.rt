@@ -13,13 +13,14 @@ ghost use Rattle.mc_json.specs.RowData.{line_of};
 ghost use Rattle.mc_json.specs.ToldData.{lan_data, router_data};
 
 use crate::device_value::device_name;
+use crate::fields::Fields;
 use crate::line::push_line;
 use crate::name_values::{lan_names, router_names};
 use mc_explain::vif_with;
 use mc_forward::Domain;
 use mc_text::Memory;
 use mc_topology::{Interface, LanNo, RouterNo, Source, Topology};
-use serde_json::{Value, json};
+use serde_json::Value;
 use std::alloc::{AllocError, Global};
 
 /// The name of a LAN, or null.
@@ -44,12 +45,12 @@ fn interface_value(
     ensures { IfOk result (λ value. data_of value
         ≡ interface_data topology.now router device.now (data_of lan) (data_of vif)) }
 {
-    json!(in alloc; {
-        "device": device_name(alloc, device)?,
-        "lan": lan,
-        "router": topology.router_name_or_empty(router),
-        "vif": vif
-    })
+    Fields::new(alloc)
+        .string("device", device_name(alloc, device))
+        .value("lan", Ok(lan))
+        .router("router", topology, router)
+        .value("vif", Ok(vif))
+        .object()
 }
 
 /// Tells a vif, if its table has a line for it.
@@ -197,10 +198,10 @@ fn source_value(alloc: Global, topology: &Topology, source: Source) -> Result<Va
     ensures { IfOk result (λ value. data_of value ≡ source_data topology.now source) }
 {
     let Source { address, lan } = source;
-    json!(in alloc; {
-        "address": format!(in alloc; "{address}")?,
-        "lan": topology.lan_name_or_empty(lan)
-    })
+    Fields::new(alloc)
+        .string("address", format!(in alloc; "{address}"))
+        .lan("lan", topology, lan)
+        .object()
 }
 
 /// All sources, each with its LAN.
@@ -232,12 +233,12 @@ fn parts_value(alloc: Global, domain: &Domain) -> Result<Value, AllocError>
     ensures { IfOk result (λ value. data_of value ≡ parts_data (facts domain.now)) }
 {
     let topology = domain.topology();
-    json!(in alloc; {
-        "interfaces": interface_values(alloc, domain)?,
-        "lans": lan_values(alloc, topology)?,
-        "routers": router_values(alloc, topology)?,
-        "sources": source_values(alloc, topology)?
-    })
+    Fields::new(alloc)
+        .list("interfaces", interface_values(alloc, domain))
+        .list("lans", lan_values(alloc, topology))
+        .list("routers", router_values(alloc, topology))
+        .list("sources", source_values(alloc, topology))
+        .object()
 }
 
 /// The whole of the first line.
@@ -245,11 +246,11 @@ fn domain_value(alloc: Global, domain: &Domain, words: &[String]) -> Result<Valu
     ensures { IfOk result (λ value. data_of value
         ≡ domain_data (facts domain.now) (map string_bytes words.now)) }
 {
-    json!(in alloc; {
-        "domain": parts_value(alloc, domain)?,
-        "format": 1u8,
-        "words": word_values(alloc, words)?
-    })
+    Fields::new(alloc)
+        .value("domain", parts_value(alloc, domain))
+        .count("format", 1)
+        .list("words", word_values(alloc, words))
+        .object()
 }
 
 /// Writes the first line: a domain, and the words of the call.

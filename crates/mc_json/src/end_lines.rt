@@ -11,13 +11,14 @@ ghost use Rattle.mc_json.specs.EndData.{unlisted_more_line, verdict_data, verdic
 ghost use Rattle.mc_json.specs.EndData.{without_line};
 ghost use Rattle.mc_json.specs.RowData.{line_of};
 
+use crate::fields::Fields;
 use crate::line::push_line;
 use crate::name_values::router_names;
 use mc_explain::{UnlistedPair, UnlistedPairs};
 use mc_tables::CacheNotes;
 use mc_text::Memory;
 use mc_topology::{RouterNo, Topology};
-use serde_json::{Value, json};
+use serde_json::Value;
 use std::alloc::{AllocError, Global};
 
 /// A group and a source that aren't listed, and the routers that have a row of them.
@@ -30,13 +31,12 @@ fn unlisted_value(
         ≡ unlisted_data topology.now pair.now.0.1 pair.now.0.0 pair.now.1) }
 {
     let (group, source) = (pair.group(), pair.source());
-    json!(in alloc; {
-        "unlisted": {
-            "group": format!(in alloc; "{group}")?,
-            "routers": router_names(alloc, topology, pair.routers())?,
-            "source": format!(in alloc; "{source}")?
-        }
-    })
+    let inner = Fields::new(alloc)
+        .string("group", format!(in alloc; "{group}"))
+        .list("routers", router_names(alloc, topology, pair.routers()))
+        .string("source", format!(in alloc; "{source}"))
+        .object();
+    Fields::new(alloc).value("unlisted", inner).object()
 }
 
 /// Writes their line.
@@ -112,7 +112,9 @@ fn without_value(
 ) -> Result<Value, AllocError>
     ensures { IfOk result (λ value. data_of value ≡ without_data topology.now routers.now) }
 {
-    json!(in alloc; {"without": router_names(alloc, topology, routers)?})
+    Fields::new(alloc)
+        .list("without", router_names(alloc, topology, routers))
+        .object()
 }
 
 /// Whether a router is marked as left out. Those beyond the marks are not.
@@ -175,10 +177,14 @@ pub fn push_without_line(
 fn summary_value(alloc: Global, right: u32, unwanted: u32, wrong: u32) -> Result<Value, AllocError>
     ensures { IfOk result (λ value. data_of value ≡ summary_data right unwanted wrong) }
 {
-    let flows = u64::from(right) + u64::from(wrong);
-    json!(in alloc; {
-        "summary": {"flows": flows, "right": right, "unwanted": unwanted, "wrong": wrong}
-    })
+    let flows = right as u64 + wrong as u64;
+    let inner = Fields::new(alloc)
+        .count("flows", flows)
+        .count("right", right as u64)
+        .count("unwanted", unwanted as u64)
+        .count("wrong", wrong as u64)
+        .object();
+    Fields::new(alloc).value("summary", inner).object()
 }
 
 /// Writes the line of how many flows there are: of how many are right, are right and wanted by
@@ -214,7 +220,7 @@ fn verdict_value(alloc: Global, is_yes: bool) -> Result<Value, AllocError>
     ensures { IfOk result (λ value. data_of value ≡ verdict_data is_yes) }
 {
     let verdict = verdict_word(is_yes);
-    json!(in alloc; {"verdict": verdict})
+    Fields::new(alloc).text("verdict", verdict).object()
 }
 
 /// Writes the line of the verdict.

@@ -1,13 +1,18 @@
 //! What was found of a flow as JSON: the finding, and the events of the travel that made it.
 
-ghost use Rattle.std.specs.Prelude.{◌≡◌, IfOk, map, codes};
+ghost use Rattle.std.specs.Prelude.{◌≡◌, ◌∷◌, [], IfOk, map, codes};
+ghost use Rattle.serde_json.specs.Data.{string};
 ghost use Rattle.serde_json.specs.View.{view as data_of};
-ghost use Rattle.mc_json.specs.FlowData.{at_lan, event_data, finding_data, no_copies_data};
+ghost use Rattle.mc_theory.specs.Events.Outcome.{Sent};
+ghost use Rattle.mc_replay.specs.declared.finding.Finding.TheVariants.{Stray};
+ghost use Rattle.mc_json.specs.FlowData.{at_lan, event_data, finding_data, no_copies_data, outcome_data};
+ghost use Rattle.mc_json.specs.RowData.{object_data};
 
+use crate::fields::Fields;
 use mc_forward::{Event, Outcome};
 use mc_replay::Finding;
-use mc_topology::{LanNo, Topology};
-use serde_json::{Value, json};
+use mc_topology::{LanNo, RouterNo, Topology};
+use serde_json::Value;
 use std::alloc::{AllocError, Global};
 
 /// A handling that sent no copies.
@@ -21,12 +26,33 @@ fn no_copies(
         ≡ no_copies_data topology.now event.now outcome.now) }
 {
     let (vif, ttl) = (event.vif, event.ttl);
-    json!(in alloc; {
-        "outcome": outcome,
-        "router": topology.router_name_or_empty(event.router),
-        "ttl": ttl,
-        "vif": vif
-    })
+    Fields::new(alloc)
+        .text("outcome", outcome)
+        .router("router", topology, event.router)
+        .count("ttl", ttl as u64)
+        .count("vif", vif as u64)
+        .object()
+}
+
+/// A handling that sent copies.
+fn sent(
+    alloc: Global,
+    topology: &Topology,
+    event: &Event,
+    copies: u32,
+    strays: u32,
+) -> Result<Value, AllocError>
+    ensures { IfOk result (λ value. data_of value
+        ≡ outcome_data topology.now event.now (Sent copies strays)) }
+{
+    Fields::new(alloc)
+        .count("copies", copies as u64)
+        .text("outcome", "sent")
+        .router("router", topology, event.router)
+        .count("strays", strays as u64)
+        .count("ttl", event.ttl as u64)
+        .count("vif", event.vif as u64)
+        .object()
 }
 
 /// A handling.
@@ -37,17 +63,7 @@ fn event_value(alloc: Global, topology: &Topology, event: &Event) -> Result<Valu
         Outcome::Open => no_copies(alloc, topology, event, "open"),
         Outcome::NoRow => no_copies(alloc, topology, event, "no row"),
         Outcome::OtherVif => no_copies(alloc, topology, event, "other vif"),
-        Outcome::Sent { copies, strays } => {
-            let (vif, ttl) = (event.vif, event.ttl);
-            json!(in alloc; {
-                "copies": copies,
-                "outcome": "sent",
-                "router": topology.router_name_or_empty(event.router),
-                "strays": strays,
-                "ttl": ttl,
-                "vif": vif
-            })
-        }
+        Outcome::Sent { copies, strays } => sent(alloc, topology, event, copies, strays),
     }
 }
 
@@ -71,7 +87,29 @@ pub(crate) fn event_values(
 fn at_lan(alloc: Global, topology: &Topology, kind: &str, lan: LanNo) -> Result<Value, AllocError>
     ensures { IfOk result (λ value. data_of value ≡ at_lan topology.now kind.now lan) }
 {
-    json!(in alloc; {"kind": kind, "lan": topology.lan_name_or_empty(lan)})
+    Fields::new(alloc)
+        .text("kind", kind)
+        .lan("lan", topology, lan)
+        .object()
+}
+
+/// That nothing is found.
+fn clean(alloc: Global) -> Result<Value, AllocError>
+    ensures { IfOk result (λ value. data_of value
+        ≡ object_data ((codes "kind", string (codes "Clean")) ∷ [])) }
+{
+    Fields::new(alloc).text("kind", "Clean").object()
+}
+
+/// What is found at a vif that leads out of the listed LANs.
+fn stray(alloc: Global, topology: &Topology, router: RouterNo, vif: u8) -> Result<Value, AllocError>
+    ensures { IfOk result (λ value. data_of value ≡ finding_data topology.now (Stray router vif)) }
+{
+    Fields::new(alloc)
+        .text("kind", "Stray")
+        .router("router", topology, router)
+        .count("vif", vif as u64)
+        .object()
 }
 
 /// A finding.
@@ -83,13 +121,10 @@ pub(crate) fn finding_value(
     ensures { IfOk result (λ value. data_of value ≡ finding_data topology.now finding) }
 {
     match finding {
-        Finding::Clean => json!(in alloc; {"kind": "Clean"}),
+        Finding::Clean => clean(alloc),
         Finding::Duplicate(lan) => at_lan(alloc, topology, "Duplicate", lan),
         Finding::Loop(lan) => at_lan(alloc, topology, "Loop", lan),
-        Finding::Stray(router, vif) => {
-            let router = topology.router_name_or_empty(router);
-            json!(in alloc; {"kind": "Stray", "router": router, "vif": vif})
-        }
+        Finding::Stray(router, vif) => stray(alloc, topology, router, vif),
         Finding::Missed(lan) => at_lan(alloc, topology, "Missed", lan),
     }
 }

@@ -4,7 +4,8 @@
 mod device_value;
 mod domain_line;
 mod end_lines;
-mod flow_members;
+mod fields;
+mod flow_fields;
 mod found_value;
 mod laws;
 mod line;

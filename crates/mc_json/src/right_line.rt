@@ -1,40 +1,52 @@
 //! The lines of right flows, and of the ways by which they go.
 
-ghost use Rattle.std.specs.Prelude.{◌≡◌, ◌<◌, ◌++◌, IfOk, OnOk, Some, length, map, slice_get};
+ghost use Rattle.std.specs.Prelude.{◌≡◌, ◌<◌, ◌++◌, IfOk, OnOk, Some, codes, length, map, slice_get};
 ghost use Rattle.std.specs.String.{string_bytes};
-ghost use Rattle.serde_json.specs.View.{view as data_of};
+ghost use Rattle.serde_json.specs.Data.{Members, put as with_member};
+ghost use Rattle.serde_json.specs.View.{members_view, view as data_of};
 ghost use Rattle.mc_topology.specs.declared.flow.Flow.{Flow};
 ghost use Rattle.mc_forward.specs.ListedTables.{facts};
-ghost use Rattle.mc_json.specs.FlowData.{reached_data, right_data, right_mark, tree_data};
-ghost use Rattle.mc_json.specs.FlowData.{wanted_data};
+ghost use Rattle.mc_json.specs.FlowData.{reached_data, right_data, right_mark, sender_router};
+ghost use Rattle.mc_json.specs.FlowData.{sender_vif, tree_data, wanted_data};
 ghost use Rattle.mc_json.specs.RowData.{line_of};
 
-use crate::flow_members::flow_members;
+use crate::fields::Fields;
+use crate::flow_fields::flow_fields;
 use crate::line::push_line;
 use crate::name_values::lan_names;
 use crate::wanted::wanting;
 use mc_cert::Reached;
 use mc_forward::{Domain, FlowView};
 use mc_text::Memory;
-use mc_topology::{Flow, Topology};
-use serde_json::{Value, json, put};
+use mc_topology::{Flow, RouterNo, Topology};
+use serde_json::Value;
 use std::alloc::{AllocError, Global};
+
+/// The members of a LAN of a way with the router and the vif that send onto it, which the source's own
+/// LAN doesn't have.
+fn with_sender(fields: Fields, topology: &Topology, forwarder: Option<(RouterNo, u8)>) -> Fields
+    ensures { (ms : Members) → IfOk fields.built (λ map. members_view map.entries ≡ ms)
+        → IfOk result.built (λ map. members_view map.entries
+        ≡ with_member (codes "vif") (sender_vif forwarder)
+        (with_member (codes "router") (sender_router topology.now forwarder) ms)) }
+{
+    match forwarder {
+        Some((router, vif)) => fields
+            .router("router", topology, router)
+            .count("vif", vif as u64),
+        None => fields.null("router").null("vif"),
+    }
+}
 
 /// A LAN of a way.
 fn reached_value(alloc: Global, topology: &Topology, entry: &Reached) -> Result<Value, AllocError>
     ensures { IfOk result (λ value. data_of value ≡ reached_data topology.now entry.now) }
 {
-    let (need, rank) = (entry.need, entry.rank);
-    let lan = topology.lan_name_or_empty(entry.lan);
-    match entry.forwarder {
-        Some((router, vif)) => {
-            let router = topology.router_name_or_empty(router);
-            json!(in alloc; {"lan": lan, "need": need, "rank": rank, "router": router, "vif": vif})
-        }
-        None => {
-            json!(in alloc; {"lan": lan, "need": need, "rank": rank, "router": null, "vif": null})
-        }
-    }
+    let fields = Fields::new(alloc)
+        .lan("lan", topology, entry.lan)
+        .count("need", entry.need as u64)
+        .count("rank", entry.rank as u64);
+    with_sender(fields, topology, entry.forwarder).object()
 }
 
 /// The LANs of a way.
@@ -62,7 +74,10 @@ fn tree_value(
 ) -> Result<Value, AllocError>
     ensures { IfOk result (λ value. data_of value ≡ tree_data topology.now entries.now tree) }
 {
-    json!(in alloc; {"entries": reached_values(alloc, topology, entries)?, "tree": tree})
+    Fields::new(alloc)
+        .list("entries", reached_values(alloc, topology, entries))
+        .count("tree", tree as u64)
+        .object()
 }
 
 /// Writes the line of a way with this number, by the names of the topology.
@@ -109,12 +124,12 @@ fn right_value(
     ensures { IfOk result (λ value. data_of value
         ≡ right_data whole number flow.now copies tree (map data_of wanted.items)) }
 {
-    let mut fields = flow_members(alloc, number, flow)?;
-    put(&mut fields, alloc, "wanted", Value::from(wanted))?;
-    put(&mut fields, alloc, "copies", Value::from(copies))?;
-    put(&mut fields, alloc, "right", mark_of(whole))?;
-    put(&mut fields, alloc, "tree", Value::from(tree))?;
-    Ok(Value::from(fields))
+    flow_fields(alloc, number, flow)
+        .count("copies", copies as u64)
+        .value("right", Ok(mark_of(whole)))
+        .count("tree", tree as u64)
+        .list("wanted", Ok(wanted))
+        .object()
 }
 
 /// The LANs that want a flow, by their names.

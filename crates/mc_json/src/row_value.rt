@@ -12,11 +12,12 @@ ghost use Rattle.mc_explain.specs.RowText.{address_text};
 ghost use Rattle.mc_json.specs.RowData.{entry_data, every_source_data, pair_data, row_data};
 
 use crate::device_value::device_value;
+use crate::fields::Fields;
 use mc_forward::{FlowView, RowFor};
 use mc_tables::{CacheNotes, Entry, Oif};
 use mc_text::Addr;
 use mc_topology::{Flow, RouterNo};
-use serde_json::{Value, json};
+use serde_json::Value;
 use std::alloc::{AllocError, Global};
 
 /// A row's source or its group. The address 0.0.0.0 stands for every one, and is told as `*`.
@@ -41,11 +42,11 @@ fn pair_value(
         ≡ pair_data (facts view.now.domain) router (oif.vif, oif.threshold)) }
 {
     let Oif { vif, threshold } = oif;
-    json!(in alloc; {
-        "device": device_value(alloc, view, router, vif)?,
-        "threshold": threshold,
-        "vif": vif
-    })
+    Fields::new(alloc)
+        .value("device", device_value(alloc, view, router, vif))
+        .count("threshold", threshold as u64)
+        .count("vif", vif as u64)
+        .object()
 }
 
 /// The outgoing vifs of a router's row.
@@ -84,13 +85,17 @@ fn entry_value(
     ensures { IfOk result (λ value. data_of value ≡ entry_data (facts view.now.domain)
         of.router of.source of.group incoming (pairs_of oifs.now)) }
 {
-    json!(in alloc; {
-        "from": {"device": device_value(alloc, view, of.router, incoming)?, "vif": incoming},
-        "group": address(alloc, of.group)?,
-        "router": view.topology().router_name_or_empty(of.router),
-        "source": address(alloc, of.source)?,
-        "to": pair_values(alloc, view, of.router, oifs)?
-    })
+    let from = Fields::new(alloc)
+        .value("device", device_value(alloc, view, of.router, incoming))
+        .count("vif", incoming as u64)
+        .object();
+    Fields::new(alloc)
+        .value("from", from)
+        .string("group", address(alloc, of.group))
+        .router("router", view.topology(), of.router)
+        .string("source", address(alloc, of.source))
+        .list("to", pair_values(alloc, view, of.router, oifs))
+        .object()
 }
 
 /// A router's row for a flow. Null for a row for every source, and where there is none.

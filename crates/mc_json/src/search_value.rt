@@ -15,6 +15,7 @@ ghost use Rattle.mc_json.specs.SearchData.{shown_data, stopped_line, waits_for_l
 ghost use Rattle.mc_json.specs.ToldData.{router_data};
 
 use crate::device_value::{NO_DEVICE, device_name, device_value};
+use crate::fields::Fields;
 use crate::name_values::router_names;
 use crate::row_value::{every_source_value, row_value};
 use crate::telling::Telling;
@@ -23,7 +24,7 @@ use mc_explain::{ExpectingRouters, LanSearch, Searched, ShownLine, ShownLines};
 use mc_forward::{FlowView, RowFor};
 use mc_tables::Vif;
 use mc_topology::{LanNo, RouterNo, Topology};
-use serde_json::{Value, json};
+use serde_json::Value;
 use std::alloc::{AllocError, Global};
 
 /// What is told of a LAN alone.
@@ -35,7 +36,10 @@ fn lan_alone(
 ) -> Result<Value, AllocError>
     ensures { IfOk result (λ value. data_of value ≡ lan_alone topology.now kind.now lan) }
 {
-    json!(in alloc; {"kind": kind, "lan": topology.lan_name_or_empty(lan)})
+    Fields::new(alloc)
+        .text("kind", kind)
+        .lan("lan", topology, lan)
+        .object()
 }
 
 /// What is told of a router alone.
@@ -48,11 +52,11 @@ fn router_alone(
 ) -> Result<Value, AllocError>
     ensures { IfOk result (λ value. data_of value ≡ router_alone topology.now kind.now lan router) }
 {
-    json!(in alloc; {
-        "kind": kind,
-        "lan": topology.lan_name_or_empty(lan),
-        "router": topology.router_name_or_empty(router)
-    })
+    Fields::new(alloc)
+        .text("kind", kind)
+        .lan("lan", topology, lan)
+        .router("router", topology, router)
+        .object()
 }
 
 /// The device of an interface of the topology, empty for one that it hasn't.
@@ -78,12 +82,12 @@ fn with_device(
     ensures { IfOk result (λ value. data_of value
         ≡ with_device topology.now kind.now lan router interface) }
 {
-    json!(in alloc; {
-        "device": interface_name(alloc, topology, interface)?,
-        "kind": kind,
-        "lan": topology.lan_name_or_empty(lan),
-        "router": topology.router_name_or_empty(router)
-    })
+    Fields::new(alloc)
+        .string("device", interface_name(alloc, topology, interface))
+        .text("kind", kind)
+        .lan("lan", topology, lan)
+        .router("router", topology, router)
+        .object()
 }
 
 /// Which row for every source a router has.
@@ -97,12 +101,15 @@ fn every_source(
         by.now.notes.now by.now.flow.now lan router) }
 {
     let topology = by.view.topology();
-    json!(in alloc; {
-        "kind": "every_source",
-        "lan": topology.lan_name_or_empty(lan),
-        "router": topology.router_name_or_empty(router),
-        "row": every_source_value(alloc, by.view, by.notes, by.flow.group, router)?
-    })
+    Fields::new(alloc)
+        .text("kind", "every_source")
+        .lan("lan", topology, lan)
+        .router("router", topology, router)
+        .value(
+            "row",
+            every_source_value(alloc, by.view, by.notes, by.flow.group, router),
+        )
+        .object()
 }
 
 /// Why a vif of a table that a row takes from is placed on no LAN.
@@ -144,14 +151,14 @@ fn from_unplaced(
         by.now.flow.now ((net_in by.now.view.now).row router) lan router) }
 {
     let topology = by.view.topology();
-    json!(in alloc; {
-        "from_device": incoming_device(alloc, by.view, router)?,
-        "from_vif": incoming_vif(by.view, router),
-        "kind": from_kind(by.view, router),
-        "lan": topology.lan_name_or_empty(lan),
-        "router": topology.router_name_or_empty(router),
-        "row": row_value(alloc, by.view, by.flow, router)?
-    })
+    Fields::new(alloc)
+        .value("from_device", incoming_device(alloc, by.view, router))
+        .value("from_vif", Ok(incoming_vif(by.view, router)))
+        .text("kind", from_kind(by.view, router))
+        .lan("lan", topology, lan)
+        .router("router", topology, router)
+        .value("row", row_value(alloc, by.view, by.flow, router))
+        .object()
 }
 
 /// A row that doesn't send by a vif.
@@ -168,16 +175,16 @@ fn does_not_send(
         by.now.flow.now ((net_in by.now.view.now).row router) lan router vif from carried) }
 {
     let topology = by.view.topology();
-    json!(in alloc; {
-        "carried": carried,
-        "device": device_value(alloc, by.view, router, vif)?,
-        "from_lan": topology.lan_name_or_empty(from),
-        "kind": "does_not_send",
-        "lan": topology.lan_name_or_empty(lan),
-        "router": topology.router_name_or_empty(router),
-        "row": row_value(alloc, by.view, by.flow, router)?,
-        "vif": vif
-    })
+    Fields::new(alloc)
+        .flag("carried", carried)
+        .value("device", device_value(alloc, by.view, router, vif))
+        .lan("from_lan", topology, from)
+        .text("kind", "does_not_send")
+        .lan("lan", topology, lan)
+        .router("router", topology, router)
+        .value("row", row_value(alloc, by.view, by.flow, router))
+        .count("vif", vif as u64)
+        .object()
 }
 
 /// A row whose threshold stops the copy.
@@ -194,16 +201,16 @@ fn stopped(
         by.now.flow.now ((net_in by.now.view.now).row router) lan router vif threshold ttl) }
 {
     let topology = by.view.topology();
-    json!(in alloc; {
-        "device": device_value(alloc, by.view, router, vif)?,
-        "kind": "stopped",
-        "lan": topology.lan_name_or_empty(lan),
-        "router": topology.router_name_or_empty(router),
-        "row": row_value(alloc, by.view, by.flow, router)?,
-        "threshold": threshold,
-        "ttl": ttl,
-        "vif": vif
-    })
+    Fields::new(alloc)
+        .value("device", device_value(alloc, by.view, router, vif))
+        .text("kind", "stopped")
+        .lan("lan", topology, lan)
+        .router("router", topology, router)
+        .value("row", row_value(alloc, by.view, by.flow, router))
+        .count("threshold", threshold as u64)
+        .count("ttl", ttl as u64)
+        .count("vif", vif as u64)
+        .object()
 }
 
 /// A row that takes from a LAN that carried no copy.
@@ -219,17 +226,17 @@ fn waits_for(
         by.now.flow.now ((net_in by.now.view.now).row router) lan router vif from) }
 {
     let topology = by.view.topology();
-    json!(in alloc; {
-        "device": device_value(alloc, by.view, router, vif)?,
-        "from_device": incoming_device(alloc, by.view, router)?,
-        "from_lan": topology.lan_name_or_empty(from),
-        "from_vif": incoming_vif(by.view, router),
-        "kind": "waits_for",
-        "lan": topology.lan_name_or_empty(lan),
-        "router": topology.router_name_or_empty(router),
-        "row": row_value(alloc, by.view, by.flow, router)?,
-        "vif": vif
-    })
+    Fields::new(alloc)
+        .value("device", device_value(alloc, by.view, router, vif))
+        .value("from_device", incoming_device(alloc, by.view, router))
+        .lan("from_lan", topology, from)
+        .value("from_vif", Ok(incoming_vif(by.view, router)))
+        .text("kind", "waits_for")
+        .lan("lan", topology, lan)
+        .router("router", topology, router)
+        .value("row", row_value(alloc, by.view, by.flow, router))
+        .count("vif", vif as u64)
+        .object()
 }
 
 /// Which routers expect a copy from a LAN.
@@ -241,11 +248,11 @@ fn expected(
 ) -> Result<Value, AllocError>
     ensures { IfOk result (λ value. data_of value ≡ expected_line topology.now lan routers.now) }
 {
-    json!(in alloc; {
-        "kind": "expected_from_here",
-        "lan": topology.lan_name_or_empty(lan),
-        "routers": router_names(alloc, topology, routers)?
-    })
+    Fields::new(alloc)
+        .text("kind", "expected_from_here")
+        .lan("lan", topology, lan)
+        .list("routers", router_names(alloc, topology, routers))
+        .object()
 }
 
 /// A line of a search.
@@ -349,7 +356,10 @@ fn reach_value(
 ) -> Result<Value, AllocError>
     ensures { IfOk result (λ value. data_of value ≡ reach_line topology.now kind.now routers.now) }
 {
-    json!(in alloc; {"kind": kind, "routers": router_names(alloc, topology, routers)?})
+    Fields::new(alloc)
+        .text("kind", kind)
+        .list("routers", router_names(alloc, topology, routers))
+        .object()
 }
 
 /// Tells what a search comes to, and its lines.

@@ -12,13 +12,14 @@ ghost use Rattle.mc_json.specs.ToldData.{sent_onto_data, stopped_at_data, take_o
 ghost use Rattle.mc_json.specs.ToldData.{unplaced_data, unplaced_kind};
 
 use crate::device_value::{NO_DEVICE, device_value};
+use crate::fields::Fields;
 use crate::row_value::{every_source_value, row_value};
 use crate::telling::Telling;
 use mc_explain::Told;
 use mc_forward::{FlowView, RowFor};
 use mc_tables::Vif;
 use mc_topology::{LanNo, RouterNo};
-use serde_json::{Value, json};
+use serde_json::Value;
 use std::alloc::{AllocError, Global};
 
 /// The vif that a router's row for a flow takes from. Null where it has no row of the flow.
@@ -58,14 +59,14 @@ fn sent_onto(
         by.now.flow.now ((net_in by.now.view.now).row router) lan router vif) }
 {
     let topology = by.view.topology();
-    json!(in alloc; {
-        "device": device_value(alloc, by.view, router, vif)?,
-        "kind": "sent_onto",
-        "lan": topology.lan_name_or_empty(lan),
-        "router": topology.router_name_or_empty(router),
-        "row": row_value(alloc, by.view, by.flow, router)?,
-        "vif": vif
-    })
+    Fields::new(alloc)
+        .value("device", device_value(alloc, by.view, router, vif))
+        .text("kind", "sent_onto")
+        .lan("lan", topology, lan)
+        .router("router", topology, router)
+        .value("row", row_value(alloc, by.view, by.flow, router))
+        .count("vif", vif as u64)
+        .object()
 }
 
 /// Which row of a circle takes copies from a LAN and sends them onto the next.
@@ -81,17 +82,17 @@ fn circle(
         by.now.flow.now ((net_in by.now.view.now).row router) from onto router vif) }
 {
     let topology = by.view.topology();
-    json!(in alloc; {
-        "from_device": incoming_device(alloc, by.view, router)?,
-        "from_lan": topology.lan_name_or_empty(from),
-        "from_vif": incoming_vif(by.view, router),
-        "kind": "circle",
-        "router": topology.router_name_or_empty(router),
-        "row": row_value(alloc, by.view, by.flow, router)?,
-        "to_device": device_value(alloc, by.view, router, vif)?,
-        "to_lan": topology.lan_name_or_empty(onto),
-        "to_vif": vif
-    })
+    Fields::new(alloc)
+        .value("from_device", incoming_device(alloc, by.view, router))
+        .lan("from_lan", topology, from)
+        .value("from_vif", Ok(incoming_vif(by.view, router)))
+        .text("kind", "circle")
+        .router("router", topology, router)
+        .value("row", row_value(alloc, by.view, by.flow, router))
+        .value("to_device", device_value(alloc, by.view, router, vif))
+        .lan("to_lan", topology, onto)
+        .count("to_vif", vif as u64)
+        .object()
 }
 
 /// What may be taken out.
@@ -108,15 +109,15 @@ fn take_out(
 {
     let ttl = by.flow.ttl;
     let topology = by.view.topology();
-    json!(in alloc; {
-        "device": device_value(alloc, by.view, router, vif)?,
-        "kind": "take_out",
-        "lan": topology.lan_name_or_empty(lan),
-        "least": least,
-        "router": topology.router_name_or_empty(router),
-        "ttl": ttl,
-        "vif": vif
-    })
+    Fields::new(alloc)
+        .value("device", device_value(alloc, by.view, router, vif))
+        .text("kind", "take_out")
+        .lan("lan", topology, lan)
+        .count("least", least as u64)
+        .router("router", topology, router)
+        .count("ttl", ttl as u64)
+        .count("vif", vif as u64)
+        .object()
 }
 
 /// Why a vif of a table is placed on no LAN.
@@ -154,12 +155,12 @@ fn unplaced(
     ensures { IfOk result (λ value. data_of value ≡ unplaced_data (facts view.now.domain) router vif) }
 {
     let kind = unplaced_kind(view, router, vif);
-    json!(in alloc; {
-        "device": device_value(alloc, view, router, vif)?,
-        "kind": kind,
-        "router": view.topology().router_name_or_empty(router),
-        "vif": vif
-    })
+    Fields::new(alloc)
+        .value("device", device_value(alloc, view, router, vif))
+        .text("kind", kind)
+        .router("router", view.topology(), router)
+        .count("vif", vif as u64)
+        .object()
 }
 
 /// The row that sent the copy.
@@ -167,7 +168,10 @@ fn row_alone(alloc: Global, by: &Telling<'_>, router: RouterNo) -> Result<Value,
     ensures { IfOk result (λ value. data_of value ≡ row_alone_data (facts by.now.view.now.domain)
         by.now.flow.now ((net_in by.now.view.now).row router) router) }
 {
-    json!(in alloc; {"kind": "row", "row": row_value(alloc, by.view, by.flow, router)?})
+    Fields::new(alloc)
+        .text("kind", "row")
+        .value("row", row_value(alloc, by.view, by.flow, router))
+        .object()
 }
 
 /// With which TTL a LAN is reached.
@@ -176,12 +180,12 @@ fn least_ttl(alloc: Global, by: &Telling<'_>, lan: LanNo, least: u8) -> Result<V
         by.now.flow.now lan least) }
 {
     let ttl = by.flow.ttl;
-    json!(in alloc; {
-        "kind": "least_ttl",
-        "lan": by.view.topology().lan_name_or_empty(lan),
-        "least": least,
-        "ttl": ttl
-    })
+    Fields::new(alloc)
+        .text("kind", "least_ttl")
+        .lan("lan", by.view.topology(), lan)
+        .count("least", least as u64)
+        .count("ttl", ttl as u64)
+        .object()
 }
 
 /// By which row for every source a copy was met.
@@ -194,13 +198,16 @@ fn only_every_source(
     ensures { IfOk result (λ value. data_of value ≡ only_every_source_data
         (facts by.now.view.now.domain) by.now.notes.now by.now.flow.now router vif) }
 {
-    json!(in alloc; {
-        "device": device_value(alloc, by.view, router, vif)?,
-        "kind": "only_every_source",
-        "router": by.view.topology().router_name_or_empty(router),
-        "row": every_source_value(alloc, by.view, by.notes, by.flow.group, router)?,
-        "vif": vif
-    })
+    Fields::new(alloc)
+        .value("device", device_value(alloc, by.view, router, vif))
+        .text("kind", "only_every_source")
+        .router("router", by.view.topology(), router)
+        .value(
+            "row",
+            every_source_value(alloc, by.view, by.notes, by.flow.group, router),
+        )
+        .count("vif", vif as u64)
+        .object()
 }
 
 /// Where the flow's packet was stopped.
@@ -215,14 +222,14 @@ fn stopped_at(
     ensures { IfOk result (λ value. data_of value ≡ stopped_at_data (facts view.now.domain)
         router vif threshold ttl) }
 {
-    json!(in alloc; {
-        "device": device_value(alloc, view, router, vif)?,
-        "kind": "stopped_at",
-        "router": view.topology().router_name_or_empty(router),
-        "threshold": threshold,
-        "ttl": ttl,
-        "vif": vif
-    })
+    Fields::new(alloc)
+        .value("device", device_value(alloc, view, router, vif))
+        .text("kind", "stopped_at")
+        .router("router", view.topology(), router)
+        .count("threshold", threshold as u64)
+        .count("ttl", ttl as u64)
+        .count("vif", vif as u64)
+        .object()
 }
 
 /// Tells of a vif that a copy was sent by, and of the row that sent it.

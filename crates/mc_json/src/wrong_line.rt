@@ -15,7 +15,8 @@ ghost use Rattle.mc_json.specs.RowData.{count_data, list_data, members};
 ghost use Rattle.mc_json.specs.ToldData.{lan_data};
 ghost use Rattle.mc_json.specs.WhyData.{why_data};
 
-use crate::flow_members::flow_members;
+use crate::fields::Fields;
+use crate::flow_fields::flow_fields;
 use crate::found_value::{event_values, finding_value};
 use crate::line::push_line;
 use crate::name_values::lan_names;
@@ -29,18 +30,12 @@ use mc_replay::Ended;
 use mc_tables::CacheNotes;
 use mc_text::Memory;
 use mc_topology::Flow;
-use serde_json::{Map, Value, put};
+use serde_json::Value;
 use std::alloc::{AllocError, Global};
 
 /// The members of the object of a flow that isn't right, by its number, the TTL and why it is so.
-fn faulty_members(
-    alloc: Global,
-    number: u32,
-    flow: &Flow,
-    found_ttl: u8,
-    why: Vec<Value>,
-) -> Result<Map<String, Value>, AllocError>
-    ensures { IfOk result (λ fields. members_view fields.entries ≡ members (
+fn faulty_fields(alloc: Global, number: u32, flow: &Flow, found_ttl: u8, why: Vec<Value>) -> Fields
+    ensures { IfOk result.built (λ built. members_view built.entries ≡ members (
         (codes "flow", count_data (number + 1))
         ∷ (codes "found_ttl", count_data found_ttl)
         ∷ (codes "group", string (dotted flow.now.group))
@@ -49,11 +44,10 @@ fn faulty_members(
         ∷ (codes "ttl", count_data flow.now.ttl)
         ∷ (codes "why", list_data (map data_of why.items)) ∷ [])) }
 {
-    let mut fields = flow_members(alloc, number, flow)?;
-    put(&mut fields, alloc, "why", Value::from(why))?;
-    put(&mut fields, alloc, "found_ttl", Value::from(found_ttl))?;
-    put(&mut fields, alloc, "right", Value::from(false))?;
-    Ok(fields)
+    flow_fields(alloc, number, flow)
+        .count("found_ttl", found_ttl as u64)
+        .flag("right", false)
+        .list("why", Ok(why))
 }
 
 /// The LANs that a travel missed besides the one that was found.
@@ -85,17 +79,17 @@ fn wrong_value(
         (map data_of why.items) asked)) }
 {
     let topology = ended.flight.flow_view().topology();
-    let mut fields = faulty_members(alloc, number, flow, found_ttl, why)?;
-    let also = also_values(alloc, ended)?;
-    put(&mut fields, alloc, "also", Value::from(also))?;
-    let found = finding_value(alloc, topology, ended.travel.finding)?;
-    put(&mut fields, alloc, "finding", found)?;
+    let fields = faulty_fields(alloc, number, flow, found_ttl, why)
+        .list("also", also_values(alloc, ended))
+        .value(
+            "finding",
+            finding_value(alloc, topology, ended.travel.finding),
+        );
     if !asked {
-        return Ok(Value::from(fields));
+        return fields.object();
     }
-    let events = event_values(alloc, topology, &ended.travel.events)?;
-    put(&mut fields, alloc, "events", Value::from(events))?;
-    Ok(Value::from(fields))
+    let events = event_values(alloc, topology, &ended.travel.events);
+    fields.list("events", events).object()
 }
 
 /// Writes the line of such a flow.

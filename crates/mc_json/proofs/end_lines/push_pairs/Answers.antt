@@ -10,6 +10,8 @@ loop-pair-preserved c =
     let shown = c.args.shown.now in
     let n = c.loop-pair.pair-index in
     item-told (unlisted_line c.args.topology.now) shown c.pair-item.result
-    (string_bytes c.args.text.now) (string_bytes c.loop-pair.text) (string_bytes c.push_pair.new.text) n
-    (slice_get_read shown (length shown) n c.pair-item.result refl c.loop-pair-test.true c.pair-item.is)
+    (string_bytes c.args.text.now) (string_bytes c.loop-pair.text) (string_bytes
+    c.push_pair.new.text) n
+    (slice_get_read shown (length shown) n c.pair-item.result refl c.loop-pair-test.true
+    c.pair-item.is)
     c.loop-pair.invariant c.in_ok-push_pair.ensures

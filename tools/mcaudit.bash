@@ -41,7 +41,7 @@ _mcaudit_tool() {
         -o | --routers | --capture | --audit | --program | --prometheus) kind='file' ;;
         --all) kind=directory ;;
         --readings | --pause | --timeout | --at-once | --ssh | --wait | --slack) return ;;
-        --tries | --static | --by | --shell | --ttl | --measure | --count | --tenths | --without) return ;;
+        --tries | --static | --empty-lan | --by | --shell | --ttl | --measure | --count | --tenths | --without) return ;;
         --keep | --warn-age | --warn-reports | --label) return ;;
     esac
     case $word in
@@ -88,7 +88,7 @@ _mcaudit_site() {
         mapfile -t COMPREPLY < <(compgen -W 'init lans --version --help' -- "$word")
     elif [ "${COMP_WORDS[1]}" = init ]; then
         _mcaudit_tool "$word" "${COMP_WORDS[COMP_CWORD - 1]}" directory \
-            --routers --ssh --ttl --wait --tries --static --ask --ask-routers --empty --help
+            --routers --ssh --ttl --wait --tries --static --empty-lan --ask --ask-routers --empty --help
     else
         _mcaudit_tool "$word" "${COMP_WORDS[COMP_CWORD - 1]}" directory --help
     fi
@@ -96,8 +96,8 @@ _mcaudit_site() {
 
 _mcaudit_reports() {
     _mcaudit_tool "${COMP_WORDS[COMP_CWORD]}" "${COMP_WORDS[COMP_CWORD - 1]}" file \
-        -o --by --capture --text --static --all --empty --ask --ask-routers --tries --wait --slack --routers --ssh \
-        --version --help
+        -o --by --capture --text --static --all --empty --empty-lan --ask --ask-routers --tries --wait --slack \
+        --routers --ssh --version --help
 }
 
 complete -F _mcaudit mcaudit

@@ -14,7 +14,7 @@
 #   args       the tool's words, one a line
 #   place/     files that lie where the tool runs: the stand-ins of commands/ say which they heed
 #   links      links that lie there, lines `name target`
-#   times      when files there were written, lines `name YYYYMMDDhhmm`
+#   times      when files there were written, lines `name YYYYMMDDhhmm`, of UTC
 #   stdout     standard output (without it: empty); or stdout.has, of which it has each line's text
 #   stderr     standard error (without it: empty); or stderr.has
 #   status     the exit status (without it: 0)
@@ -209,7 +209,7 @@ prepare() {
     fi
     expect "$1/times"
     while read -r name written; do
-        touch -t "$written" "$name"
+        TZ=UTC0 touch -t "$written" "$name"
     done < "$expected"
     [ ! -f "$1/disk.size" ] || dd if=/dev/zero of=disk/filler bs=1k count="$(cat "$1/disk.filled")" 2> dd.said
     return 0

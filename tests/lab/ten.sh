@@ -173,11 +173,11 @@ expect 1 watch_once <<'END'
 TIME: verdict no, flows 2, right 1, wrong 1, unwanted 0, unlisted 0
 wrong: 10.77.0.50 239.1.2.3 Duplicate 10.77.4.0-24
 changed since TIME:
-flow 10.77.0.50 239.1.2.3: fault come: Duplicate 10.77.4.0-24
+flow 10.77.0.50 239.1.2.3: new fault: Duplicate 10.77.4.0-24
 verdict no, was yes
 END
 expect 1 "$tools/mcaudit-diff" "$first" "$site" <<'END'
-flow 10.77.0.50 239.1.2.3: fault come: Duplicate 10.77.4.0-24
+flow 10.77.0.50 239.1.2.3: new fault: Duplicate 10.77.4.0-24
 verdict no, was yes
 END
 expect 1 "$mcaudit" audit "$site" --faults <<'END'

@@ -70,7 +70,7 @@ expect() {
 without_times() {
     sed -e 's/[0-9]\{8\}T[0-9]\{6\}Z/TIME/g' -e 's/"[-0-9]\{10\}T[:0-9]\{8\}Z"/"TIME"/g' \
         -e 's/[0-9][0-9.]* \(packets\|bit\|kbit\|Mbit\)\/s/N \1\/s/g' \
-        -e 's/^\(mcaudit_[a-z_]*_seconds.* \)[0-9]*$/\1TIME/' -e 's/\("last_[a-z]*": \)[0-9][0-9]*/\1TIME/g' "$@"
+        -e 's/^\(mcaudit_[a-z_]*_seconds.* \)[0-9]*$/\1TIME/' -e 's/\("last_[a-z_]*": \)[0-9][0-9]*/\1TIME/g' "$@"
 }
 
 # Compares an output, stdout or stderr, with what the case's folder $1 says.

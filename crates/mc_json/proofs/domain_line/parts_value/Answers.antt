@@ -1,6 +1,5 @@
 use Rattle.mc_json.proofs.domain_line.parts_value.Goals as goal
 
--- src/domain_line.rt:232:1
 pub returns : goal.returns
 returns c = rw c.topology-topology.ensures.topology at (c.object.ensures _ (c.list-4.ensures _ _
     (c.list-3.ensures _ _ (c.list-2.ensures _ _ (c.list.ensures _ _ c.new.ensures

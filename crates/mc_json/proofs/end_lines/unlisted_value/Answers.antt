@@ -1,6 +1,5 @@
 use Rattle.mc_json.proofs.end_lines.unlisted_value.Goals as goal
 
--- src/end_lines.rt:25:1
 pub returns : goal.returns
 returns c = rw (c.group-group.ensures, c.source-source.ensures, c.routers.ensures) at
     (c.object.ensures _ (c.value.ensures _ _ c.new-2.ensures (c.object-inner.ensures _

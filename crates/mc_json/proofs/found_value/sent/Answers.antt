@@ -1,6 +1,5 @@
 use Rattle.mc_json.proofs.found_value.sent.Goals as goal
 
--- src/found_value.rt:38:1
 pub returns : goal.returns
 returns c = rw (← c.event.view_is) (c.object.ensures _ (c.count-4.ensures _ (c.count-3.ensures _
     (c.count-2.ensures _ (c.router.ensures _ (c.text.ensures _ (c.count.ensures _

@@ -1,6 +1,5 @@
 use Rattle.mc_json.proofs.found_value.stray.Goals as goal
 
--- src/found_value.rt:105:1
 pub returns : goal.returns
 returns c = c.object.ensures _ (c.count.ensures _ (c.router.ensures _ (c.text.ensures _
     c.new.ensures)))

@@ -1,7 +1,6 @@
 use Rattle.std.proofs.Common.{refl}
 use Rattle.mc_json.proofs.right_line.right_value.Goals as goal
 
--- src/right_line.rt:115:1
 pub returns : goal.returns
 returns c = c.object.ensures _ (c.list.ensures _ _ (c.count-2.ensures _ (c.value.ensures _ _
     (c.count.ensures _ c.flow_fields.ensures) c.mark_of.ensures)) refl)

@@ -1,6 +1,5 @@
 use Rattle.mc_json.proofs.right_line.tree_value.Goals as goal
 
--- src/right_line.rt:69:1
 pub returns : goal.returns
 returns c = c.object.ensures _ (c.count.ensures _ (c.list.ensures _ _ c.new.ensures
     c.reached_values.ensures))

@@ -1,6 +1,5 @@
 use Rattle.mc_json.proofs.row_value.entry_value.Goals as goal
 
--- src/row_value.rt:78:1
 pub returns : goal.returns
 returns c = rw c.topology.ensures.topology at (c.object.ensures _ (c.list.ensures _ _
     (c.string-2.ensures _ _ (c.router.ensures _ (c.string.ensures _ _ (c.value-2.ensures _ _

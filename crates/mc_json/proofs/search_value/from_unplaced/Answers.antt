@@ -1,6 +1,5 @@
 use Rattle.mc_json.proofs.search_value.from_unplaced.Goals as goal
 
--- src/search_value.rt:144:1
 pub returns : goal.returns
 returns c = rw (c.topology-topology.ensures.topology, c.from_kind.ensures) at (c.object.ensures _
     (c.value-3.ensures _ _ (c.router.ensures _ (c.lan.ensures _ (c.text.ensures _

@@ -1,6 +1,5 @@
 use Rattle.mc_json.proofs.search_value.stopped.Goals as goal
 
--- src/search_value.rt:191:1
 pub returns : goal.returns
 returns c = rw c.topology-topology.ensures.topology at (c.object.ensures _ (c.count-3.ensures _
     (c.count-2.ensures _ (c.count.ensures _ (c.value-2.ensures _ _ (c.router.ensures _

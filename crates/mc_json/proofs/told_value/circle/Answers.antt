@@ -1,6 +1,5 @@
 use Rattle.mc_json.proofs.told_value.circle.Goals as goal
 
--- src/told_value.rt:73:1
 pub returns : goal.returns
 returns c = rw c.topology-topology.ensures.topology at (c.object.ensures _ (c.count.ensures _
     (c.lan-2.ensures _ (c.value-4.ensures _ _ (c.value-3.ensures _ _ (c.router.ensures _

@@ -1,6 +1,5 @@
 use Rattle.mc_json.proofs.told_value.only_every_source.Goals as goal
 
--- src/told_value.rt:192:1
 pub returns : goal.returns
 returns c = rw c.topology.ensures.topology at (c.object.ensures _ (c.count.ensures _
     (c.value-2.ensures _ _ (c.router.ensures _ (c.text.ensures _ (c.value.ensures _ _

@@ -1,6 +1,5 @@
 use Rattle.mc_json.proofs.told_value.stopped_at.Goals as goal
 
--- src/told_value.rt:214:1
 pub returns : goal.returns
 returns c = rw c.topology.ensures.topology at (c.object.ensures _ (c.count-3.ensures _
     (c.count-2.ensures _ (c.count.ensures _ (c.router.ensures _ (c.text.ensures _ (c.value.ensures

@@ -1,6 +1,5 @@
 use Rattle.mc_json.proofs.told_value.unplaced.Goals as goal
 
--- src/told_value.rt:149:1
 pub returns : goal.returns
 returns c = rw (c.topology.ensures.topology, c.unplaced_kind-kind.ensures) at (c.object.ensures _
     (c.count.ensures _ (c.router.ensures _ (c.text.ensures _ (c.value.ensures _ _ c.new.ensures

@@ -1,13 +1,11 @@
 use Rattle.mc_json.proofs.wrong_line.wrong_value.Goals as goal
 
--- src/wrong_line.rt:89:9
 pub returns-then-not-asked : goal.returns-then-not-asked
 returns-then-not-asked c = rw c.if-not-asked.true
     (rw (c.topology-topology.ensures.topology, c.flow_view.ensures) at (c.object.ensures _
     (c.value-fields.ensures _ _ (c.list.ensures _ _ c.faulty_fields.ensures c.also_values.ensures)
     c.finding_value.ensures)))
 
--- src/wrong_line.rt:66:1
 pub returns : goal.returns
 returns c = rw c.if-not-asked.false
     (rw (c.topology-topology.ensures.topology, c.flow_view.ensures, c.deref.ensures.value) at

@@ -1,5 +1,6 @@
-pub mod AuditFound
 pub mod AuditWords
+pub mod Found
 pub mod Task
 pub use Rattle.mc_text.specs.Addr
 pub use Rattle.mc_text.specs.Bundle
+pub use Rattle.mc_text.specs.Number

@@ -1,7 +1,13 @@
 -- What a task's values may be, and how words write them.
-use Rattle.std.specs.Prelude.{◌≡◌, ◌≤◌, ℕ, List, map, true, false, ⊤}
+use Rattle.std.specs.Prelude.{◌≡◌, ◌≤◌, ℕ, Bool, true, false, List, map, codes, ⊤}
+use Rattle.std.specs.Prelude.{IsSomeAnd}
+use Rattle.clap.specs.Simple.{subcommand_rows_of}
+use Rattle.clap.specs.Walk.{Row}
+use Rattle.clap.specs.declared.parser.matches.ArgMatches.{ArgMatches}
 use Rattle.mc_text.specs.Addr.{IsForwardedGroup, IsSource, dotted}
+use Rattle.mc_text.specs.Number.{IsDecimal}
 use Rattle.mc_words.specs.AuditWords.{are_routers, is_option}
+use Rattle.mc_words.specs.Found.{AreFound, IsFlag, word_of}
 use Rattle.mc_words.specs.declared.audit_words.AuditWords.{AuditWords}
 use Rattle.mc_words.specs.declared.task.Task.{Task}
 use Rattle.mc_words.specs.declared.task.Task.TheVariants.{Wants, Check, Make, Replay, Pack, Audit}
@@ -15,7 +21,7 @@ abbrev pub IsAllowed : Task → Type 0
 IsAllowed (Wants group source) = IsForwardedGroup group × IsSource source
 IsAllowed Check = ⊤
 IsAllowed Make = ⊤
-IsAllowed (Replay flow ttl last) = (1 ≤ flow) × (flow ≤ 4096) × (1 ≤ ttl)
+IsAllowed (Replay flow ttl last) = (1 ≤ flow) × (flow ≤ 4096) × (1 ≤ ttl) × (ttl ≤ 255)
 IsAllowed (Pack folder certificate) = ⊤
 IsAllowed (Audit words) = IsAudit words
 
@@ -23,8 +29,32 @@ IsAllowed (Audit words) = IsAudit words
 abbrev pub AreWords : List ℕ → List ℕ → Task → Type 0
 AreWords group_word source_word (Wants group source) =
     (group_word ≡ dotted group) × (source_word ≡ dotted source)
-AreWords group_word source_word Check = ⊥
-AreWords group_word source_word Make = ⊥
-AreWords group_word source_word (Replay flow ttl last) = ⊥
-AreWords group_word source_word (Pack folder certificate) = ⊥
-AreWords group_word source_word (Audit words) = ⊥
+AreWords group_word source_word _ = ⊥
+
+-- the word behind `--order`
+abbrev pub order_word : Bool → List ℕ
+order_word false = codes "first"
+order_word true = codes "last"
+
+-- the words after `replay` are the flow's number, the time to live and the order of the task
+abbrev pub AreReplayWords : List ℕ → List ℕ → List ℕ → Task → Type 0
+AreReplayWords flow_word ttl_word order (Replay flow ttl last) =
+    IsDecimal flow_word flow × IsDecimal ttl_word ttl × (order ≡ order_word last)
+AreReplayWords flow_word ttl_word order _ = ⊥
+
+-- the task is the one that a command asks for, of whose words these rows are found
+abbrev pub IsTaskOf : List ℕ → List Row → Task → Type 0
+IsTaskOf command rows (Wants group source) = (command ≡ codes "wants")
+    × AreWords (word_of rows (codes "group")) (word_of rows (codes "source")) (Wants group source)
+IsTaskOf command rows Check = command ≡ codes "check"
+IsTaskOf command rows Make = command ≡ codes "make"
+IsTaskOf command rows (Replay flow ttl last) = (command ≡ codes "replay")
+    × AreReplayWords (word_of rows (codes "flow")) (word_of rows (codes "ttl"))
+    (word_of rows (codes "order")) (Replay flow ttl last)
+IsTaskOf command rows (Pack folder certificate) = (command ≡ codes "pack")
+    × (folder.now ≡ word_of rows (codes "folder")) × IsFlag rows (codes "certificate") certificate
+IsTaskOf command rows (Audit words) = (command ≡ codes "audit") × AreFound rows words
+
+-- the task is the one that the command which is found asks for
+abbrev pub IsAskedFor : ArgMatches → Task → Type 0
+IsAskedFor matches task = IsSomeAnd (subcommand_rows_of matches) (λ met. IsTaskOf met.0 met.1 task)

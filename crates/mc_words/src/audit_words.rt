@@ -2,13 +2,15 @@
 
 ghost use Rattle.std.specs.Prelude.{◌≡◌, map, is_none, true, false, IfErr, IfOk, OnOk};
 ghost use Rattle.clap.specs.Matches.{found_of};
-ghost use Rattle.mc_words.specs.AuditFound.{AreFound, AreOptions};
+ghost use Rattle.clap.specs.Walk.{rows_of};
 ghost use Rattle.mc_words.specs.AuditWords.{is_among, are_routers, is_option};
+ghost use Rattle.mc_words.specs.Found.{AreFound, AreOptions, CanBeAudited};
 ghost use Rattle.mc_words.specs.Task.{IsAudit};
 ghost use Rattle.mc_words.specs.declared.fault.WordsFault.TheVariants.{Memory};
 
 use crate::command::audit_command;
 use crate::fault::{WordsFault, wrong_words};
+use crate::found::{is_set, word_of};
 use crate::router_name::is_name;
 use clap::ArgMatches;
 use std::alloc::Global;
@@ -98,26 +100,33 @@ fn folder_of(alloc: Global, word: &str) -> Result<&str, WordsFault>
 
 /// The options that are set.
 fn options_of(matches: &ArgMatches<'_>) -> AuditOptions
-    ensures { AreOptions (found_of matches.now) result }
+    ensures { AreOptions (rows_of (found_of matches.now)) result }
 {
     AuditOptions {
-        travels: matches.get_flag("travel"),
-        faults: matches.get_flag("faults"),
-        unlisted: matches.get_flag("unlisted"),
-        strict: matches.get_flag("strict"),
-        json: matches.get_flag("json"),
+        travels: is_set(matches, "travel"),
+        faults: is_set(matches, "faults"),
+        unlisted: is_set(matches, "unlisted"),
+        strict: is_set(matches, "strict"),
+        json: is_set(matches, "json"),
     }
 }
 
 /// What the words after `audit` say.
+///
+/// # Errors
+///
+/// `Wrong` where the folder begins with `-`, or where a router to be left out is no name or is named
+/// twice, and `Memory` where memory runs out.
 pub fn audit_words_of<'a>(
     alloc: Global,
     matches: &ArgMatches<'a>,
 ) -> Result<AuditWords<'a>, WordsFault>
     ensures allowed { IfOk result IsAudit }
-    ensures found { IfOk result (AreFound (found_of matches.now)) }
+    ensures found { IfOk result (AreFound (rows_of (found_of matches.now))) }
+    ensures only { CanBeAudited (rows_of (found_of matches.now))
+        → IfErr result (λ fault. fault ≡ Memory) }
 {
-    let folder = folder_of(alloc, matches.get_str("folder").unwrap_or(""))?;
+    let folder = folder_of(alloc, word_of(matches, "folder"))?;
     let options = options_of(matches);
     let without = routers_of(alloc, matches.get_strs("without").unwrap_or(&[]))?;
     Ok(AuditWords {

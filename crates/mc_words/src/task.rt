@@ -1,13 +1,21 @@
 //! What the program's words ask for.
 
-ghost use Rattle.std.specs.Prelude.{◌≡◌, ◌≤◌, ℕ, IfOk, IfSome, Ok, Some};
+ghost use Rattle.std.specs.Prelude.{◌≡◌, ◌≤◌, ℕ, Bool, IfErr, IfOk, IfSome, Ok, Some};
+ghost use Rattle.std.specs.Prelude.{codes};
+ghost use Rattle.clap.specs.Matches.{found_of};
+ghost use Rattle.clap.specs.Walk.{rows_of};
 ghost use Rattle.mc_text.specs.Addr.{IsForwardedGroup, IsSource, dotted};
 ghost use Rattle.mc_text.specs.Number.{IsDecimal};
-ghost use Rattle.mc_words.specs.Task.{AreWords, IsAllowed};
+ghost use Rattle.mc_words.specs.Found.{CanBeAudited};
+ghost use Rattle.mc_words.specs.Task.{AreReplayWords, AreWords, IsAllowed};
+ghost use Rattle.mc_words.specs.Task.{IsAskedFor, IsTaskOf, order_word};
+ghost use Rattle.mc_words.specs.declared.task.Task.{Task};
+ghost use Rattle.mc_words.specs.declared.fault.WordsFault.TheVariants.{Memory};
 
 use crate::audit_words::{AuditWords, audit_words_of};
 use crate::command::{program, replay_command, wants_command};
 use crate::fault::{WordsFault, refusal, wrong_words};
+use crate::found::{is_set, word_of};
 use clap::ArgMatches;
 use clap::error::ErrorKind;
 use mc_text::{Addr, decimal};
@@ -84,13 +92,18 @@ fn source_of(word: &str) -> Option<Addr>
 fn number_of(word: &str, greatest: u64) -> Option<u64>
     ensures range { IfSome result (λ number. (1 ≤ number) × (number ≤ greatest)) }
     ensures found { IfSome result (IsDecimal word.now) }
+    ensures only { (number : ℕ) → IsDecimal word.now number → 1 ≤ number → number ≤ greatest
+        → result ≡ Some number }
 {
     let number = decimal(word.as_bytes(), greatest)?;
     (number >= 1).then_some(number)
 }
 
 /// Whether the word asks for the last of the waiting copies, `last`, or for the first, `first`.
-fn is_last(word: &str) -> Option<bool> {
+fn is_last(word: &str) -> Option<bool>
+    ensures found { IfSome result (λ last. word.now ≡ order_word last) }
+    ensures only { (last : Bool) → word.now ≡ order_word last → result ≡ Some last }
+{
     match word {
         "first" => Some(false),
         "last" => Some(true),
@@ -106,6 +119,10 @@ fn replay_task<'a>(
     order: &'a str,
 ) -> Result<Task<'a>, WordsFault>
     ensures allowed { IfOk result IsAllowed }
+    ensures found { IfOk result (AreReplayWords flow.now ttl.now order.now) }
+    ensures only { (f t : ℕ) (last : Bool) → IsAllowed (Task.Replay f t last)
+        → AreReplayWords flow.now ttl.now order.now (Task.Replay f t last)
+        → result ≡ Ok (Task.Replay f t last) }
 {
     let Some(flow) = number_of(flow, 4_096) else {
         return Err(wrong_words(alloc, replay_command(alloc), FLOW_RULE));
@@ -141,47 +158,81 @@ fn wants_task<'a>(alloc: Global, group: &'a str, source: &'a str) -> Result<Task
 /// The task of the words after `audit`.
 fn audit_task<'a>(alloc: Global, matches: &ArgMatches<'a>) -> Result<Task<'a>, WordsFault>
     ensures allowed { IfOk result IsAllowed }
+    ensures found { IfOk result (IsTaskOf (codes "audit") (rows_of (found_of matches.now))) }
+    ensures only { CanBeAudited (rows_of (found_of matches.now))
+        → IfErr result (λ fault. fault ≡ Memory) }
 {
     Ok(Task::Audit(audit_words_of(alloc, matches)?))
 }
 
-/// The word of a required argument.
-fn word_of<'a>(matches: &ArgMatches<'a>, argument: &str) -> &'a str {
-    matches.get_str(argument).unwrap_or("")
+/// The task of the words after `pack`.
+fn pack_task<'a>(matches: &ArgMatches<'a>) -> Task<'a>
+    ensures allowed { IsAllowed result }
+    ensures found { IsTaskOf (codes "pack") (rows_of (found_of matches.now)) result }
+{
+    Task::Pack {
+        folder: word_of(matches, "folder"),
+        certificate: is_set(matches, "certificate"),
+    }
 }
 
 /// The task of a command and the words after it.
-fn task_of<'a>(alloc: Global, matches: &ArgMatches<'a>) -> Result<Task<'a>, WordsFault>
+fn named_task<'a>(
+    alloc: Global,
+    command: &str,
+    words: &ArgMatches<'a>,
+) -> Result<Task<'a>, WordsFault>
     ensures allowed { IfOk result IsAllowed }
+    ensures found { IfOk result (IsTaskOf command.now (rows_of (found_of words.now))) }
+    ensures only { (task : Task) → IsAllowed task
+        → IsTaskOf command.now (rows_of (found_of words.now)) task
+        → IfErr result (λ fault. fault ≡ Memory) }
 {
-    match matches.subcommand() {
-        Some(("audit", words)) => audit_task(alloc, words),
-        Some(("check", _)) => Ok(Task::Check),
-        Some(("make", _)) => Ok(Task::Make),
-        Some(("pack", words)) => Ok(Task::Pack {
-            folder: word_of(words, "folder"),
-            certificate: words.get_flag("certificate"),
-        }),
-        Some(("replay", words)) => replay_task(
+    match command {
+        "audit" => audit_task(alloc, words),
+        "check" => Ok(Task::Check),
+        "make" => Ok(Task::Make),
+        "pack" => Ok(pack_task(words)),
+        "replay" => replay_task(
             alloc,
             word_of(words, "flow"),
             word_of(words, "ttl"),
             word_of(words, "order"),
         ),
-        Some(("wants", words)) => wants_task(
-            alloc,
-            word_of(words, "group"),
-            word_of(words, "source"),
-        ),
-        _ => Err(wrong_words(alloc, program(alloc), "no command is given")),
+        "wants" => wants_task(alloc, word_of(words, "group"), word_of(words, "source")),
+        _ => Err(no_command(alloc)),
+    }
+}
+
+/// A refusal of words that name no command.
+fn no_command(alloc: Global) -> WordsFault {
+    wrong_words(alloc, program(alloc), "no command is given")
+}
+
+/// The task of the command that is found, and of the words after it.
+fn task_of<'a>(alloc: Global, matches: &ArgMatches<'a>) -> Result<Task<'a>, WordsFault>
+    ensures allowed { IfOk result IsAllowed }
+    ensures found { IfOk result (IsAskedFor matches.now) }
+    ensures only { (task : Task) → IsAllowed task → IsAskedFor matches.now task
+        → IfErr result (λ fault. fault ≡ Memory) }
+{
+    match matches.subcommand() {
+        Some((command, words)) => named_task(alloc, command, words),
+        None => Err(no_command(alloc)),
     }
 }
 
 /// The task that the program's words ask for. The first word is the program's own name.
+///
+/// # Errors
+///
+/// `Wrong`, with the text that tells how the program is used, where the words give no task or ask for
+/// help, and `Memory` where memory runs out.
 pub fn command_of<'a>(alloc: Global, words: &'a [&'a str]) -> Result<Task<'a>, WordsFault>
     // A task is given only with a group that routers forward and an address that a host may send
-    // from, with a flow's number from 1 to 4,096 and a time to live from 1, and with a folder to be
-    // audited that doesn't begin with `-` and names of routers, each once, to be audited without.
+    // from, with a flow's number from 1 to 4,096 and a time to live from 1 to 255, and with a folder
+    // to be audited that doesn't begin with `-` and names of routers, each once, to be audited
+    // without.
     ensures allowed { IfOk result IsAllowed }
 {
     match program(alloc)?.try_get_matches_from(words) {

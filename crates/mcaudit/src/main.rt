@@ -1,7 +1,7 @@
 //! mcaudit: an auditor of the multicast forwarding state of a domain of Linux routers.
 #![tactic(auto)]
 
-ghost use Rattle.std.specs.Prelude.{◌≡◌, ◌<◌, IfErr, IfOk};
+ghost use Rattle.std.specs.Prelude.{◌≡◌, ◌<◌, ◌↔◌, IfErr, IfOk, IsTrue};
 ghost use Rattle.mc_words.specs.Task.{IsAllowed};
 
 mod failure;
@@ -10,8 +10,8 @@ use failure::Failure;
 use mc_layout::Folder;
 use mc_replay::{First, Last, Picker};
 use mc_run::{
-    AuditOptions, RunFault, refusal_lines, run_audit, run_check, run_make, run_pack, run_replay,
-    run_wants,
+    AuditAnswer, AuditOptions, RunFault, refusal_lines, run_audit, run_check, run_make, run_pack,
+    run_replay, run_wants,
 };
 use mc_text::{Addr, FromReader, ToWriter};
 use mc_words::{AuditWords, Task, borrowed, command_of, words_of};
@@ -88,7 +88,13 @@ fn pack(
 }
 
 /// What an audit is asked to tell.
-fn options_of(words: &AuditWords<'_>) -> AuditOptions {
+fn options_of(words: &AuditWords<'_>) -> AuditOptions
+    ensures travels { result.travels ≡ words.now.options.travels }
+    ensures faults { result.faults ≡ words.now.options.faults }
+    ensures unlisted { result.unlisted ≡ words.now.options.unlisted }
+    ensures strict { result.strict ≡ words.now.options.strict }
+    ensures json { result.json ≡ words.now.options.json }
+{
     AuditOptions {
         travels: words.options.travels,
         faults: words.options.faults,
@@ -98,8 +104,15 @@ fn options_of(words: &AuditWords<'_>) -> AuditOptions {
     }
 }
 
-/// `mcaudit audit`, of a folder of the file system to the standard output. Where that is asked for, a
-/// yes isn't enough if a flow is wanted by nobody.
+/// Whether an audit's answer is enough: it is yes and, where it has to be strict, no flow is wanted by
+/// nobody.
+fn is_enough(answer: AuditAnswer, strict: bool) -> bool
+    ensures { IsTrue result ↔ (IsTrue answer.yes × (IsTrue strict → answer.unwanted ≡ 0)) }
+{
+    answer.yes && (answer.unwanted == 0 || !strict)
+}
+
+/// `mcaudit audit`, of a folder of the file system to the standard output.
 fn audit(
     rt: &(impl AllocGlobal + Files + Print),
     words: &AuditWords<'_>,
@@ -108,7 +121,7 @@ fn audit(
     let mut output = ToWriter::new(io::writer(rt));
     let options = options_of(words);
     let answer = run_audit(rt.alloc(), &mut files, options, &words.without, &mut output)?;
-    Ok(answer.yes && (answer.unwanted == 0 || !words.options.strict))
+    Ok(is_enough(answer, words.options.strict))
 }
 
 /// Does the task.

@@ -5,7 +5,7 @@ _mcaudit() {
     local before=${COMP_WORDS[COMP_CWORD - 1]}
     COMPREPLY=()
     if [ "$COMP_CWORD" -eq 1 ]; then
-        mapfile -t COMPREPLY < <(compgen -W 'audit check make pack replay wants' -- "$word")
+        mapfile -t COMPREPLY < <(compgen -W 'audit check make pack replay wants --version' -- "$word")
         return
     fi
     local option=--certificate

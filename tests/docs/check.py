@@ -15,6 +15,8 @@ manual page) these are names of something, and each has to be there:
                                     that the crate has are that call's
   [text](path)                      a file, beside the document or below it
 
+And the program and each tool say the version that the file VERSION says, once in its source.
+
 It reads the sources alone, so it takes seconds. Each line that is printed is `FILE:LINE: NAME: what is wrong`. The last
 line counts the names, `N passed, M failed`, and the status is 0 if none failed and one was looked at.
 """
@@ -35,6 +37,7 @@ OPTION = re.compile(r"--[a-z][a-z-]+")
 LINK = re.compile(r"\]\(([^)#:]+)(?:#[^)]*)?\)")
 CLAUSE = re.compile(r"^\s*(?:ensures|requires) ([a-z_]\w*) \{", re.M)
 HEAD = re.compile(r"^ *(?:pub(?:\([^)]*\))? )?fn (\w+)", re.M)
+VERSION = re.compile(r'^(?:version=|VERSION = "|const VERSION_LINE: &str = "mcaudit )([\w.-]+)', re.M)
 # Words that documents show which stand in another program's texts, or in those of a network.
 ELSEWHERE = {"ip_mr_vif", "ip_mr_cache", "authorized_keys", "known_hosts", "pim_register", "no_memory"}
 
@@ -162,9 +165,20 @@ def look_at(path, sources):
     return wrong, looked
 
 
+def version_faults():
+    """What the program and the tools say of their version that VERSION doesn't, and how many were looked at."""
+    version = read(os.path.join(TOP, "VERSION")).strip()
+    paths = [os.path.join(TOP, "crates/mcaudit/src/version.rt"), *sorted(glob.glob(os.path.join(TOP, "tools/mcaudit-*")))]
+    found = [(os.path.relpath(path, TOP), VERSION.findall(read(path))) for path in paths]
+    return [(path, said) for path, said in found if said != [version]], len(paths)
+
+
 def main():
     sources = Sources()
-    failed, looked = 0, 0
+    wrong, looked = version_faults()
+    failed = len(wrong)
+    for path, said in wrong:
+        print(f"{path}: says the version {', '.join(said) or 'nowhere'}, and VERSION another")
     documents = [it for folder in ("", "docs") for it in sorted(glob.glob(os.path.join(TOP, folder, "*.md")))]
     documents.append("docs/mcaudit.1")
     for path in documents:

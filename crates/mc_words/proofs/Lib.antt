@@ -1,2 +1,3 @@
 mod AuditLemmas
 mod FoundLemmas
+mod VersionLemmas

@@ -1,6 +1,6 @@
 -- What a task's values may be, and how words write them.
-use Rattle.std.specs.Prelude.{◌≡◌, ◌≤◌, ℕ, Bool, true, false, List, map, codes, ⊤}
-use Rattle.std.specs.Prelude.{IsSomeAnd}
+use Rattle.std.specs.Prelude.{◌≡◌, ◌≤◌, ◌⊎◌, ℕ, Bool, true, false, List, map, codes, Some, ⊤}
+use Rattle.std.specs.Prelude.{IsSomeAnd, slice_get}
 use Rattle.clap.specs.Simple.{subcommand_rows_of}
 use Rattle.clap.specs.Walk.{Row}
 use Rattle.clap.specs.declared.parser.matches.ArgMatches.{ArgMatches}
@@ -11,6 +11,7 @@ use Rattle.mc_words.specs.Found.{AreFound, IsFlag, word_of}
 use Rattle.mc_words.specs.declared.audit_words.AuditWords.{AuditWords}
 use Rattle.mc_words.specs.declared.task.Task.{Task}
 use Rattle.mc_words.specs.declared.task.Task.TheVariants.{Wants, Check, Make, Replay, Pack, Audit}
+use Rattle.mc_words.specs.declared.task.Task.TheVariants.{Version}
 
 -- the folder doesn't begin like an option, and what is left out are names of routers, each once
 pub record IsAudit (words : AuditWords) : Type 0 where
@@ -24,6 +25,7 @@ IsAllowed Make = ⊤
 IsAllowed (Replay flow ttl last) = (1 ≤ flow) × (flow ≤ 4096) × (1 ≤ ttl) × (ttl ≤ 255)
 IsAllowed (Pack folder certificate) = ⊤
 IsAllowed (Audit words) = IsAudit words
+IsAllowed Version = ⊤
 
 -- the words after `wants` are the group and the source of the task
 abbrev pub AreWords : List ℕ → List ℕ → Task → Type 0
@@ -54,7 +56,13 @@ IsTaskOf command rows (Replay flow ttl last) = (command ≡ codes "replay")
 IsTaskOf command rows (Pack folder certificate) = (command ≡ codes "pack")
     × (folder.now ≡ word_of rows (codes "folder")) × IsFlag rows (codes "certificate") certificate
 IsTaskOf command rows (Audit words) = (command ≡ codes "audit") × AreFound rows words
+IsTaskOf command rows Version = ⊥
 
 -- the task is the one that the command which is found asks for
 abbrev pub IsAskedFor : ArgMatches → Task → Type 0
 IsAskedFor matches task = IsSomeAnd (subcommand_rows_of matches) (λ met. IsTaskOf met.0 met.1 task)
+
+-- the word behind the program's own name asks for the version
+abbrev pub AskForVersion : List (List ℕ) → Type 0
+AskForVersion words =
+    (slice_get words 1 ≡ Some (codes "--version")) ⊎ (slice_get words 1 ≡ Some (codes "-V"))

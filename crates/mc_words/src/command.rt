@@ -17,7 +17,8 @@ How is a bundle made of a folder's files?
 Does a LAN want what 10.0.0.5 sends to 239.1.2.3?
   mcaudit wants 239.1.2.3 10.0.0.5 < reports
 
-Statuses: 0 yes, 1 no, 2 refused input, 3 read or write failed, 4 no memory, 5 wrong words";
+Statuses: 0 yes, 1 no, 2 refused input, 3 read or write failed, 4 no memory, 5 wrong words
+mcaudit --version tells the version";
 
 /// A command with one argument more.
 fn with_argument<'a>(

@@ -1,13 +1,13 @@
 //! What the program's words ask for.
 
-ghost use Rattle.std.specs.Prelude.{◌≡◌, ◌≤◌, ℕ, Bool, IfErr, IfOk, IfSome, Ok, Some};
-ghost use Rattle.std.specs.Prelude.{codes};
+ghost use Rattle.std.specs.Prelude.{◌≡◌, ◌≤◌, ◌↔◌, ℕ, Bool, IsTrue, IfErr, IfOk, IfSome, Ok, Some};
+ghost use Rattle.std.specs.Prelude.{codes, map};
 ghost use Rattle.clap.specs.Matches.{found_of};
 ghost use Rattle.clap.specs.Walk.{rows_of};
 ghost use Rattle.mc_text.specs.Addr.{IsForwardedGroup, IsSource, dotted};
 ghost use Rattle.mc_text.specs.Number.{IsDecimal};
 ghost use Rattle.mc_words.specs.Found.{CanBeAudited};
-ghost use Rattle.mc_words.specs.Task.{AreReplayWords, AreWords, IsAllowed};
+ghost use Rattle.mc_words.specs.Task.{AreReplayWords, AreWords, AskForVersion, IsAllowed};
 ghost use Rattle.mc_words.specs.Task.{IsAskedFor, IsTaskOf, order_word};
 ghost use Rattle.mc_words.specs.declared.task.Task.{Task};
 ghost use Rattle.mc_words.specs.declared.fault.WordsFault.TheVariants.{Memory};
@@ -55,6 +55,8 @@ pub enum Task<'a> {
     /// Which flows of the domain of a folder's files have a certificate, and what a packet meets of
     /// each other one.
     Audit(AuditWords<'a>),
+    /// The version of the program.
+    Version,
 }
 
 const GROUP_RULE: &str = "<group> is an address from 224.0.1.0 to 239.255.255.255, as 239.1.2.3";
@@ -222,6 +224,16 @@ fn task_of<'a>(alloc: Global, matches: &ArgMatches<'a>) -> Result<Task<'a>, Word
     }
 }
 
+/// Whether the words ask for the version, by the one behind the program's own name.
+fn ask_for_version(words: &[&str]) -> bool
+    ensures { IsTrue result ↔ AskForVersion (map (λ word. word.now) words.now) }
+{
+    match words.get(1) {
+        Some(word) => *word == "--version" || *word == "-V",
+        None => false,
+    }
+}
+
 /// The task that the program's words ask for. The first word is the program's own name.
 ///
 /// # Errors
@@ -234,7 +246,13 @@ pub fn command_of<'a>(alloc: Global, words: &'a [&'a str]) -> Result<Task<'a>, W
     // to be audited that doesn't begin with `-` and names of routers, each once, to be audited
     // without.
     ensures allowed { IfOk result IsAllowed }
+    // The version is asked for by `--version` or `-V` as the first word behind the name, whatever
+    // stands behind it, and by nothing else.
+    ensures version { (result ≡ Ok Task.Version) ↔ AskForVersion (map (λ word. word.now) words.now) }
 {
+    if ask_for_version(words) {
+        return Ok(Task::Version);
+    }
     match program(alloc)?.try_get_matches_from(words) {
         Ok(matches) => task_of(alloc, &matches),
         Err(error) if error.kind() == ErrorKind::OutOfMemory => Err(WordsFault::Memory),

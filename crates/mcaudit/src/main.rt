@@ -5,6 +5,7 @@ ghost use Rattle.std.specs.Prelude.{◌≡◌, ◌<◌, ◌↔◌, IfErr, IfOk, 
 ghost use Rattle.mc_words.specs.Task.{IsAllowed};
 
 mod failure;
+mod version;
 
 use failure::Failure;
 use mc_layout::Folder;
@@ -19,6 +20,7 @@ use std::env::Env;
 use std::io::{self, BufReader, Input, Read};
 use std::process::ExitCode;
 use std::rt::Files;
+use version::write_version;
 
 /// An input over a reader that is read 8,192 bytes ahead: the lines of a bundle's parts are asked for
 /// byte by byte.
@@ -124,6 +126,12 @@ fn audit(
     Ok(is_enough(answer, words.options.strict))
 }
 
+/// `mcaudit --version`, to the standard output.
+fn tell_version(rt: &impl Print) -> Result<bool, RunFault> {
+    let mut output = ToWriter::new(io::writer(rt));
+    write_version(&mut output)
+}
+
 /// Does the task.
 fn run(rt: &(impl AllocGlobal + Files + Input + Print), task: &Task<'_>) -> Result<bool, RunFault>
     requires { IsAllowed task.now }
@@ -144,6 +152,7 @@ fn run(rt: &(impl AllocGlobal + Files + Input + Print), task: &Task<'_>) -> Resu
             certificate,
         } => pack(rt, folder, *certificate),
         Task::Audit(words) => audit(rt, words),
+        Task::Version => tell_version(rt),
     }
 }
 

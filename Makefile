@@ -8,8 +8,9 @@
 # make lab        from routers to a verdict and a page, and each kind of fault to its remedy, in network namespaces (it
 #                 needs root; the file `packages` says what else); PAGES=FOLDER keeps the pages there
 # make page-test  tries the page of mcaudit-page in a headless Chromium; PICTURES=FOLDER writes pictures of it there
-# make install    puts the program and its tools into $(PREFIX)/bin, the manual page and the completion into
-#                 $(PREFIX)/share, and the units of systemd and their user into $(PREFIX)/lib
+# make install    puts the program and its tools into $(PREFIX)/bin, the manual page and the completions for bash, zsh
+#                 and fish into $(PREFIX)/share, and the units of systemd and their user into $(PREFIX)/lib;
+#                 ZSH=FOLDER is where zsh looks for functions
 # make uninstall  takes them away again
 # make dist       makes out/mcaudit-VERSION.tar.gz, the source, and out/mcaudit-VERSION-linux-x86_64.tar.gz, what
 #                 `make install` installs
@@ -20,6 +21,9 @@ VERSION = $(shell cat VERSION)
 PROGRAM = crates/mcaudit/out/mcaudit
 TOOLS = mcaudit-collect mcaudit-diff mcaudit-draft mcaudit-monitor mcaudit-page mcaudit-query mcaudit-reports mcaudit-site
 UNITS = $(DESTDIR)$(PREFIX)/lib/systemd/system
+BASH_COMPLETIONS = $(DESTDIR)$(PREFIX)/share/bash-completion/completions
+FISH_COMPLETIONS = $(DESTDIR)$(PREFIX)/share/fish/vendor_completions.d
+ZSH = $(PREFIX)/share/zsh/site-functions
 SOURCES = $(shell find crates \( -path '*/out' -o -path 'crates/mc_tests_*' \) -prune -o -type f \( -name '*.rt' -o -name '*.antt' \) -print) crates.txt
 # the libraries below the program, lowest first
 LIBRARIES = $(filter-out mcaudit mc_tests_%,$(shell sed -n 's/^\([a-z_]*\):.*/\1/p' crates.txt))
@@ -63,14 +67,19 @@ install: $(PROGRAM)
 	install -D -m 644 tools/systemd/mcaudit-monitor.service $(UNITS)/mcaudit-monitor.service
 	sed -i 's|/usr/local/bin/|$(PREFIX)/bin/|' $(UNITS)/mcaudit-monitor.service
 	install -D -m 644 docs/mcaudit.1 $(DESTDIR)$(PREFIX)/share/man/man1/mcaudit.1
-	install -D -m 644 tools/mcaudit.bash $(DESTDIR)$(PREFIX)/share/bash-completion/completions/mcaudit
+	install -D -m 644 tools/mcaudit.bash $(BASH_COMPLETIONS)/mcaudit
+	install -D -m 644 tools/mcaudit.fish $(FISH_COMPLETIONS)/mcaudit.fish
+	install -D -m 644 tools/mcaudit.zsh $(DESTDIR)$(ZSH)/_mcaudit
 	for tool in $(TOOLS); do \
-		ln -sf mcaudit $(DESTDIR)$(PREFIX)/share/bash-completion/completions/$$tool || exit 1; done
+		ln -sf mcaudit $(BASH_COMPLETIONS)/$$tool && \
+		ln -sf mcaudit.fish $(FISH_COMPLETIONS)/$$tool.fish || exit 1; done
 
 uninstall:
 	for name in mcaudit $(TOOLS); do rm -f $(DESTDIR)$(PREFIX)/bin/$$name \
-		$(DESTDIR)$(PREFIX)/share/bash-completion/completions/$$name || exit 1; done
+		$(BASH_COMPLETIONS)/$$name \
+		$(FISH_COMPLETIONS)/$$name.fish || exit 1; done
 	rm -f $(DESTDIR)$(PREFIX)/share/man/man1/mcaudit.1 $(DESTDIR)$(PREFIX)/lib/sysusers.d/mcaudit.conf \
+		$(DESTDIR)$(ZSH)/_mcaudit \
 		$(UNITS)/mcaudit-monitor.timer $(UNITS)/mcaudit-monitor.service
 
 dist: $(PROGRAM)

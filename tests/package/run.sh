@@ -44,7 +44,10 @@ in_room mcaudit audit /tmp/network | grep -qx 'verdict yes' || fail 'an audit of
 for tool in collect diff draft monitor page query reports site; do
     in_room "mcaudit-$tool" --version
 done
-in_room test -s /usr/share/man/man1/mcaudit.1.gz || fail 'no manual page'
+for file in man/man1/mcaudit.1.gz bash-completion/completions/mcaudit-site fish/vendor_completions.d/mcaudit-site.fish \
+    zsh/vendor-completions/_mcaudit; do
+    in_room test -s "/usr/share/$file" || fail "no $file"
+done
 [ -n "$(print_files)" ] || fail 'nothing was installed'
 in_room apt-get remove -y --purge mcaudit > "$room/tmp/said" 2>&1 || fail "$(cat "$room/tmp/said")"
 left=$(print_files)

@@ -3,11 +3,12 @@
 # says: those in shell by dash with each awk that is installed, by bash, and by busybox sh with busybox's
 # own commands; those in Python by the system's python3 and by the one on the path. It needs no network:
 # the folder commands/ has what stands for the ways to a router. The cases of monitor/ and diff/ run the
-# program, crates/mcaudit/out/mcaudit or what PROGRAM names. The words of the file completion are
-# completed by mcaudit.bash, all tools are to tell one version and to be installed, and shellcheck reads
-# all shell of the tools and of their cases. page.py looks at the pages that mcaudit-page makes. What it
-# needs that is not there is named, and is a failure; but promtool reads the files for Prometheus, and
-# systemd-analyze the units, only where they are.
+# program, crates/mcaudit/out/mcaudit or what PROGRAM names. The words of the file completion, and those that
+# help_words.sh takes from the help of the program and of its tools, are completed by bash, zsh and fish
+# alike. All tools are to tell one version and to be installed, and shellcheck reads all shell of the tools
+# and of their cases. page.py looks at the pages that mcaudit-page makes. What it needs that is not there is
+# named, and is a failure; but promtool reads the files for Prometheus, and systemd-analyze the units, only
+# where they are.
 # Usage: run.sh [CASE ...], as collect/unreachable
 #
 # A case has, beside its note:
@@ -370,12 +371,16 @@ begin_python() {
     done
 }
 
-# Completes the words of the file completion in a folder that has one folder and one file.
+# Completes the words of the file completion, and those of the help, in a folder that has one folder and one
+# file, by the shell that the further words run: what comes out is the same for all.
 complete_words() {
-    mkdir -p "$scratch/completing/folder"
-    cd "$scratch/completing" && : > file || return 1
-    bash "$here/completion.sh" "$tools/mcaudit.bash" < "$here/completion" > ../completed
-    diff "$here/completion" ../completed
+    mkdir -p "$1/folder" && cd "$1" && : > file || return 1
+    LC_ALL=C
+    export LC_ALL
+    "$@" -n "$tools/mcaudit.$1" || return 1
+    { sh "$here/help_words.sh" "$PROGRAM" "$tools" && cat "$here/completion"; } > ../"$1.words" || return 1
+    "$@" "$here/completion.$1" "$tools/mcaudit.$1" < ../"$1.words" > ../"$1.completed"
+    diff ../"$1.words" ../"$1.completed"
 }
 
 # Reads all shell with shellcheck.
@@ -383,7 +388,7 @@ check_shell() {
     cd "$here/../.." || return 1
     # shellcheck disable=SC2046 # names without spaces
     shellcheck -x $(grep -slE '^#!/bin/(ba)?sh' tools/* tests/tools/*.sh tests/tools/commands/* tests/lab/*.sh \
-        tests/*.sh) tools/mcaudit.bash
+        tests/*.sh) tools/mcaudit.bash tests/tools/completion.bash
 }
 
 # Asks all tools for their version: it is one.
@@ -407,20 +412,31 @@ want_package() {
         sh wanting/tests/packages.sh lab
 }
 
-# Installs all, with another file in the program's place: each tool is there, and systemd, where it is, takes the
-# units and their user.
+# Installs all, with another file in the program's place: each tool is there with its completions, systemd, where it
+# is, takes the units and their user, and nothing is left once all is taken away.
 install_all() {
     place=$PWD/installed
     make -s -C "$here/../.." install PROGRAM="$here/commands/mcaudit" SOURCES= PREFIX="$place" || return 1
     for tool in "$tools"/mcaudit-*; do
         [ -x "$place/bin/${tool##*/}" ] || { echo "${tool##*/} is not installed"; return 1; }
+        for file in bash-completion/completions/"${tool##*/}" fish/vendor_completions.d/"${tool##*/}.fish"; do
+            [ -s "$place/share/$file" ] || { echo "$file is not installed"; return 1; }
+        done
     done
-    [ -n "$systemd" ] || return 0
-    systemd-analyze verify --man=no "$place"/lib/systemd/system/* || return 1
-    if [ "$(id -u)" -eq 0 ]; then
-        mkdir "$place/etc" && systemd-sysusers --root="$place" - < "$place/lib/sysusers.d/mcaudit.conf" || return 1
-        grep '^mcaudit:.*:/var/lib/mcaudit:/usr/sbin/nologin$' "$place/etc/passwd"
-    fi
+    cmp "$tools/mcaudit.zsh" "$place/share/zsh/site-functions/_mcaudit" || return 1
+    [ -z "$systemd" ] || judge_units "$place" || return 1
+    make -s -C "$here/../.." uninstall PREFIX="$place" || return 1
+    find "$place" ! -type d > left
+    cat left
+    [ ! -s left ]
+}
+
+# Has systemd take the units that are installed below this place, and their user.
+judge_units() {
+    systemd-analyze verify --man=no "$1"/lib/systemd/system/* || return 1
+    [ "$(id -u)" -eq 0 ] || return 0
+    mkdir "$1/etc" && systemd-sysusers --root="$1" - < "$1/lib/sysusers.d/mcaudit.conf" || return 1
+    grep '^mcaudit:.*:/var/lib/mcaudit:/usr/sbin/nologin$' "$1/etc/passwd" && rm -R "${1:?}/etc"
 }
 
 # Runs the further words as a case of this name, which needs the command $2.
@@ -455,7 +471,9 @@ done
 systemd=$(command -v systemd-analyze)
 if [ -z "$wanted_cases" ]; then
     run_apart install make install_all
-    run_apart completion bash complete_words
+    run_apart completion-bash bash complete_words bash
+    run_apart completion-zsh zsh complete_words zsh -f
+    run_apart completion-fish fish complete_words fish --no-config
     run_apart versions python3 compare_versions
     run_apart packages sh want_package
     run_apart shellcheck shellcheck check_shell

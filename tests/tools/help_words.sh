@@ -1,0 +1,38 @@
+#!/bin/sh
+# Writes the lines `words -> completions` that follow from the help of the program and of its tools: all
+# commands, and all options of each. -h is left out. Usage: help_words.sh PROGRAM TOOLS
+program=$1
+tools=$2
+
+# The options of the help on standard input, on one line.
+print_options() {
+    sed -n 's/^ \{2,6\}\(-h, \)\{0,1\}\(-[-a-z]*\).*/\2/p' | sort -u | paste -sd ' ' -
+}
+
+# The commands of the help on standard input, a line each: those below the line that the pattern fits.
+print_commands() {
+    sed -n "/$1/,/^\$/s/^  *\\([a-z][a-z]*\\)  .*/\\1/p" | sort
+}
+
+commands=$("$program" --help 2>&1 | print_commands '^Commands:')
+# shellcheck disable=SC2086 # a word each
+echo mcaudit '' '->' $commands
+echo "mcaudit - -> $("$program" --help 2>&1 | print_options)"
+for command in $commands; do
+    case $command in
+        audit | pack) words="$command folder" ;;
+        replay | wants) words="$command 1 3" ;;
+        *) words=$command ;;
+    esac
+    # (the word --help is left out there)
+    echo "mcaudit $words - -> $("$program" "$command" --help 2>&1 | sed '/--help/d' | print_options)"
+done
+for tool in "$tools"/mcaudit-*; do
+    echo "${tool##*/} - -> $("$tool" --help | print_options)"
+done
+commands=$("$tools/mcaudit-site" --help | print_commands '^  COMMAND')
+# shellcheck disable=SC2086 # a word each
+echo mcaudit-site '' '->' $commands
+for command in $commands; do
+    echo "mcaudit-site $command - -> $("$tools/mcaudit-site" "$command" --help | print_options)"
+done

@@ -1,0 +1,98 @@
+#compdef mcaudit mcaudit-collect mcaudit-diff mcaudit-draft mcaudit-monitor mcaudit-page mcaudit-query mcaudit-reports mcaudit-site
+# mcaudit.zsh: completes the words of mcaudit and of its tools in zsh, which looks for it under the name _mcaudit.
+
+# what several tools have
+local -a help=('(- *)--help[print help]')
+local -a version=('(- *)--version[print the version]' $help)
+local -a site=('*:folder:_files -/')
+local -a routers=(
+    '--routers[take the routers of a file too]:file:_files'
+    '--ssh[reach a host by this command]:command: '
+)
+local -a timeout=('--timeout[give a router up when a reading takes longer]:seconds: ')
+local -a readings=(
+    '--readings[read a router at most so many times]:number: '
+    '--pause[wait so long between two readings of a router]:seconds: '
+    '--at-once[read at most so many routers side by side]:number: '
+    '--facts[bring the addresses and routes of the routers too]'
+    '--adopt[make a plain folder the first set]'
+)
+local -a asking=(
+    '--static[put into the list what a host wants that can not be asked]:group: '
+    '--empty[write a list though no host answered]'
+    '--ask[ask where no query comes]'
+    '--ask-routers[ask also where two routers lie on a LAN]'
+    '--tries[gather again, so many times in all]:number: '
+    '--wait[wait so long for a query]:seconds: '
+)
+
+case $service in
+mcaudit)
+    case $CURRENT:$words[2] in
+    2:*)
+        local -a commands=(
+            'audit:judge each flow of the files of a folder'
+            'check:judge each flow of a bundle by its certificate'
+            'make:make the certificate of a bundle'
+            'pack:pack the files of a folder into a bundle'
+            'replay:show the travel of one packet'
+            'wants:tell whether a LAN wants what a source sends'
+        )
+        _arguments $version '1: :{_describe command commands}' ;;
+    *:audit)
+        _arguments ': :' \
+            '--travel[tell the travel of each packet that shows a fault]' \
+            '--faults[leave out the flows that are right and wanted]' \
+            '--unlisted[tell all unlisted sources and groups]' \
+            '--strict[end with status 1 where a flow that is right is wanted by nobody]' \
+            '--json[write an object a line]' \
+            '*--without=[audit without the tables of a router]:router: ' $site ;;
+    *:pack) _arguments ': :' '--certificate[pack the certificate too]' $site ;;
+    *:replay) _arguments ': :' ':flow: ' ':ttl: ' '--order[which waiting copy is handled next]:order:(first last)' ;;
+    esac ;;
+mcaudit-collect)
+    _arguments $routers $timeout $readings $version $site '--shell[run a shell on a router by its way]:router: ' ;;
+mcaudit-diff) _arguments $version '--json[print an object a line]' '*:audit:_files' ;;
+mcaudit-draft)
+    _arguments $routers $timeout $version $site \
+        '--ttl[the time to live of all flows]:ttl: ' \
+        '--measure[wait so long for packets of a flow]:seconds: ' \
+        '--update[print what differs from the topology that is there]' ;;
+mcaudit-monitor)
+    _arguments $routers $timeout $readings $version $site \
+        '--no-collect[judge what is there]' \
+        '--keep[keep so many sets]:number: ' \
+        '--plugin[print one line, as a plugin of Nagios or Icinga]' \
+        '--warn-age[warn of older tables]:seconds: ' \
+        '--warn-reports[warn of older reports]:seconds: ' \
+        '--prometheus[write what the textfile collector reads]:file:_files' \
+        '--label[a label of all metrics]:name=value: ' ;;
+mcaudit-page)
+    _arguments $version $site \
+        '-o[write the page into a file]:file:_files' \
+        '--audit[take what an audit answered]:file:_files' \
+        '--program[run this program for mcaudit]:program:_files' \
+        '*--without[audit without the tables of a router]:router: ' ;;
+mcaudit-query)
+    _arguments $version ':interface:_files' \
+        '--count[send so many]:number: ' \
+        '--pause[seconds between two]:seconds: ' \
+        '--tenths[how long answers have, in tenths of a second]:tenths: ' \
+        '--print[send nothing, and print the message]' ;;
+mcaudit-reports)
+    _arguments $routers $asking $version '*:word:_files' \
+        '-o[put the list into a file]:file:_files' \
+        '--by[the interface is that of a router]:way: ' \
+        '--capture[read a capture file]:file:_files' \
+        '--text[read a recorded text on standard input]' \
+        '--all[gather the lists of all LANs]:folder:_files -/' \
+        '--slack[take answers that are so late]:seconds: ' ;;
+mcaudit-site)
+    case $CURRENT:$words[2] in
+    2:*)
+        local -a commands=('init:draft, collect, gather and judge' 'lans:print each LAN with each interface on it')
+        _arguments $version '1: :{_describe command commands}' ;;
+    *:init) _arguments ': :' $routers $asking '--ttl[the time to live of all flows]:ttl: ' $help $site ;;
+    *) _arguments ': :' $help $site ;;
+    esac ;;
+esac

@@ -5,6 +5,8 @@
 # make bench      runs the program on large domains, and writes what that took into bench/RESULTS.md (it needs python3);
 #                 BEFORE=PATH, an earlier build of the program, runs beside it. It fails where a certificate as `make`
 #                 writes it isn't read in a seventh of the time that the same takes behind one space
+# make fuzz       fuzzes each command with afl++ for an hour in all, on one core, and writes what that covered and found
+#                 into bench/fuzz.md; MINUTES=N takes N minutes, KEEP=FOLDER keeps the findings there
 # make lab        from routers to a verdict and a page, and each kind of fault to its remedy, in network namespaces (it
 #                 needs root; the file `packages` says what else); PAGES=FOLDER keeps the pages there
 # make page-test  tries the page of mcaudit-page in a headless Chromium; PICTURES=FOLDER writes pictures of it there
@@ -28,7 +30,7 @@ SOURCES = $(shell find crates \( -path '*/out' -o -path 'crates/mc_tests_*' \) -
 # the libraries below the program, lowest first
 LIBRARIES = $(filter-out mcaudit mc_tests_%,$(shell sed -n 's/^\([a-z_]*\):.*/\1/p' crates.txt))
 
-.PHONY: all example test bench lab page-test install uninstall dist deb
+.PHONY: all example test bench fuzz lab page-test install uninstall dist deb
 
 all: $(PROGRAM)
 
@@ -48,6 +50,9 @@ test:
 bench: $(PROGRAM)
 	python3 bench/run.py --write bench/RESULTS.md $(PROGRAM) $(BEFORE)
 	python3 bench/run.py $(PROGRAM) --only reading --bounds reading
+
+fuzz: $(PROGRAM)
+	python3 bench/fuzz/run.py $(PROGRAM) --write bench/fuzz.md $(if $(MINUTES),--minutes $(MINUTES)) $(if $(KEEP),--keep $(KEEP))
 
 lab: $(PROGRAM)
 	sh tests/lab/run.sh $(PROGRAM)

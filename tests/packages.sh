@@ -1,9 +1,10 @@
 #!/bin/sh
 # Sees that what a purpose needs is there: the packages of the file `packages` that name it. What is missing is
-# installed where that may be (as root or by sudo, with apt-get), and else named. Usage: packages.sh gate|lab|page|monitor|package
+# installed where that may be (as root or by sudo, with apt-get), and else named.
+# Usage: packages.sh gate|lab|page|monitor|package|fuzz
 
 packages=$(cd "$(dirname "$0")/.." && pwd)/packages || exit 1
-purpose=${1:?Usage: packages.sh gate|lab|page|monitor|package}
+purpose=${1:?Usage: packages.sh gate|lab|page|monitor|package|fuzz}
 
 # The missing packages of the purpose.
 print_missing() {

@@ -5,7 +5,8 @@ usage: run.py PROGRAM [--minutes N] [--only NAMES] [--write FILE] [--keep FOLDER
 
 The object file of which PROGRAM was linked, PROGRAM.o, is linked once more with its relocations, llvm-bolt puts a
 counter onto each edge between its blocks, and server.c, loaded before it, runs it in forks for afl-fuzz, which begins
-with the texts of seeds.py and the words of words.dict. It takes one core. What it finds is tried again by PROGRAM.
+with the texts of seeds.py and the words of words.dict. It takes one core. What it finds is tried again by PROGRAM, and
+what it kept of `audit` is held against a second implementation (compared.py).
 
 --minutes  of all commands together (60), shared out by their weights; where this script is asked to end (SIGINT or
            SIGTERM), it tells what was done until then
@@ -13,7 +14,7 @@ with the texts of seeds.py and the words of words.dict. It takes one core. What 
 --write    puts what was done behind the heading `What the last run did` of this file
 --keep     leaves the findings in this folder, and beside each what PROGRAM read of it
 
-The status is 1 where PROGRAM itself shows a finding.
+The status is 1 where PROGRAM itself shows a finding, or the second implementation gives another answer.
 """
 import argparse
 import glob
@@ -27,6 +28,7 @@ import time
 from typing import NamedTuple
 
 sys.dont_write_bytecode = True
+import compared
 import seeds
 
 HERE = os.path.dirname(os.path.abspath(__file__))
@@ -35,6 +37,7 @@ MEMORY = "/dev/shm"  # where files lie in memory
 BOLT = "llvm-bolt-16"
 FOLDER = "FOLDER"  # in a target's words, the folder that it reads
 SLOW = 1000  # milliseconds after which a run counts as one that doesn't end
+MOST_SHOWN = 40
 HEADING = "## What the last run did\n"
 QUIET = {"AFL_NO_UI": "1", "AFL_SKIP_CPUFREQ": "1", "AFL_NO_AFFINITY": "1", "AFL_SKIP_BIN_CHECK": "1",
          "AFL_I_DONT_CARE_ABOUT_MISSING_CRASHES": "1"}
@@ -105,7 +108,7 @@ class Run:
             os.mkdir(self.folder)
             self.told["FUZZ_FOLDER"] = self.folder
         self.texts = seeds.write(self.target.texts(), f"{self.out}.texts")
-        self.seconds, self.said = 0, {}
+        self.seconds, self.said, self.compared = 0, {}, compared.Compared(0, 0, [])
 
     def go(self, seconds):
         """Fuzzes for so many seconds. Returns whether this process wasn't asked to end before."""
@@ -134,43 +137,61 @@ class Run:
                 sys.exit(f"{self.name}: {file.read()[-2000:]}")
         self.said = {name.strip(): value.strip() for name, _, value in lines}
 
+    def alone(self, path, keep=os.devnull):
+        """Has the program itself run an input, as the server judges it, for a minute at the most; nothing if that isn't
+        enough. What it read is left in the target's folder, or in the file `keep`."""
+        env = {**self.told, "LD_PRELOAD": self.built.server, "FUZZ_KEEP": keep}
+        with open(path, "rb") as given:
+            try:
+                return subprocess.run([self.built.program, *self.words], env=env, stdin=given, capture_output=True,
+                                      timeout=60, check=False)
+            except subprocess.TimeoutExpired:
+                return None
+
     def findings(self):
-        return sorted(it for kind in ("crashes", "hangs") for it in glob.glob(f"{self.out}/default/{kind}/id*"))
+        """Returns what afl-fuzz found, and what the second implementation answers otherwise."""
+        paths = sorted(it for kind in ("crashes", "hangs") for it in glob.glob(f"{self.out}/default/{kind}/id*"))
+        if self.target.words.startswith("audit"):
+            self.compared = compared.compare(self)
+        return [Finding(self, path) for path in paths] + [Finding(self, path, True) for path in self.compared.differing]
+
+    def comparison(self):
+        """Returns the line that says what the second implementation answers."""
+        judged, worked_out, differing = self.compared
+        return (f"- `{self.target.words}`: {judged:,} kept inputs have a verdict; of {worked_out:,} that it reads "
+                f"`tests/audited/answers.py` gives {len(differing) or 'no'} other answer")
 
     def row(self):
         """Returns the row of a table that says what this run did."""
         found, of_all, executions = (int(self.said[it]) for it in ("edges_found", "total_edges", "execs_done"))
         return (f"| `{self.target.words}` | {self.target.given_as} | {self.texts} | {self.seconds / 60:.1f} | "
                 f"{executions:,} | {executions / max(self.seconds, 1):,.0f} | {int(self.said['corpus_count']):,} | "
-                f"{found:,} | {100 * found / of_all:.1f} % | {self.said['saved_crashes']} | {self.said['saved_hangs']} |")
+                f"{found:,} | {100 * found / of_all:.1f} % | "
+                f"{self.said['saved_crashes']} | {self.said['saved_hangs']} |")
 
 
 class Finding:
-    """An input that afl-fuzz kept, and what the program itself does with it."""
+    """An input that afl-fuzz found or that has two answers, and what the program itself does with it."""
 
-    def __init__(self, run, path):
+    def __init__(self, run, path, is_other=False):
         self.run, self.path = run, path
-        self.name = f"{run.name}-{os.path.basename(os.path.dirname(path))}-{os.path.basename(path).partition(',')[0]}"
+        kind = "other" if is_other else os.path.basename(os.path.dirname(path))
+        self.name = f"{run.name}-{kind}-{os.path.basename(path).partition(',')[0].replace(':', '')}"
         self.input = f"{run.built.room}/{self.name}.input"
-        self.did, self.is_shown = self.try_again()
-
-    def try_again(self):
-        """Runs the program itself, as the server judges it, for a minute at the most."""
-        env = {**self.run.told, "LD_PRELOAD": self.run.built.server, "FUZZ_KEEP": self.input}
-        words, begun = [self.run.built.program, *self.run.words], time.monotonic()
-        with open(self.path, "rb") as given:
-            try:
-                done = subprocess.run(words, env=env, stdin=given, capture_output=True, timeout=60, check=False)
-            except subprocess.TimeoutExpired:
-                return "doesn't end in a minute", True
-        end = (done.stdout or done.stderr).decode(errors="replace").strip().rpartition("\n")[2]
-        return f"status {done.returncode} in {time.monotonic() - begun:.1f} s, `{end[:80]}`", done.returncode < 0
+        begun = time.monotonic()
+        done = run.alone(path, self.input)
+        self.did, self.is_shown = "doesn't end in a minute", True
+        if done is not None:
+            end = (done.stdout or done.stderr).decode(errors="replace").strip().rpartition("\n")[2]
+            self.did = f"status {done.returncode} in {time.monotonic() - begun:.1f} s, `{end[:80]}`"
+            self.is_shown = is_other or done.returncode < 0
 
     def keep(self, folder):
         os.makedirs(folder, exist_ok=True)
         shutil.copyfile(self.path, f"{folder}/{self.name}")
         shutil.copyfile(self.input, f"{folder}/{self.name}.input")
         if os.path.isdir(self.run.folder):
+            self.run.alone(self.path)
             shutil.copytree(self.run.folder, f"{folder}/{self.name}.folder", dirs_exist_ok=True)
 
 
@@ -184,10 +205,11 @@ def page_of(runs, findings):
              f"{minutes:.0f} minutes of all; {runs[0].said['total_edges']} counters in the program.", ""]
     lines += ["| Command | Input | Texts | Minutes | Executions | A second | Kept | Edges | Of all | Crashes | Hangs |"]
     lines += ["|---|---|---:|---:|---:|---:|---:|---:|---:|---:|---:|", *(run.row() for run in runs), ""]
-    if not findings:
-        lines += ["Nothing was found."]
-    for it in findings:
-        lines += [f"- {it.name}: the program itself: {it.did}" + ("" if it.is_shown else ", which is right")]
+    lines += [run.comparison() for run in runs if run.compared.judged]
+    shown = sorted(findings, key=lambda it: not it.is_shown)[:MOST_SHOWN]
+    lines += [f"- {it.name}: the program itself: {it.did}" + ("" if it.is_shown else ", which is right") for it in shown]
+    lines += [f"- and {len(findings) - MOST_SHOWN} more"] if len(findings) > MOST_SHOWN else []
+    lines += [] if findings else ["- No crash, no hang and no wrong status was found."]
     return "\n".join(lines) + "\n"
 
 
@@ -222,7 +244,7 @@ def main():
             print(runs[-1].row(), flush=True)
             if not is_whole:
                 break
-        findings = [Finding(run, path) for run in runs for path in run.findings()]
+        findings = [it for run in runs for it in run.findings()]
         for finding in findings if words.keep else []:
             finding.keep(words.keep)
         page = page_of(runs, findings)

@@ -43,7 +43,8 @@ end
 
 # what several tools have
 set -l help '--help::print help'
-set -l about '--version::print the version' $help
+set -l told_version '--version::print the version'
+set -l about $told_version $help
 set -l routers '--routers:file:take the routers of a file too' '--ssh:value:reach a host by this command'
 set -l timeout '--timeout:value:give a router up when a reading takes longer'
 set -l readings \
@@ -69,7 +70,7 @@ __mcaudit_commands mcaudit \
     'pack:pack the files of a folder into a bundle' \
     'replay:show the travel of one packet' \
     'wants:tell whether a LAN wants what a source sends'
-__mcaudit_options mcaudit __fish_use_subcommand $about
+__mcaudit_options mcaudit __fish_use_subcommand $told_version
 __mcaudit_options mcaudit $audit \
     '--travel::tell the travel of each packet that shows a fault' \
     '--faults::leave out the flows that are right and wanted' \

@@ -3,7 +3,8 @@
 
 # what several tools have
 local -a help=('(- *)--help[print help]')
-local -a version=('(- *)--version[print the version]' $help)
+local -a version=('(- *)--version[print the version]')
+local -a about=($version $help)
 local -a site=('*:folder:_files -/')
 local -a routers=(
     '--routers[take the routers of a file too]:file:_files'
@@ -51,15 +52,15 @@ mcaudit)
     *:replay) _arguments ': :' ':flow: ' ':ttl: ' '--order[which waiting copy is handled next]:order:(first last)' ;;
     esac ;;
 mcaudit-collect)
-    _arguments $routers $timeout $readings $version $site '--shell[run a shell on a router by its way]:router: ' ;;
-mcaudit-diff) _arguments $version '--json[print an object a line]' '*:audit:_files' ;;
+    _arguments $routers $timeout $readings $about $site '--shell[run a shell on a router by its way]:router: ' ;;
+mcaudit-diff) _arguments $about '--json[print an object a line]' '*:audit:_files' ;;
 mcaudit-draft)
-    _arguments $routers $timeout $version $site \
+    _arguments $routers $timeout $about $site \
         '--ttl[the time to live of all flows]:ttl: ' \
         '--measure[wait so long for packets of a flow]:seconds: ' \
         '--update[print what differs from the topology that is there]' ;;
 mcaudit-monitor)
-    _arguments $routers $timeout $readings $version $site \
+    _arguments $routers $timeout $readings $about $site \
         '--no-collect[judge what is there]' \
         '--keep[keep so many sets]:number: ' \
         '--plugin[print one line, as a plugin of Nagios or Icinga]' \
@@ -68,19 +69,19 @@ mcaudit-monitor)
         '--prometheus[write what the textfile collector reads]:file:_files' \
         '--label[a label of all metrics]:name=value: ' ;;
 mcaudit-page)
-    _arguments $version $site \
+    _arguments $about $site \
         '-o[write the page into a file]:file:_files' \
         '--audit[take what an audit answered]:file:_files' \
         '--program[run this program for mcaudit]:program:_files' \
         '*--without[audit without the tables of a router]:router: ' ;;
 mcaudit-query)
-    _arguments $version ':interface:_files' \
+    _arguments $about ':interface:_files' \
         '--count[send so many]:number: ' \
         '--pause[seconds between two]:seconds: ' \
         '--tenths[how long answers have, in tenths of a second]:tenths: ' \
         '--print[send nothing, and print the message]' ;;
 mcaudit-reports)
-    _arguments $routers $asking $version '*:word:_files' \
+    _arguments $routers $asking $about '*:word:_files' \
         '-o[put the list into a file]:file:_files' \
         '--by[the interface is that of a router]:way: ' \
         '--capture[read a capture file]:file:_files' \
@@ -91,7 +92,7 @@ mcaudit-site)
     case $CURRENT:$words[2] in
     2:*)
         local -a commands=('init:draft, collect, gather and judge' 'lans:print each LAN with each interface on it')
-        _arguments $version '1: :{_describe command commands}' ;;
+        _arguments $about '1: :{_describe command commands}' ;;
     *:init) _arguments ': :' $routers $asking '--ttl[the time to live of all flows]:ttl: ' $help $site ;;
     *) _arguments ': :' $help $site ;;
     esac ;;

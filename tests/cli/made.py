@@ -46,6 +46,16 @@ def topology(_base, lans, routers, interfaces, sources, flows):
     ]).encode()]
 
 
+def dotted(_base, size):
+    """A topology of at most so many bytes whose keys have 80 parts, as many as a key may have: of what was tried, this
+    takes the most memory for its size, since each part is a table of its own."""
+    lines, length, number = [], 0, 0
+    while length + len(line := f"{number:x}{'.a' * 79}=1\n") <= int(size):
+        lines.append(line)
+        length, number = length + len(line), number + 1
+    return ["".join(lines).encode()]
+
+
 def flow_of(_base, count, piece):
     """A certificate of version 1 whose flow has a piece so many times."""
     pieces = ",".join([piece] * int(count))

@@ -1,0 +1,1 @@
+sh tests/cli/cases/check_topology_of_dotted_keys_within_the_bound_of_its_memory/stdin.sh

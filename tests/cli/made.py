@@ -1,6 +1,10 @@
 """The texts of the tables whose head says `made: yes`, too large to stand there or too many: a row is the
-name of a function of this file and its words. A function gets the table's text too, and gives the row's texts."""
+name of a function of this file and its words. A function gets the table's text too, and gives the row's texts.
+
+  python3 tests/cli/made.py NAME [WORD ..]      writes the first text of a function that needs no table's
+"""
 import re
+import sys
 
 
 def repeated(_base, byte, size):
@@ -56,6 +60,19 @@ def dotted(_base, size):
     return ["".join(lines).encode()]
 
 
+def deepest(_base):
+    """A topology whose tables stand some 6,400 deep in one another, as deep as the limits of TOML's reader let them: a
+    header and a key of 80 parts, and 79 inline tables in one another, each with a key of 80 parts."""
+    key = ".".join(["a"] * 80)
+    return [f"[{key}]\n{key} = [{f'{{{key} = ' * 79}1{'}' * 79}]\n".encode()]
+
+
+def alone(_base, name, *words):
+    """A bundle that has nothing but a topology, the first text of another function."""
+    text = globals()[name](b"", *words)[0]
+    return [b"mcaudit bundle 1\npart topology %d\n%s\nend\n" % (len(text), text)]
+
+
 def flow_of(_base, count, piece):
     """A certificate of version 1 whose flow has a piece so many times."""
     pieces = ",".join([piece] * int(count))
@@ -86,3 +103,7 @@ def last_of(base, *counts):
 def nested(_base, depth):
     """Lists in one another."""
     return [b"[" * int(depth) + b"]" * int(depth)]
+
+
+if __name__ == "__main__":
+    sys.stdout.buffer.write(globals()[sys.argv[1]](b"", *sys.argv[2:])[0])

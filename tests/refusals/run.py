@@ -32,7 +32,7 @@ from concurrent.futures import ThreadPoolExecutor
 TOP = os.path.dirname(os.path.dirname(os.path.dirname(os.path.abspath(__file__))))
 sys.dont_write_bytecode = True
 sys.path.append(f"{TOP}/tests/cli")
-from made import dotted
+from made import alone
 
 PIECES = (1, 2, 3, 7, 64, 4096)
 MOST_STOPS = 400  # of a long text not every place is tried, but so many, evenly
@@ -173,7 +173,7 @@ def runs_of(program):
     made = text_of("examples/steps/pack-certified.stdout")  # its certificate is as `make` writes it
     folders = f"{TOP}/examples/network", f"{TOP}/examples/second-router"
     unlisted = f"{TOP}/examples/faults/a-flow-that-is-not-listed"
-    deep = dotted(b"", 400)[0]  # its tables stand as deep in one another as TOML's keys may lead
+    dotted = alone(b"", "dotted", 400)[0]
     plain, other = (subprocess.run([program, "pack", it], stdout=subprocess.PIPE, check=True).stdout for it in folders)
     return [
         (["check"], bundle, None, ALL_STOPS),
@@ -181,7 +181,7 @@ def runs_of(program):
         (["check"], faulty),
         (["check"], made),
         (["check"], bundle[:700]),
-        (["check"], b"mcaudit bundle 1\npart topology %d\n%s\nend\n" % (len(deep), deep)),
+        (["check"], dotted),
         (["make"], plain),
         (["make"], other),
         (["replay", "1", "3"], plain),

@@ -1,1 +1,2 @@
-sh tests/cli/cases/check_topology_of_dotted_keys_within_the_bound_of_its_memory/stdin.sh
+# a topology of 1 MiB that takes the most memory for its size, and half of what it may take
+python3 tests/cli/made.py alone dotted 1048576

@@ -29,6 +29,7 @@ from typing import NamedTuple
 
 sys.dont_write_bytecode = True
 import compared
+import covered
 import seeds
 
 HERE = os.path.dirname(os.path.abspath(__file__))
@@ -36,6 +37,7 @@ TOP = seeds.TOP
 MEMORY = "/dev/shm"  # where files lie in memory
 BOLT = "llvm-bolt-16"
 FOLDER = "FOLDER"  # in a target's words, the folder that it reads
+CRATES = {*os.listdir(f"{TOP}/crates"), "toml", "toml_parser", "toml_datetime", "serde_json", "json"}  # told apart
 SLOW = 1000  # milliseconds after which a run counts as one that doesn't end
 MOST_SHOWN = 40
 HEADING = "## What the last run did\n"
@@ -207,9 +209,12 @@ def page_of(runs, findings):
     lines += ["|---|---|---:|---:|---:|---:|---:|---:|---:|---:|---:|", *(run.row() for run in runs), ""]
     lines += [run.comparison() for run in runs if run.compared.judged]
     shown = sorted(findings, key=lambda it: not it.is_shown)[:MOST_SHOWN]
-    lines += [f"- {it.name}: the program itself: {it.did}" + ("" if it.is_shown else ", which is right") for it in shown]
+    lines += [f"- {it.name}: the program itself: {it.did}{'' if it.is_shown else ', which is right'}" for it in shown]
     lines += [f"- and {len(findings) - MOST_SHOWN} more"] if len(findings) > MOST_SHOWN else []
     lines += [] if findings else ["- No crash, no hang and no wrong status was found."]
+    maps = [f"{run.out}/default/fuzz_bitmap" for run in runs]
+    lines += ["", "All together, where edges of want of memory, and those of other words, can't be met:", ""]
+    lines += covered.table(runs[0].built.counted, maps, CRATES)
     return "\n".join(lines) + "\n"
 
 

@@ -188,6 +188,7 @@ def runs_of(program):
         (["replay", "1", "255", "--order", "last"], other),
         (["wants", "239.1.2.3", "10.0.0.5"], reports),
         (["wants", "239.1.2.3", "10.0.0.5"], b""),
+        (["--version"], None),
         (["audit", folders[0]], None),
         (["audit", folders[1], "--travel"], None),
         (["audit", folders[1], "--travel", "--json"], None),

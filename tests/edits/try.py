@@ -3,6 +3,8 @@
 
   python3 tests/edits/try.py [NAME..]     tries the edits of these crates, or of all
   python3 tests/edits/try.py --whole ..   does so in whole copies: each has to be refused by the same goals
+  python3 tests/edits/try.py --as-proved FOLDER   tries those of FOLDER/crates/*/must-fail of each crate that standard
+                                          input names, a line each, as soon as it is named
   python3 tests/edits/try.py --selftest   holds this script to edits of its own
 
 It runs at the top of the repository, over what `rt check` and `rt lib` left there, or `rt ci`.
@@ -481,6 +483,24 @@ def try_all(names, jobs, home=None, is_whole=False):
     with ROOM, ThreadPoolExecutor(jobs) as pool:
         crates = [Crate(it, home or it.folder, ROOM.name, is_whole) for it in made]
         found = list(zip(crates, pool.map(Crate.try_edits, crates)))
+    return lines_of(found)
+
+
+def try_as_proved(names, jobs, homes):
+    """Tries the edits of each crate as soon as its name comes, those of a folder of this name under `homes`."""
+    made = {it.name: it for it in rt.rtlib.crates_below(os.getcwd())}
+    with ROOM, ThreadPoolExecutor(jobs) as pool:
+        tried = []
+        for name in (it.strip() for it in names):
+            crate = Crate(made[name], f"{homes}/{name}", ROOM.name, False)
+            tried.append((crate, pool.submit(crate.try_edits)))
+        found = [(crate, its.result()) for crate, its in tried]
+    return lines_of(found)
+
+
+def lines_of(found):
+    """Says what each crate's edits took, and returns the lines of all of them."""
+    crates = [crate for crate, _ in found]
     for crate in crates:
         if crate.edits:
             print(f"{crate.name}: {len(crate.edits)} edits, {crate.cost:.0f} s of a processor")
@@ -560,6 +580,7 @@ def main():
     words.add_argument("names", nargs="*", metavar="NAME")
     words.add_argument("--selftest", action="store_true")
     words.add_argument("--whole", action="store_true")
+    words.add_argument("--as-proved", metavar="FOLDER")
     words.add_argument("--jobs", type=int)
     given = words.parse_args()
     rt.rtlib.guarded()  # (from here on all that is started ends with this script)
@@ -568,7 +589,10 @@ def main():
     jobs = given.jobs or max(1, min(rt.processors(), rt.free() // MEMORY_OF_CHECK))
     if given.selftest:
         return selftest(jobs)
-    found = try_all(given.names, jobs, is_whole=given.whole)
+    if given.as_proved:
+        found = try_as_proved(sys.stdin, jobs, f"{given.as_proved}/crates")
+    else:
+        found = try_all(given.names, jobs, is_whole=given.whole)
     for name, refused, why in found:
         print(f"{'refused' if refused else 'ERROR'} {name}: {why}")
     failed = sum(not it[1] for it in found)

@@ -9,7 +9,8 @@ It works on a copy of the repository, in steps:
   house     tests/house looks whether each thing stands once, and whether something leads to each lemma
   proofs    `rt ci` proves each crate and its tests from nothing, runs the tests, and builds and runs the program
   edits     tests/edits/try.py tries the wrong bodies of crates/*/must-fail, many in one check: the prover must
-            refuse each. (The copy that `rt ci` sees has none of them: it would try each in a check of its own.)
+            refuse each. It begins with a crate as soon as that is proved, beside the proofs that are left, which go
+            first. (The copy that `rt ci` sees has none of them: it would try each in a check of its own.)
   cases     tests/docs looks whether what the documents name is there, and runs what README and the tour show; tests/cli has cases of
             the program that was built; tests/audited works out anew what it says of random domains; tests/refusals
             refuses it each request for memory, each read and each write in turn, and the tests about memory each growth;
@@ -22,7 +23,6 @@ failed`, and the status is 0 if nothing failed.
 """
 import os
 import re
-import resource
 import shutil
 import subprocess
 import sys
@@ -34,8 +34,10 @@ MARK = "MCAUDIT_GATE"
 TESTS = [f"crates/{name}/out/{name}_tests" for name in ("mc_tests_below", "mc_tests_above")]  # as `rt ci` builds them
 TICK = os.sysconf("SC_CLK_TCK")
 COUNTS = re.compile(r"(\d+) passed, (\d+) failed")
+PROVED = re.compile(r"rt: (\w+) (?:proved|is kept: .*)\n")  # as `rt ci` says it of a crate
 CORES = len(os.sched_getaffinity(0))
 MEMORY_OF_CHECK = 4_000_000_000
+MEMORY_OF_EDIT = 3_000_000_000
 
 
 class Prover:
@@ -85,9 +87,57 @@ class Prover:
         return found
 
 
-def processor_time():
-    used = resource.getrusage(resource.RUSAGE_CHILDREN)
-    return used.ru_utime + used.ru_stime
+class Step:
+    """A command of the gate while it runs: its lines, and what it took."""
+
+    def __init__(self, name, words, room, **more):
+        self.name, self.begun = name, time.monotonic()
+        self.lines, self.counts = [], None
+        marked = {"RT_JOBS": str(checks_at_once()), **os.environ, MARK: room, "PYTHONUNBUFFERED": "1"}
+        how = {"stdin": subprocess.DEVNULL, "stdout": subprocess.PIPE, "text": True, "errors": "replace", **more}
+        self.running = subprocess.Popen(words, cwd=room, env=marked, **how)
+
+    def read(self, told):
+        """Hands each line to `told` as it comes, and waits for the end. The last line that counts is taken."""
+        for line in self.running.stdout:
+            self.counts = COUNTS.fullmatch(line.strip()) or self.counts
+            told(line)
+        _, status, used = os.wait4(self.running.pid, 0)
+        self.running.returncode = os.waitstatus_to_exitcode(status)
+        self.seconds, self.minutes = used.ru_utime + used.ru_stime, (time.monotonic() - self.begun) / 60
+
+
+def show(line):
+    print(line, end="", flush=True)
+
+
+class EditsBeside:
+    """The edits, tried beside the proofs: those of a crate as soon as it is proved."""
+
+    def __init__(self, room, homes):
+        jobs = max(1, min(CORES, (free_memory() - checks_at_once() * MEMORY_OF_EDIT) // MEMORY_OF_EDIT))
+        words = ["nice", "-n", "10", sys.executable, "tests/edits/try.py", "--as-proved", homes, "--jobs", str(jobs)]
+        self.step = Step("edits", words, room, stdin=subprocess.PIPE)
+        self.lines = []
+        self.reading = threading.Thread(target=self.step.read, args=(self.lines.append,), daemon=True)
+        self.reading.start()
+
+    def name_proved(self, line):
+        """Shows a line of `rt ci`, and hands on the crate that it says is proved."""
+        show(line)
+        if (found := PROVED.fullmatch(line)) and self.step.running.poll() is None:
+            self.step.running.stdin.write(f"{found[1]}\n")
+            self.step.running.stdin.flush()
+
+    def stop(self):
+        self.step.running.terminate()
+        self.reading.join()
+
+    def end(self):
+        """Waits until all are tried."""
+        self.step.running.stdin.close()
+        self.reading.join()
+        return self.step, self.lines
 
 
 class Gate:
@@ -96,21 +146,20 @@ class Gate:
     def __init__(self, room):
         self.room, self.steps, self.passed, self.failed = room, [], 0, 0
 
-    def step(self, name, *words):
-        """Runs a command in the copy. Its last line that counts is added up; without one, it counts as one thing."""
+    def step(self, name, *words, told=show):
+        """Runs a command in the copy, and hands its lines on. Without one that counts, it counts as one thing."""
         print(f"== {name}: {' '.join(words)}", flush=True)
-        before, begun, counts = processor_time(), time.monotonic(), None
-        how = {"stdin": subprocess.DEVNULL, "stdout": subprocess.PIPE, "text": True, "errors": "replace"}
-        marked = {"RT_JOBS": str(checks_at_once()), **os.environ, MARK: self.room, "PYTHONUNBUFFERED": "1"}
-        running = subprocess.Popen(words, cwd=self.room, env=marked, **how)
-        for line in running.stdout:
-            counts = COUNTS.fullmatch(line.strip()) or counts
-            print(line, end="", flush=True)
-        is_well = running.wait() == 0
-        passed, failed = (int(counts[1]), int(counts[2])) if counts else (int(is_well), 0)
+        step = Step(name, words, self.room)
+        step.read(told)
+        self.add(step)
+
+    def add(self, step):
+        """Counts a step that has ended."""
+        is_well = step.running.returncode == 0
+        passed, failed = (int(step.counts[1]), int(step.counts[2])) if step.counts else (int(is_well), 0)
         self.passed += passed
         self.failed += failed or (0 if is_well else 1)
-        self.steps.append((name, processor_time() - before, time.monotonic() - begun))
+        self.steps.append((step.name, step.seconds, step.minutes))
 
 
 def checks_at_once():
@@ -118,9 +167,12 @@ def checks_at_once():
 
     One that has four cores to itself ends hardly sooner where others wait for theirs, and takes half as much
     processor time again."""
+    return max(1, min(CORES, free_memory() // MEMORY_OF_CHECK))
+
+
+def free_memory():
     with open("/proc/meminfo", encoding="ascii") as file:
-        free = next(int(it.split()[1]) * 1024 for it in file if it.startswith("MemAvailable:"))
-    return max(1, min(CORES, free // MEMORY_OF_CHECK))
+        return next(int(it.split()[1]) * 1024 for it in file if it.startswith("MemAvailable:"))
 
 
 def copy_repository(root, room):
@@ -157,12 +209,11 @@ def keep_program(root, room, begun):
 def report(gate, crates, begun):
     """Returns what was measured, as a page in Markdown."""
     sum_of_steps = sum(it[1] for it in gate.steps)
-    wall = sum(it[2] for it in gate.steps)
     lines = ["# What the gate takes", ""]
     day = time.strftime("%Y-%m-%d", time.gmtime(begun))
-    lines += [f"`make test` on {day}, {CORES} cores: {sum_of_steps:,.0f} processor-seconds in {wall / 60:.0f} minutes.", ""]
+    lines += [f"`make test` on {day}, {CORES} cores: {sum_of_steps:,.0f} processor-seconds in {(time.time() - begun) / 60:.0f} minutes. The edits run beside the proofs.", ""]
     lines += ["| Step | processor-seconds | minutes |", "|---|---|---|"]
-    lines += [f"| {name} | {seconds:,.0f} | {minutes / 60:.1f} |" for name, seconds, minutes in gate.steps]
+    lines += [f"| {name} | {seconds:,.0f} | {minutes:.1f} |" for name, seconds, minutes in gate.steps]
     lines += ["", "Of these the prover, by crate, in processor-seconds:", "", "| Crate | proof | edits | tests |", "|---|---|---|---|"]
     rows = [(it, *(crates[it][part] for part in ("proof", "edits", "tests"))) for it in sorted(crates)]
     rows.append(("all", *(sum(row[at] for row in rows) for at in (1, 2, 3))))
@@ -174,7 +225,6 @@ def try_program(gate):
     """The steps over what was proved and built; without that they would show nothing."""
     program = "crates/mcaudit/out/mcaudit"
     gate.step("the script for the edits", sys.executable, "tests/edits/try.py", "--selftest")
-    gate.step("edits", sys.executable, "tests/edits/try.py")
     gate.step("what documents name", sys.executable, "tests/docs/check.py")
     gate.step("what the page of proofs has", sys.executable, "tests/docs/proofs.py")
     gate.step("cases of the program", "sh", "tests/cli/run.sh", program)
@@ -186,19 +236,34 @@ def try_program(gate):
     gate.step("cases of the tools", "sh", "tests/tools/run.sh")
 
 
+def prove(gate, homes):
+    """The proofs, and beside them the edits, which stand in `homes`. Returns whether all is proved."""
+    beside = EditsBeside(gate.room, homes)
+    anew = ["--anew"] if len(sys.argv) > 1 else []
+    gate.step("proofs, tests and programs", "rt", "ci", *anew, told=beside.name_proved)
+    if gate.failed:
+        beside.stop()
+        return False
+    step, lines = beside.end()
+    print("== edits, of which the last were tried after the proofs", flush=True)
+    print(*lines, sep="", end="", flush=True)
+    gate.add(step)
+    return True
+
+
 def main():
     root = os.path.dirname(os.path.dirname(os.path.dirname(os.path.abspath(__file__))))
     begun = time.time()
-    with tempfile.TemporaryDirectory(prefix="mcaudit-gate-") as room:
+    with tempfile.TemporaryDirectory(prefix="mcaudit-gate-") as room, tempfile.TemporaryDirectory() as homes:
         os.chmod(room, 0o755)
         prover = Prover(room)
         edits = copy_repository(root, room)
+        for path in edits:
+            copy_file(root, homes, path)
         gate = Gate(room)
         gate.step("packages", "sh", "tests/packages.sh", "gate")
         gate.step("each thing once", "sh", "tests/house/check.sh")
-        if not gate.failed:
-            gate.step("proofs, tests and programs", "rt", "ci", *(["--anew"] if len(sys.argv) > 1 else []))
-        if not gate.failed:
+        if not gate.failed and prove(gate, homes):
             for path in edits:
                 copy_file(root, room, path)
             try_program(gate)

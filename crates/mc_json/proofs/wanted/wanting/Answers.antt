@@ -17,7 +17,7 @@ loop-number-preserved c =
     elim c.if-wants.branch [
       | then-wants+in_ok-push w ↦ rw w.lans-is (filter-passed wants xs w.push.new.self.items n
           c.loop-number.invariant (sym c.wants.ensures ∙ w.if-wants.true)
-    w.in_ok-push.ensures.items)
+          w.in_ok-push.ensures.items)
       | else-wants w ↦ rw w.lans-is (filter-passed_not wants xs n c.loop-number.invariant
           (sym c.wants.ensures ∙ w.if-wants.false))
     ]

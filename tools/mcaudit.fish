@@ -56,6 +56,7 @@ set -l readings \
 set -l asking \
     '--static:value:put into the list what a host wants that can not be asked' \
     '--empty::write a list though no host answered' \
+    '--empty-lan:value:the same for this LAN alone' \
     '--ask::ask where no query comes' \
     '--ask-routers::ask also where two routers lie on a LAN' \
     '--tries:value:gather again, so many times in all' \

@@ -21,6 +21,7 @@ local -a readings=(
 local -a asking=(
     '--static[put into the list what a host wants that can not be asked]:group: '
     '--empty[write a list though no host answered]'
+    '*--empty-lan[the same for this LAN alone]:LAN: '
     '--ask[ask where no query comes]'
     '--ask-routers[ask also where two routers lie on a LAN]'
     '--tries[gather again, so many times in all]:number: '

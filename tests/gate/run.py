@@ -21,6 +21,7 @@ processor time; with REPORT, a path, the same as a page in Markdown, and no proo
 machine is taken over. The last line counts everything, `N passed, M
 failed`, and the status is 0 if nothing failed.
 """
+import contextlib
 import os
 import re
 import shutil
@@ -115,7 +116,7 @@ class EditsBeside:
     """The edits, tried beside the proofs: those of a crate as soon as it is proved."""
 
     def __init__(self, room, homes):
-        jobs = max(1, min(CORES, (free_memory() - checks_at_once() * MEMORY_OF_EDIT) // MEMORY_OF_EDIT))
+        jobs = max(1, min(CORES // 2, (free_memory() - checks_at_once() * MEMORY_OF_EDIT) // MEMORY_OF_EDIT))
         words = ["nice", "-n", "10", sys.executable, "tests/edits/try.py", "--as-proved", homes, "--jobs", str(jobs)]
         self.step = Step("edits", words, room, stdin=subprocess.PIPE)
         self.lines = []
@@ -125,9 +126,10 @@ class EditsBeside:
     def name_proved(self, line):
         """Shows a line of `rt ci`, and hands on the crate that it says is proved."""
         show(line)
-        if (found := PROVED.fullmatch(line)) and self.step.running.poll() is None:
-            self.step.running.stdin.write(f"{found[1]}\n")
-            self.step.running.stdin.flush()
+        if found := PROVED.fullmatch(line):
+            with contextlib.suppress(BrokenPipeError):  # its status says that it failed
+                self.step.running.stdin.write(f"{found[1]}\n")
+                self.step.running.stdin.flush()
 
     def stop(self):
         self.step.running.terminate()
@@ -135,7 +137,8 @@ class EditsBeside:
 
     def end(self):
         """Waits until all are tried."""
-        self.step.running.stdin.close()
+        with contextlib.suppress(BrokenPipeError):
+            self.step.running.stdin.close()
         self.reading.join()
         return self.step, self.lines
 

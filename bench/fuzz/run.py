@@ -204,7 +204,7 @@ def page_of(runs, findings):
     version = runs[0].said["afl_version"].lstrip("+")
     minutes = sum(run.seconds for run in runs) / 60
     lines = [f"{time.strftime('%Y-%m-%d')}, {processor}, one of {os.cpu_count()} processors; afl++ {version}; "
-             f"{minutes:.0f} minutes of all; {runs[0].said['total_edges']} counters in the program.", ""]
+             f"{minutes:.0f} minutes; {int(runs[0].said['total_edges']):,} counters in the program.", ""]
     lines += ["| Command | Input | Texts | Minutes | Executions | A second | Kept | Edges | Of all | Crashes | Hangs |"]
     lines += ["|---|---|---:|---:|---:|---:|---:|---:|---:|---:|---:|", *(run.row() for run in runs), ""]
     lines += [run.comparison() for run in runs if run.compared.judged]

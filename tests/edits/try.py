@@ -1,5 +1,5 @@
 #!/usr/bin/env python3
-"""Tries the wrong bodies in crates/*/must-fail, which the prover must refuse, many in one check.
+"""Tries the must-fail edits of the crates, which the prover must refuse, many in one check.
 
   python3 tests/edits/try.py [NAME..]     tries the edits of these crates, or of all
   python3 tests/edits/try.py --whole ..   does so in whole copies: each has to be refused by the same goals

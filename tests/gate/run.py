@@ -8,7 +8,7 @@ It works on a copy of the repository, in steps:
   packages  tests/packages.sh installs what of the file `packages` is missing; what can't be had ends the gate by name
   house     tests/house looks whether each thing stands once, and whether something leads to each lemma
   proofs    `rt ci` proves each crate and its tests from nothing, runs the tests, and builds and runs the program
-  edits     tests/edits/try.py tries the wrong bodies of crates/*/must-fail, many in one check: the prover must
+  edits     tests/edits/try.py tries the must-fail edits of the crates, many in one check: the prover must
             refuse each. It begins with a crate as soon as that is proved, beside the proofs that are left, which go
             first. (The copy that `rt ci` sees has none of them: it would try each in a check of its own.)
   cases     tests/docs looks whether what the documents name is there, and runs what README and the tour show; tests/cli has cases of

@@ -17,7 +17,7 @@ Devices that give or take a few bytes at a time change nothing, and so doesn't a
 
 TESTS are programs that `rt ci` built of tests. Each of their tests that is about memory, as its module's name or its own
 says, is run with each request for memory refused in turn: it makes the refused call again and passes, or gives up with
-want of memory where it prepares what it calls.
+lack of memory where it prepares what it calls.
 
 The last line counts the runs: `N passed, M failed`. The status is 0 if none failed and one was run.
 """
@@ -120,7 +120,7 @@ class TriedRefusal(Tried):
 
 
 class TriedTest(Tried):
-    """A test, which has to pass whichever request for memory is refused, or to give up with want of memory."""
+    """A test, which has to pass whichever request for memory is refused, or to give up with lack of memory."""
 
     def __init__(self, program, library, name):
         super().__init__(program, library, [name], None)

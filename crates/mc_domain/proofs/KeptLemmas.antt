@@ -41,7 +41,7 @@ module _ {K Y : Type 0} (Keeps : K → Y → Type 0) where
   told_ok (Ok own) (Err fault) kept is e = absurd is
   told_ok (Err fault) read kept is e = absurd cc
 
-  -- a fault that isn't want of memory is the part's
+  -- a fault that isn't lack of memory is the part's
   pub fault_is : (fault : InputFault) (read : Result Y InputFault) → IsToldOf Keeps (Err fault) read
       → fault ≢ input.Memory → read ≡ Err fault
   fault_is input.Memory read is loud = absurd (loud refl)

@@ -74,7 +74,7 @@ pub fn pack<F: FileSource, W: Output>(
     ensures kept { F.told files.new ≡ F.told files.old }
     // There is a bundle of the files, or the answer is the first reason why there is none.
     ensures answer { IfSome (F.told files.old) (λ told. Answers certified told result) }
-    // Where there is one, only a device or want of memory keeps it from being written.
+    // Where there is one, only a device or lack of memory keeps it from being written.
     ensures only { (told : List FileText) (parts : List PartText) → F.told files.old ≡ Some told
         → IsPacked told certified parts → IfErr result SaysNothing }
     // The bundle is written whole, or a part of it where the output failed, or else nothing.

@@ -53,7 +53,7 @@ HasBadCertificate text fault =
 
 -- A run that reads a bundle, with a certificate or without, answers this of the text: the bundle's
 -- first fault, the parts in the order in which they are judged, and the certificate last. What
--- devices do and want of memory say nothing of a text.
+-- devices do and lack of memory say nothing of a text.
 abbrev pub IsRefusedFor : (certified : Bool) → List ℕ → RunFault → Type 0
 IsRefusedFor certified text (Bundle fault) = input_of certified text ≡ Err (input.Bundle fault)
 IsRefusedFor certified text (Parts place) = input_of certified text ≡ Err (input.Parts place)
@@ -74,7 +74,7 @@ IsRefusedFor certified text Memory = ⊤
 
 -- A run on the files without the routers of these names answers this of them: the topology's fault, the
 -- first name that no router has, or the first fault of the rest, in the order in which they are read.
--- What devices do and want of memory say nothing of the files.
+-- What devices do and lack of memory say nothing of the files.
 abbrev pub AreRefusedWithout : (names : List (List ℕ)) → List FileText → RunFault → Type 0
 AreRefusedWithout names files Read = ⊤
 AreRefusedWithout names files Write = ⊤

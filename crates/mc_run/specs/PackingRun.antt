@@ -19,7 +19,7 @@ of_packing packing.Write = Write
 of_packing packing.Memory = Memory
 
 -- There is a bundle of the files, or this is the first reason why there is none. What devices do
--- and want of memory say nothing of the files, and no part but the topology is judged.
+-- and lack of memory say nothing of the files, and no part but the topology is judged.
 abbrev pub AnswersPack : Bool → List FileText → Result (Unit {0}) RunFault → Type 0
 AnswersPack certified files (Ok done) = (parts : List PartText) × IsPacked files certified parts
 AnswersPack certified files (Err (Topology fault)) =

@@ -22,7 +22,7 @@ abbrev pub of_reading : ReadFault → RunFault
 of_reading reading.Read = Read
 of_reading reading.Memory = Memory
 
--- want of memory is the run's own, and every other fault is the list's
+-- lack of memory is the run's own, and every other fault is the list's
 abbrev pub of_list_kind : ListFault → ListFaultKind → RunFault
 of_list_kind fault list.Memory = Memory
 of_list_kind fault _ = Reports fault

@@ -21,7 +21,7 @@ IsAnswer text group source wanted =
     × (IsTrue wanted ↔ Wants records group source)
 
 -- The answer is right. A list is refused only for the first fault that stands in it. The other
--- faults are those of the devices, and want of memory.
+-- faults are those of the devices, and lack of memory.
 abbrev pub Answers : List ℕ → ℕ → ℕ → Result Bool RunFault → Type 0
 Answers text group source (Ok wanted) = IsAnswer text group source wanted
 Answers text group source (Err (Reports fault)) = read_list text ≡ Err fault

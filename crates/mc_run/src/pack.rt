@@ -30,7 +30,7 @@ pub fn run_pack<F: FileSource, W: Output>(
     ensures kept { F.told files.new ≡ F.told files.old }
     // There is a bundle of the files, or the answer is the first reason why there is none.
     ensures answer { IfSome (F.told files.old) (λ told. AnswersPack certificate told result) }
-    // Where there is one, only a device or want of memory keeps it from being written.
+    // Where there is one, only a device or lack of memory keeps it from being written.
     ensures only { (told : List FileText) (parts : List PartText) → F.told files.old ≡ Some told
         → IsPacked told certificate parts → IfErr result IsOfDevices }
     // The bundle is written whole, or a part of it where the output failed, or else nothing.

@@ -23,7 +23,7 @@ unless_fault (Some fault) read = Err fault
 abbrev pub out_of_memory : TableFault
 out_of_memory = record { line = 0; kind = Memory }
 
--- a fault of this kind at a line, of which want of memory has none
+-- a fault of this kind at a line, of which lack of memory has none
 abbrev pub fault_at : ℕ → TableFaultKind → TableFault
 fault_at line Memory = out_of_memory
 fault_at line kind = record { line = line; kind = kind }

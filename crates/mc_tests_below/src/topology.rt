@@ -1,4 +1,4 @@
-//! What no clause says and no run of the program shows: a text that is too long, want of memory, and
+//! What no clause says and no run of the program shows: a text that is too long, lack of memory, and
 //! look-ups.
 
 mod limits;

@@ -13,7 +13,7 @@ use Rattle.mc_text.specs.Steps.{◌>>=◌}
 use Rattle.mc_text.specs.Bundle.{PartText, is_name_byte, max_name, max_line, max_part, max_bundle}
 use Rattle.mc_text.specs.Bundle.{max_parts}
 
--- want of memory, which says nothing of reading
+-- lack of memory, which says nothing of reading
 abbrev pub IsMemory : BundleFault → Type 0
 IsMemory faults.Memory = Unit {0}
 IsMemory fault = ⊥

@@ -4,7 +4,7 @@ use Rattle.std.specs.Io.KnownBytes.{Consumes}
 use Rattle.mc_text.specs.declared.io.input_bytes.ReadFault.{ReadFault}
 use Rattle.mc_text.specs.declared.io.input_bytes.ReadFault.TheVariants.{Read, Memory}
 
--- whether the fault is a read that failed, as want of memory is not
+-- whether the fault is a read that failed, as lack of memory is not
 abbrev pub is_read : ReadFault → Bool
 is_read Read = true
 is_read Memory = false

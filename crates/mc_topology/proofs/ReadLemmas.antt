@@ -29,7 +29,7 @@ found_at : (text : List ℕ) (r : Result TopologyValue TopologyFault) → r ≡ 
 found_at text (Ok t) gives = reading_takes text t (sym gives)
 found_at text (Err fault) gives = tt
 
--- the same of an answer that want of memory may stand in place of
+-- the same of an answer that lack of memory may stand in place of
 pub read_found : (text : List ℕ) (r : Result TopologyValue TopologyFault)
     → (r ≢ Err out_of_memory → r ≡ reading_of text) → IfOk r (TopologyStands text)
 read_found text (Ok t) gives = found_at text (Ok t) (gives (λ e. absurd cc))

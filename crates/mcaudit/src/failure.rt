@@ -20,7 +20,7 @@ pub enum Failure {
 }
 
 impl Failure {
-    /// 2 for a refused input, 3 for a device that failed, 4 for want of memory, 5 for wrong words.
+    /// 2 for a refused input, 3 for a device that failed, 4 for lack of memory, 5 for wrong words.
     pub fn status(&self) -> u8
         ensures { result ≡ status_of self.now }
     {

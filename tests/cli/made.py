@@ -50,14 +50,47 @@ def topology(_base, lans, routers, interfaces, sources, flows):
     ]).encode()]
 
 
-def dotted(_base, size):
-    """A topology of at most so many bytes whose keys have 80 parts, as many as a key may have: of what was tried, this
-    takes the most memory for its size, since each part is a table of its own."""
-    lines, length, number = [], 0, 0
-    while length + len(line := f"{number:x}{'.a' * 79}=1\n") <= int(size):
-        lines.append(line)
-        length, number = length + len(line), number + 1
-    return ["".join(lines).encode()]
+def trailing(_base, *counts):
+    """The same with a comma behind the last pair of each table: of topologies that are read it has the most marks."""
+    return [topology(b"", *counts)[0].replace(b"}", b",}")]
+
+
+def dotted(_base, marks):
+    """A topology with so many marks whose keys have 80 parts, as many as a key may have: of what was tried, and isn't
+    refused for its marks, this takes the most memory, since each part is a table of its own."""
+    full, rest = divmod(int(marks), 80)
+    lines = [f"{number:x}{'.a' * 79}=1\n" for number in range(full)]
+    return ["".join(lines + [f"rest{'.a' * (rest - 1)}=1\n"] * (rest > 0)).encode()]
+
+
+def dearest(_base):
+    """A topology of 16,777,216 bytes: as many dotted keys as its marks allow, and then one long string."""
+    front = dotted(b"", 131071)[0] + b'z="""'
+    return [front + b"a" * (16777216 - len(front) - 4) + b'"""\n']
+
+
+def compared(_base, pairs):
+    """A topology with a header whose key has 80 parts of 1,024 bytes, and so many pairs below it, for each of which all
+    parts are compared: of what was tried, and isn't refused, this takes the most time."""
+    header = ".".join(["a" * 1024] * 80)
+    return [(f"[{header}]\n" + "".join(f"{number:x}=1\n" for number in range(int(pairs)))).encode()]
+
+
+def dots(base, before, count):
+    """The table's topology, then what the word says, `\\n` in it a line feed, and so many dots."""
+    return [base + before.replace("\\n", "\n").encode() + b"." * int(count)]
+
+
+def named(_base, quotes, piece, count):
+    """A topology with one LAN, whose name is so many times a piece, between quotes."""
+    name = f"{quotes}{piece * int(count)}{quotes}"
+    return [f"version = 1\nlans = [{name}]\nsource = [{{address = '10.0.0.5', lan = {name}}}]\n"
+            "flow = [{source = '10.0.0.5', group = '239.1.2.3', ttl = 3}]\n".encode()]
+
+
+def keyed(base, length):
+    """The table's topology with a key of so many letters at its end, which would be another one of the last table."""
+    return [base + b"k" * int(length) + b" = 1\n"]
 
 
 def deepest(_base):

@@ -9,7 +9,7 @@ use mc_topology::{LanNo, RouterNo};
 use std::marker::Model;
 
 /// A router takes a copy from a LAN and sends it onto another by a vif, above a threshold.
-#[derive(Clone, Copy, Debug)]
+#[derive(Clone, Copy)]
 pub(crate) struct Hop {
     pub(crate) from: LanNo,
     pub(crate) router: RouterNo,

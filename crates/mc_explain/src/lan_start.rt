@@ -9,7 +9,7 @@ use std::fmt;
 use std::marker::Model;
 
 /// The first 8 LANs of a list, and how many LANs it has.
-#[derive(Debug, Drop)]
+#[derive(Drop)]
 pub(crate) struct LanStart {
     first: [LanNo; 8],
     count: u32,

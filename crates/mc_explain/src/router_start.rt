@@ -10,7 +10,7 @@ use std::fmt;
 use std::marker::Model;
 
 /// The first 8 routers of a list, and how many routers it has.
-#[derive(Debug, Drop)]
+#[derive(Drop)]
 pub(crate) struct RouterStart {
     first: [RouterNo; 8],
     count: usize,

@@ -8,7 +8,7 @@ use mc_topology::RouterNo;
 use std::marker::Model;
 
 /// A router, and its interfaces on a LAN. Its value in contracts is the pair of both.
-#[derive(Debug, Drop)]
+#[derive(Drop)]
 pub(crate) struct OnLan<'a> {
     pub(crate) router: RouterNo,
     pub(crate) interfaces: &'a [ListedInterface],
@@ -24,7 +24,7 @@ impl<'a> Model for OnLan<'a> {
 }
 
 /// The routers of a LAN, from the first. Its value in contracts is the list of those that are left.
-#[derive(Debug, Drop)]
+#[derive(Drop)]
 pub(crate) struct RoutersOnLan<'a> {
     left: &'a [ListedInterface],
 }

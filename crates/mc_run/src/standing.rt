@@ -4,7 +4,7 @@ ghost use Rattle.std.specs.Prelude.{◌≡◌, ◌<◌, ◌==◌};
 ghost use Rattle.mc_run.specs.AuditEnd.{with_standing};
 
 /// How a flow stands.
-#[derive(Clone, Copy, Debug, PartialEq, Eq)]
+#[derive(Clone, Copy, PartialEq, Eq)]
 pub(crate) enum Standing {
     /// It is right, and wanted by a LAN.
     Wanted,
@@ -15,7 +15,7 @@ pub(crate) enum Standing {
 }
 
 /// How many flows stand how.
-#[derive(Clone, Copy, Debug)]
+#[derive(Clone, Copy)]
 pub(crate) struct Standings {
     /// How many are right.
     pub(crate) right: u32,

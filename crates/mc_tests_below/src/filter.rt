@@ -91,42 +91,72 @@ fn check_group(
     Ok(())
 }
 
-// Sources of the groups above that are asked of together: the last numbers of the source and of the
-// group, and whether some record admits it, as the filters above say. Group 11 has no record.
-const ASKED: [([u8; 2], bool); 12] = [
-    ([1, 0], false),
-    ([3, 1], true),
-    ([4, 1], false),
-    ([1, 2], true),
-    ([2, 2], false),
-    ([2, 3], true),
-    ([2, 5], false),
-    ([1, 5], true),
-    ([1, 9], false),
-    ([3, 9], true),
-    ([2, 10], true),
+// Sources of the groups above that are asked of together, in whatever order and the last one twice: the
+// last numbers of the source and of the group, and whether some record admits it, as the filters above say.
+// Group 11 has no record.
+const ASKED: [([u8; 2], bool); 13] = [
     ([1, 11], false),
+    ([2, 10], true),
+    ([3, 9], true),
+    ([1, 9], false),
+    ([1, 5], true),
+    ([2, 5], false),
+    ([2, 3], true),
+    ([2, 2], false),
+    ([1, 2], true),
+    ([4, 1], false),
+    ([3, 1], true),
+    ([1, 0], false),
+    ([1, 0], false),
 ];
 
-// Asks of sources of many groups in one walk over the list, in whatever order, of one of them twice,
-// and of none.
-fn check_channels(rt: &impl Abort, alloc: Global, list: &ReportList) -> Result<(), Memory> {
-    let mut asked = Vec::new(alloc);
-    for ([source, group], wanted) in ASKED.iter().rev().chain(&ASKED[..1]) {
-        let source = Addr::from_octets([10, 0, 0, *source]);
-        let group = Addr::from_octets([239, 1, 2, *group]);
+// The source and the group with these last numbers.
+fn pair(last: [u8; 2]) -> (Addr, Addr) {
+    let [source, group] = last;
+    (
+        Addr::from_octets([10, 0, 0, source]),
+        Addr::from_octets([239, 1, 2, group]),
+    )
+}
+
+// Asks of one after the other.
+fn check_each(rt: &impl Abort, list: &ReportList) {
+    for (last, wanted) in &ASKED {
+        let (source, group) = pair(*last);
         assert!(rt;
             is_wanted(list.records(), group, source) == *wanted,
             "{wanted}"
         );
-        asked.push((source, group))?;
     }
-    let answers = Channels::of(alloc, &asked)?.wanted(alloc, list)?;
-    assert!(rt; answers.len() == 13);
-    for (answer, (_, wanted)) in answers.iter().zip(ASKED.iter().rev().chain(&ASKED[..1])) {
-        assert!(rt; answer == wanted, "{wanted}");
+}
+
+fn asked(alloc: Global) -> Result<Vec<(Addr, Addr)>, Memory> {
+    let mut pairs = Vec::with_capacity(alloc, ASKED.len())?;
+    for (last, _) in &ASKED {
+        pairs.push(pair(*last))?;
     }
-    assert!(rt; Channels::of(alloc, &[])?.wanted(alloc, list)?.is_empty());
+    Ok(pairs)
+}
+
+// What one walk over the list answers of these sources and groups.
+fn answers(alloc: Global, pairs: &[(Addr, Addr)], list: &ReportList) -> Result<Vec<bool>, Memory> {
+    Channels::of(alloc, pairs)?.wanted(alloc, list)
+}
+
+// Whether the answers are those that are wanted.
+fn are_wanted(answers: &[bool]) -> bool {
+    for (answer, (_, wanted)) in answers.iter().zip(&ASKED) {
+        if answer != wanted {
+            return false;
+        }
+    }
+    answers.len() == ASKED.len()
+}
+
+// Asks of sources of many groups in one walk over the list, and of none.
+fn check_channels(rt: &impl Abort, alloc: Global, list: &ReportList) -> Result<(), Memory> {
+    assert!(rt; are_wanted(&answers(alloc, &asked(alloc)?, list)?));
+    assert!(rt; answers(alloc, &[], list)?.is_empty());
     Ok(())
 }
 
@@ -136,6 +166,7 @@ fn merges(rt: HostRuntime) -> Result<(), Fail> {
     for (last, wanted) in (0..11).zip(FILTERS.split(';')) {
         check_group(&rt, rt.alloc(), &list, last, wanted)?;
     }
+    check_each(&rt, &list);
     check_channels(&rt, rt.alloc(), &list)?;
     Ok(())
 }

@@ -8,6 +8,7 @@ use Rattle.mc_text.specs.AddressReading.{address_of_text}
 use Rattle.mc_text.specs.declared.text.addr.Order.TheVariants.{Big}
 use Rattle.mc_topology.specs.Addresses.{source_address_of, group_address_of}
 use Rattle.mc_topology.specs.Answer.{each}
+use Rattle.mc_topology.specs.Bounds.{after, with_byte, is_bounded}
 use Rattle.mc_topology.specs.Document.{known_table, text_at, number_at, list_at, optional_text_at}
 use Rattle.mc_topology.specs.Document.{optional_list_at, rows_at}
 use Rattle.mc_topology.specs.Flows.{ttl_of, flow_of, flow_with, flow_rows, flows_in}
@@ -38,6 +39,7 @@ pub text_is_read : reading_of text ≡ Ok (record {
 })
 unfolding
     toml_on_literals is_utf8 chars digits reading_of topology_in document_of utf8_text
+    after with_byte is_bounded
     version_in lans_in lan_rows lan_of
     routers_in router_of order_of interfaces_in interface_of interface_with sources_in source_of
     source_with flows_in flow_rows flow_of flow_with

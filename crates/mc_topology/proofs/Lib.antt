@@ -1,3 +1,4 @@
+pub mod Bounds
 pub mod Distinct
 pub mod Each
 mod Examples

@@ -16,6 +16,7 @@ use Rattle.mc_topology.specs.Interfaces.{interfaces_in}
 use Rattle.mc_topology.specs.Sources.{sources_in}
 use Rattle.mc_topology.specs.Flows.{flows_in}
 use Rattle.mc_topology.specs.Answer.{◌>>=◌, out_of_memory}
+use Rattle.mc_topology.specs.Bounds.{is_bounded}
 use Rattle.mc_topology.specs.Reading.{utf8_text, document_of, version_in, topology_in}
 use Rattle.mc_topology.specs.Reading.{sourced_flows_in, interfaces_and_flows_in, reading_of}
 use Rattle.mc_topology.specs.Stands.{TopologyStands}
@@ -51,17 +52,20 @@ one_topology text t u is_t is_u =
 
 -- by what the test for UTF-8 answers
 refused_by : (text : List ℕ) (b : Bool) → is_utf8 text ≡ b → length text ≤ 16777216
+    → is_bounded text ≡ true
     → (IsUtf8 text → parse_document text ≡ None) → document_of text ≡ Err NotToml
 unfolding document_of utf8_text
-refused_by text true is few none =
+refused_by text true is few bounded none =
     let read = none (IsUtf8-from_is_utf8 text is) in
-    rw (le-leb (length text) 16777216 few, is, read) refl
-refused_by text false is few none = rw (le-leb (length text) 16777216 few, is) refl
+    rw (le-leb (length text) 16777216 few, bounded, is, read) refl
+refused_by text false is few bounded none =
+    rw (le-leb (length text) 16777216 few, bounded, is) refl
 
 -- a text that isn't TOML in UTF-8
-pub document_refused : (text : List ℕ) → length text ≤ 16777216
+pub document_refused : (text : List ℕ) → length text ≤ 16777216 → is_bounded text ≡ true
     → (IsUtf8 text → parse_document text ≡ None) → document_of text ≡ Err NotToml
-document_refused text few none = refused_by text (is_utf8 text) refl few none
+document_refused text few bounded none =
+    refused_by text (is_utf8 text) refl few bounded none
 
 -- ---- the sections after the LANs and the routers
 

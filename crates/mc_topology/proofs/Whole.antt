@@ -1,6 +1,6 @@
 -- A text that is read stands for what is read, and a text that stands for a topology is read as
 -- that.
-use Rattle.std.proofs.Common.{◌≡◌, ℕ, pos, ◌<◌, ◌≤◌, Bool, true, false, cond, eqb, List, [], ◌∷◌}
+use Rattle.std.proofs.Common.{◌≡◌, ◌&&◌, ℕ, pos, ◌<◌, ◌≤◌, Bool, true, false, cond, eqb, List, [], ◌∷◌}
 use Rattle.std.proofs.Common.{length, codes, Result, Ok, Err, nat_le, le-leb, refl, sym, ap, subst}
 use Rattle.std.proofs.Common.{◌∙◌, arith}
 use Rattle.std.specs.Bool.{Decides}
@@ -9,7 +9,7 @@ use Rattle.std.specs.Option.{ok_or}
 use Rattle.std.specs.Ordering.{int_eq}
 use Rattle.std.specs.Str.{is_utf8}
 use Rattle.std.specs.Cmp.{signed_Decides}
-use Rattle.std.proofs.lemmas.Bool.{leb-true, eqb-false, ne_eqb}
+use Rattle.std.proofs.lemmas.Bool.{leb-true, eqb-false, ne_eqb, and_parts}
 use Rattle.std.proofs.lemmas.Str.{IsUtf8-from_is_utf8, is_utf8-from_IsUtf8}
 use Rattle.toml.specs.Data.{Data, Members}
 use Rattle.toml.specs.Parse.{parse_document}
@@ -29,6 +29,7 @@ use Rattle.mc_topology.specs.Routers.{router_of, routers_in}
 use Rattle.mc_topology.specs.Interfaces.{interface_of, interfaces_in}
 use Rattle.mc_topology.specs.Sources.{source_of, sources_in}
 use Rattle.mc_topology.specs.Flows.{flow_of, flow_rows, flows_in}
+use Rattle.mc_topology.specs.Bounds.{is_bounded}
 use Rattle.mc_topology.specs.Reading.{top_keys, utf8_text, document_of, version_in, topology_in}
 use Rattle.mc_topology.specs.Reading.{reading_of}
 use Rattle.mc_topology.specs.Stands.{HasNumber, EachStands, IsLan, IsRouter, IsInterface}
@@ -304,13 +305,15 @@ unfolding reading_of document_of utf8_text
 reading_takes text t e =
     let a = bind_ok (place section.Top 0 (document_of text)) topology_in t e in
     let document = place_ok section.Top 0 (document_of text) a.0 a.1 in
-    let few = test_ok (nat_le (length text) 16777216) TooMany _ a.0 document in
-    let utf8 = bind_ok (utf8_text text) (λ x. ok_or (parse_document x) NotToml) a.0 few.1 in
+    let small = test_ok (nat_le (length text) 16777216 && is_bounded text) TooMany _ a.0 document in
+    let (few, bounded) = and_parts (nat_le (length text) 16777216) (is_bounded text) small.0 in
+    let utf8 = bind_ok (utf8_text text) (λ x. ok_or (parse_document x) NotToml) a.0 small.1 in
     let is = test_ok (is_utf8 text) NotToml (Ok text) utf8.0 utf8.1 in
     let same : text ≡ utf8.0 = ok_is text utf8.0 is.1 in
     record {
       document = a.0;
-      few = leb-true (length text) 16777216 few.0;
+      few = leb-true (length text) 16777216 few;
+      bounded = bounded;
       utf8 = IsUtf8-from_is_utf8 text is.0;
       reads = ap parse_document same ∙ ok_or_ok (parse_document utf8.0) NotToml a.0 utf8.2;
       stands = topology_takes a.0 t a.2;
@@ -323,6 +326,7 @@ unfolding reading_of document_of utf8_text
 reading_again text t is =
     rw (
       le-leb (length text) 16777216 is.few,
+      is.bounded,
       is_utf8-from_IsUtf8 text is.utf8,
       is.reads,
       topology_again is.document t is.stands,

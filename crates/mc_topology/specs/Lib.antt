@@ -1,5 +1,6 @@
 pub mod Addresses
 pub mod Answer
+pub mod Bounds
 pub mod Document
 pub mod Flows
 pub mod Interfaces

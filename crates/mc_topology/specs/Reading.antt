@@ -1,6 +1,6 @@
 -- The topology that a text stands for, or its first fault, in the order in which a text is judged.
 use Rattle.std.specs.Prelude.{ℕ, pos, nat_le, List, [], ◌∷◌, length, codes, Result, Ok, Err, ok_or}
-use Rattle.std.specs.Prelude.{if◌then◌else◌}
+use Rattle.std.specs.Prelude.{◌&&◌, if◌then◌else◌}
 use Rattle.std.specs.Ordering.{int_eq}
 use Rattle.std.specs.Str.{is_utf8}
 use Rattle.toml.specs.Data.{Members}
@@ -12,6 +12,7 @@ use Rattle.mc_topology.specs.declared.fault.TopologyFaultKind.TheVariants.{NotTo
 use Rattle.mc_topology.specs.declared.fault.TopologyFaultKind.TheVariants.{UnknownKey, TooMany}
 use Rattle.mc_topology.specs.declared.fault.TopologyFault.{TopologyFault}
 use Rattle.mc_topology.specs.Answer.{◌>>=◌, place}
+use Rattle.mc_topology.specs.Bounds.{is_bounded}
 use Rattle.mc_topology.specs.Rows.{RouterRow, InterfaceRow, SourceRow}
 use Rattle.mc_topology.specs.Document.{has_only, number_at}
 use Rattle.mc_topology.specs.Lans.{lans_in}
@@ -25,11 +26,11 @@ use Rattle.mc_topology.specs.Topology.{TopologyValue}
 unfoldable pub utf8_text : List ℕ → Result (List ℕ) TopologyFaultKind
 utf8_text text = if is_utf8 text then Ok text else Err NotToml
 
--- The table of a text, which has to have at most 16,777,216 bytes (else TooMany), and then to be
--- TOML (NotToml).
+-- The table of a text, which has to have at most 16,777,216 bytes and to be bounded (else TooMany), and
+-- then to be TOML (NotToml).
 unfoldable pub document_of : List ℕ → Result Members TopologyFaultKind
 document_of text =
-    if nat_le (length text) 16777216 then (utf8_text text >>= λ t. ok_or (parse_document t) NotToml)
+    if nat_le (length text) 16777216 && is_bounded text then (utf8_text text >>= λ t. ok_or (parse_document t) NotToml)
     else Err TooMany
 
 -- the keys of a topology

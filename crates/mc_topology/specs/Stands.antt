@@ -8,6 +8,7 @@ use Rattle.mc_text.specs.declared.text.addr.Order.{Order}
 use Rattle.mc_text.specs.declared.text.addr.Order.TheVariants.{Little, Big}
 use Rattle.mc_topology.specs.declared.flow.Flow.{Flow}
 use Rattle.mc_topology.specs.Rows.{RouterRow, InterfaceRow, SourceRow}
+use Rattle.mc_topology.specs.Bounds.{is_bounded}
 use Rattle.mc_topology.specs.Document.{has_only, rows_in}
 use Rattle.mc_topology.specs.Names.{is_name, is_device, index_of}
 use Rattle.mc_topology.specs.Routers.{router_keys}
@@ -145,6 +146,7 @@ pub record DocumentStands (ms : Members) (t : TopologyValue) : Type 0 where
 pub record TopologyStands (text : List ℕ) (t : TopologyValue) : Type 0 where
   pub document : Members
   pub few : length text ≤ 16777216
+  pub bounded : IsTrue (is_bounded text)
   pub utf8 : IsUtf8 text
   pub reads : parse_document text ≡ Some document
   pub stands : DocumentStands document t

@@ -1,6 +1,7 @@
 //! Reading a topology: the text as a whole, its keys and version, and then its sections in order.
 
 mod address;
+mod bounds;
 mod document;
 mod flows;
 mod interfaces;
@@ -26,6 +27,7 @@ use crate::lans::{Lans, MAX_LANS};
 use crate::routers::{MAX_ROUTERS, Routers};
 use crate::sources::Sources;
 use crate::topology::Topology;
+use bounds::is_bounded;
 use document::{has_only, number_at};
 use flows::flows_in;
 use interfaces::interfaces_in;
@@ -43,7 +45,7 @@ fn document_of(alloc: Global, text: &[u8]) -> Result<Table, TopologyFault>
     ensures fault { IfErr result (λ fault. fault ≢ out_of_memory →
         place section.Top 0 (document_of text.now) ≡ Err fault) }
 {
-    if text.len() > MAX_TEXT {
+    if text.len() > MAX_TEXT || !is_bounded(text) {
         return Err(TopologyFaultKind::TooMany.at(Section::Top, 0));
     }
     match toml::table_from_slice(alloc, text) {

@@ -17,10 +17,11 @@ fn too_long(alloc: Global, certificate: &str) -> Result<Vec<u8>, AllocError> {
 
 /// Whether a text has too many bytes, over a topology.
 fn is_refused_over(alloc: Global, topology: &Topology, text: &[u8]) -> bool {
-    match Certificate::read(alloc, text, topology).err() {
-        Some(fault) => fault.place == At::Top && fault.kind == CertFaultKind::TooMany,
-        None => false,
-    }
+    let fault = CertFault {
+        place: At::Top,
+        kind: CertFaultKind::TooMany,
+    };
+    Certificate::read(alloc, text, topology).err() == Some(fault)
 }
 
 /// The same, over the network.

@@ -1,2 +1,2 @@
-# a topology of 1 MiB that takes the most memory for its size; it is read once more, to tell what is wrong with it
-python3 tests/cli/made.py dotted 1048576 > "$1/topology"
+# the topology that takes the most memory of those tried; it is read once more, to tell what is wrong with it
+python3 tests/cli/made.py dearest > "$1/topology"

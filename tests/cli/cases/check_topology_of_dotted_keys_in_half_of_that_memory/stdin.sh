@@ -1,2 +1,2 @@
-# a topology of 1 MiB that takes the most memory for its size, and half of what it may take
-python3 tests/cli/made.py alone dotted 1048576
+# the topology that takes the most memory of those tried, and half of what it may take
+python3 tests/cli/made.py alone dearest

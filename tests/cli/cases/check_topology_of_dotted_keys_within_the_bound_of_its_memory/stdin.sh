@@ -1,2 +1,2 @@
-# a topology of 1 MiB that takes the most memory for its size; what is allowed is 640 times that, and 16 MiB
-python3 tests/cli/made.py alone dotted 1048576
+# the topology that takes the most memory of those tried: 200 MiB are enough
+python3 tests/cli/made.py alone dearest

@@ -1,4 +1,4 @@
-use Rattle.std.proofs.Common.{refl, le-leb}
+use Rattle.std.proofs.Common.{refl, le-leb, sym}
 use Rattle.std.proofs.lemmas.Str.{is_utf8-from_IsUtf8}
 use Rattle.mc_topology.specs.Reading.{utf8_text, document_of}
 use Rattle.mc_topology.proofs.ReadLemmas.{document_refused}
@@ -8,11 +8,16 @@ pub returns-in-Ok-clause-found : goal.returns-in-Ok-clause-found
 unfolding document_of utf8_text
 returns-in-Ok-clause-found c =
     let (utf8, reads) = c.in-Ok.ensures.ok in
-    rw (le-leb _ _ c.if-text-gt-MAX_TEXT.false, is_utf8-from_IsUtf8 c.args.text.now utf8, reads)
-    refl
+    let few = le-leb _ _ c.if-text-gt-MAX_TEXT.false in
+    let bounded = sym c.if-not-is_bounded.ensures in
+    rw (few, bounded, is_utf8-from_IsUtf8 c.args.text.now utf8, reads) refl
 
 pub returns-in-Err-2-clause-fault : goal.returns-in-Err-2-clause-fault
 returns-in-Err-2-clause-fault c =
     let none = c.in-Err.ensures.refused (λ m. let memory = c.is_memory.ensures.1 m in absurd cc) in
-    rw (document_refused c.args.text.now c.if-text-gt-MAX_TEXT.false none, c.at-in-Err-2.ensures)
+    let bounded = sym c.if-not-is_bounded.ensures in
+    rw (
+      document_refused c.args.text.now c.if-text-gt-MAX_TEXT.false bounded none,
+      c.at-in-Err-2.ensures,
+    )
     (λ _. refl)

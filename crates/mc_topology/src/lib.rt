@@ -27,6 +27,7 @@ pub use laws::{
     lans_and_routers_are_ordered_by_number, router_numbers_and_names_undo_each_other,
     texts_stand_for_topologies, topologies_are_read_as_they_stand,
 };
+pub use name::is_name;
 pub use number::{LanNo, RouterNo};
 pub use source::Source;
 pub use topology::Topology;

@@ -23,7 +23,7 @@ fn has_name_bytes(text: &str) -> bool
 /// Whether the text can be the name of a LAN or of a router: 1 to 32 letters, digits, `-`, `_` or
 /// `.`.
 #[tactic(auto, using(std::proofs::lemmas::Bool::Decides::nat_tests), unfolding(crate::specs::Names::is_name))]
-pub(crate) fn is_name(text: &str) -> bool
+pub fn is_name(text: &str) -> bool
     ensures { result ≡ is_name text.now }
 {
     if text.is_empty() || text.len() > 32 {

@@ -2,7 +2,8 @@
 use Rattle.std.proofs.Common.{◌≡◌, ℕ, ◌+◌, ◌<◌, ◌&&◌, true, false, not, List, length, drop, map}
 use Rattle.std.proofs.Common.{get_or, ap, ◌∙◌}
 use Rattle.std.proofs.lemmas.List.{at_drop_more}
-use Rattle.mc_words.specs.AuditWords.{is_name, is_among, are_routers}
+use Rattle.mc_topology.specs.Names.{is_name}
+use Rattle.mc_words.specs.AuditWords.{is_among, are_routers}
 
 -- From a place on they don't where its own word is no name.
 pub no_name : {X : Type 0} (f : X → List ℕ) (xs : List X) (i : ℕ) (d : X) → i < length xs

@@ -1,16 +1,8 @@
 -- What the words after `audit` may name.
-use Rattle.std.specs.Prelude.{ℕ, ◌==◌, ◌&&◌, not, nat_le, Bool, true, List, [], ◌∷◌, length, take, codes}
-use Rattle.std.specs.List.{list_all, list_any}
+use Rattle.std.specs.Prelude.{ℕ, ◌&&◌, not, Bool, true, List, [], ◌∷◌, take, codes}
+use Rattle.std.specs.List.{list_any}
 use Rattle.std.specs.Str.{bytes_eq}
-use Rattle.mc_text.specs.Bundle.{is_name_byte as is_part_byte}
-
--- a letter, a digit, `-`, `_` or `.`: what the name of a bundle's part may have, but for `/`
-abbrev pub is_name_byte : ℕ → Bool
-is_name_byte b = is_part_byte b && not (b == 47)
-
--- a router's name, as a topology may have it: 1 to 32 letters, digits, `-`, `_` or `.`
-unfoldable pub is_name : List ℕ → Bool
-is_name text = (nat_le 1 (length text) && nat_le (length text) 32) && list_all is_name_byte text
+use Rattle.mc_topology.specs.Names.{is_name}
 
 -- the word is one of these
 abbrev pub is_among : List ℕ → List (List ℕ) → Bool

@@ -11,8 +11,8 @@ ghost use Rattle.mc_words.specs.declared.fault.WordsFault.TheVariants.{Memory};
 use crate::command::audit_command;
 use crate::fault::{WordsFault, wrong_words};
 use crate::found::{is_set, word_of};
-use crate::router_name::is_name;
 use clap::ArgMatches;
+use mc_topology::is_name;
 use std::alloc::Global;
 
 /// What the words after `audit` say.

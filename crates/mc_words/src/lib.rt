@@ -5,7 +5,6 @@ mod audit_words;
 mod command;
 mod fault;
 mod found;
-mod router_name;
 mod task;
 mod words;
 

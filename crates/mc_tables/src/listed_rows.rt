@@ -92,10 +92,15 @@ impl ListedRows {
             line_added self.old (line_text line.now) ≡ Err fault) }
         ensures others { OnErr result (self.new.rows.others ≡ self.old.rows.others) }
     {
-        let row = read_row_with_room(self.count, line, self.order, &mut self.oifs)?;
-        let (kept, others, count) = (&mut self.kept, &mut self.others, &mut self.count);
-        add_read(kept, others, count, &row, &self.oifs, line.number)?;
-        Ok(())
+        // The row is used where it is, since a copy of what was just written would wait for that.
+        match &read_row_with_room(self.count, line, self.order, &mut self.oifs) {
+            Ok(row) => {
+                let (kept, others, count) = (&mut self.kept, &mut self.others, &mut self.count);
+                add_read(kept, others, count, row, &self.oifs, line.number)?;
+                Ok(())
+            }
+            Err(kind) => Err(*kind),
+        }
     }
 
     /// The same, and notes the row.
@@ -118,10 +123,14 @@ impl ListedRows {
         ensures first { length notes.new.first.table.numbered ≤ self.new.rows.count }
         ensures unlisted { notes.new.unlisted ≤ self.new.rows.count }
     {
-        let row = read_row_with_room(self.count, line, self.order, &mut self.oifs)?;
-        let (kept, others, count) = (&mut self.kept, &mut self.others, &mut self.count);
-        let is_kept = add_read(kept, others, count, &row, &self.oifs, line.number)?;
-        notes.add(&row, &self.oifs, is_kept)
+        match &read_row_with_room(self.count, line, self.order, &mut self.oifs) {
+            Ok(row) => {
+                let (kept, others, count) = (&mut self.kept, &mut self.others, &mut self.count);
+                let is_kept = add_read(kept, others, count, row, &self.oifs, line.number)?;
+                notes.add(row, &self.oifs, is_kept)
+            }
+            Err(kind) => Err(*kind),
+        }
     }
 
     /// What a line is refused for that has this fault: an earlier row that repeats one comes first.

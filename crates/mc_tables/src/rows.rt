@@ -1,7 +1,7 @@
 //! Reading the rows of a table from pieces of its text.
 
-ghost use Rattle.std.specs.Prelude.{◌≡◌, ◌≢◌, ◌+◌, ◌<◌, ◌≤◌, ℕ, List, ◌++◌, length, drop, None};
-ghost use Rattle.std.specs.Prelude.{Result, Ok, Err, OnOk, IfOk, IfErr, IfSome};
+ghost use Rattle.std.specs.Prelude.{◌≡◌, ◌≢◌, ◌+◌, ◌<◌, ◌≤◌, ◌==◌, ℕ, List, [], ◌++◌, length, drop};
+ghost use Rattle.std.specs.Prelude.{position, Some, Result, Ok, Err, OnOk, IfOk, IfErr};
 ghost use Rattle.mc_text.specs.LineView.{line_text};
 ghost use Rattle.mc_text.specs.Lines.{LineText, max_text};
 ghost use Rattle.mc_tables.specs.declared.fault.TableFault.{TableFault};
@@ -63,43 +63,68 @@ pub fn read_piece<R: Rows>(
         return Err(TableFaultKind::TooLarge.at(0));
     }
     let mut rest = piece;
-    'lines: while let Some(end) = read_up_to_end(lines, rows, rest)? {
-        rest = &rest[end + 1..];
+    'lines: while !rest.is_empty() {
+        match lines.end_of_whole(rest) {
+            Some(end) => {
+                read_whole(lines, rows, rest, end)?;
+                rest = &rest[end + 1..];
+            }
+            None => {
+                let taken = read_begun(lines, rows, rest)?;
+                rest = &rest[taken..];
+            }
+        }
     }
     Ok(())
 }
 
-/// Reads the line that ends first, and answers where. With none it takes the bytes.
-fn read_up_to_end<R: Rows>(
+/// Reads the line that ends here, of which nothing came before.
+fn read_whole<R: Rows>(
     lines: &mut PieceLines,
     rows: &mut R,
     rest: &[u8],
-) -> Result<Option<usize>, TableFault>
+    end: usize,
+) -> Result<(), TableFault>
     requires steps { ReadsInSteps R.table R.step }
+    requires begun { lines.old.begun ≡ [] }
+    requires end { position (λ b. b == 10) rest.now ≡ Some end }
     requires room { lines.old.size + length rest.now ≤ max_text }
-    ensures none { (more : List ℕ) → IfOk result (λ place. place ≡ None →
-        read_after R.header (R.table rows.old) lines.old (rest.now ++ more)
-        ≡ read_after R.header (R.table rows.new) lines.new more) }
-    ensures all { IfOk result (λ place. place ≡ None →
-        lines.new.size ≡ lines.old.size + length rest.now) }
-    ensures some { (more : List ℕ) → IfOk result (λ place. IfSome place (λ end.
-        read_after R.header (R.table rows.old) lines.old (rest.now ++ more)
-        ≡ read_after R.header (R.table rows.new) lines.new (drop (end + 1) rest.now ++ more))) }
-    ensures place { IfOk result (λ place. IfSome place (λ end. (end < length rest.now)
-        × (lines.new.size ≡ lines.old.size + (end + 1)))) }
+    ensures reads { (more : List ℕ) → OnOk result
+        (read_after R.header (R.table rows.old) lines.old (rest.now ++ more)
+        ≡ read_after R.header (R.table rows.new) lines.new (drop (end + 1) rest.now ++ more)) }
+    ensures size { OnOk result (lines.new.size ≡ lines.old.size + (end + 1)) }
     ensures fault { (more : List ℕ) → IfErr result (λ fault. fault ≢ out_of_memory →
         read_after R.header (R.table rows.old) lines.old (rest.now ++ more) ≡ Err fault) }
     ensures stand { OnOk result (R.stand rows.old → R.stand rows.new) }
 {
-    if let Some(end) = lines.end_of_whole(rest) {
-        rows.add_line(lines.ended(), &lines.line_of(&rest[..end]))?;
-        lines.pass_line(end);
-        return Ok(Some(end));
-    }
+    rows.add_line(lines.ended(), &lines.line_of(&rest[..end]))?;
+    lines.pass_line(end);
+    Ok(())
+}
+
+/// Reads what a line that has begun goes on with, and answers how many bytes that is: those up to
+/// its line feed, or all.
+fn read_begun<R: Rows>(
+    lines: &mut PieceLines,
+    rows: &mut R,
+    rest: &[u8],
+) -> Result<usize, TableFault>
+    requires steps { ReadsInSteps R.table R.step }
+    requires some { 0 < length rest.now }
+    requires room { lines.old.size + length rest.now ≤ max_text }
+    ensures reads { (more : List ℕ) → IfOk result (λ taken.
+        read_after R.header (R.table rows.old) lines.old (rest.now ++ more)
+        ≡ read_after R.header (R.table rows.new) lines.new (drop taken rest.now ++ more)) }
+    ensures size { IfOk result (λ taken. lines.new.size ≡ lines.old.size + taken) }
+    ensures taken { IfOk result (λ taken. (0 < taken) × (taken ≤ length rest.now)) }
+    ensures fault { (more : List ℕ) → IfErr result (λ fault. fault ≢ out_of_memory →
+        read_after R.header (R.table rows.old) lines.old (rest.now ++ more) ≡ Err fault) }
+    ensures stand { OnOk result (R.stand rows.old → R.stand rows.new) }
+{
     let Some(end) = lines.take_up_to_end(rest)? else {
-        return Ok(None);
+        return Ok(rest.len());
     };
     rows.add_line(lines.ended(), &lines.line())?;
     lines.end_line();
-    Ok(Some(end))
+    Ok(end + 1)
 }

@@ -3,7 +3,7 @@
 use mc_topology::{LanNo, RouterNo};
 
 /// A line of the search for a missed LAN. Rows are those that the routers have for the flow.
-#[derive(Clone, Copy, Debug, PartialEq, Eq)]
+#[derive(Clone, Copy, Debug)]
 pub enum Searched {
     /// The router is left out, so that its tables are not known.
     LeftOut {

@@ -4,7 +4,7 @@ use mc_topology::{LanNo, RouterNo};
 
 /// A line of what is told of a flow's fault, by the numbers of LANs, routers and vifs. The rows that
 /// it speaks of are those that the routers have for the flow.
-#[derive(Clone, Copy, Debug, PartialEq, Eq)]
+#[derive(Clone, Copy, Debug)]
 pub enum Told {
     /// A router's row sent a copy onto the LAN by this vif.
     SentOnto {

@@ -1,6 +1,6 @@
 -- What a text stands for keeps the rules of a topology.
 use Rattle.std.proofs.Common.{◌≡◌, ℕ, zero, suc, ◌<◌, IsTrue, Bool, true, false, cond, List, []}
-use Rattle.std.proofs.Common.{◌∷◌, length, Some, Ok, refl, subst, arith, option_map}
+use Rattle.std.proofs.Common.{◌∷◌, length, Some, Ok, subst, arith, option_map}
 use Rattle.std.specs.Prelude.{◌==◌, slice_get, find}
 use Rattle.toml.specs.Data.{Data, Members}
 use Rattle.mc_topology.specs.declared.flow.Flow.{Flow}

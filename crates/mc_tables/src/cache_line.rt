@@ -33,7 +33,6 @@ pub struct CacheWords<'a> {
 }
 
 /// Reads a row, and puts its outgoing vifs by ascending vif in the place of those that were there.
-#[inline(always)]
 #[tactic(auto, using(crate::proofs::EntryLemmas::few_read))]
 pub fn read_row(line: &[u8], order: Order, oifs: &mut Vec<Oif>) -> Result<CacheRow, TableFaultKind>
     ensures few { OnOk result (length oifs.new.items ≤ 32) }

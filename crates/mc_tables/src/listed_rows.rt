@@ -198,7 +198,6 @@ fn add_read(
 }
 
 /// Reads the row of a line after so many others.
-#[inline(always)]
 fn read_row_with_room(
     count: usize,
     line: &Line<'_>,

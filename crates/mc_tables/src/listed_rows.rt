@@ -92,7 +92,6 @@ impl ListedRows {
             line_added self.old (line_text line.now) ≡ Err fault) }
         ensures others { OnErr result (self.new.rows.others ≡ self.old.rows.others) }
     {
-        // The row is used where it is, since a copy of what was just written would wait for that.
         match &read_row_with_room(self.count, line, self.order, &mut self.oifs) {
             Ok(row) => {
                 let (kept, others, count) = (&mut self.kept, &mut self.others, &mut self.count);

@@ -69,11 +69,17 @@ def dearest(_base):
     return [front + b"a" * (16777216 - len(front) - 4) + b'"""\n']
 
 
-def compared(_base, pairs):
-    """A topology with a header whose key has 80 parts of 1,024 bytes, and so many pairs below it, for each of which all
-    parts are compared: of what was tried, and isn't refused, this takes the most time."""
-    header = ".".join(["a" * 1024] * 80)
-    return [(f"[{header}]\n" + "".join(f"{number:x}=1\n" for number in range(int(pairs)))).encode()]
+def compared(_base, parts, beside):
+    """A topology of 131,072 marks with a header whose key has so many parts of 1,022 bytes, each with so many beside it
+    that differ in the end alone, and then pairs, for each of which the parts are looked up: of what was tried, and isn't
+    refused for its marks, 60 and 8 take the most time."""
+    lines, path, front = [], [], "a" * 1016
+    for _ in range(int(parts)):
+        lines += [f"[{'.'.join([*path, f'{front}{number:06}'])}]\n" for number in range(int(beside))]
+        path.append(f"{front}zzzzzz")
+    text = "".join(lines) + f"[{'.'.join(path)}]\n"
+    pairs = 131072 - text.count("[") - text.count(".")
+    return [(text + "".join(f"{number:x}=1\n" for number in range(pairs))).encode()]
 
 
 def dots(base, before, count):

@@ -110,7 +110,9 @@ impl Topology {
     }
 
     /// Reads a topology: at most 16,777,216 bytes of TOML, 1,024 LANs, 256 routers, 8,192
-    /// interfaces, 4,096 sources and 1 to 4,096 flows. The sections are judged in the order of
+    /// interfaces, 4,096 sources and 1 to 4,096 flows. Outside of strings and comments the text has
+    /// at most 131,072 of the marks `.`, `,`, `=`, `{` and `[`, and no bare key and no string on one
+    /// line has more than 1,024 bytes with its first quote. The sections are judged in the order of
     /// `Section`, the parts of a section from the front, and the first rule that is broken is
     /// answered with its place. Of a table the keys are judged first, and then the values.
     /// `Memory`, at `top` 0, where a growth was refused.

@@ -14,6 +14,7 @@ pub mod OifLemmas
 pub mod EntryLemmas
 pub mod FlatLemmas
 pub mod PlainLemmas
+pub mod FourLemmas
 pub mod AddressWordLemmas
 pub mod MarkedLemmas
 pub mod CacheLemmas

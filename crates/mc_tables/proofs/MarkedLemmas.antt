@@ -1,9 +1,10 @@
 -- The bytes that the bits of a number mark.
 use Rattle.std.proofs.Common.{◌≡◌, ℕ, zero, suc, ◌+◌, ◌-◌, ◌/◌, ◌%◌, ◌^◌, ◌<◌, ◌≤◌, Bool, true, false, cond, List, [], ◌∷◌}
 use Rattle.std.proofs.Common.{length, take, drop, get_or, map, Fits, w8, refl, sym, ap, subst, ◌∙◌, arith, inl, inr, shr-shr}
-use Rattle.std.specs.Prelude.{◌==◌, nat_le}
-use Rattle.std.proofs.Common.{w64}
-use Rattle.std.specs.Int.{bit_at, bit_not, trailing_ones}
+use Rattle.std.specs.Prelude.{◌==◌, ◌⊎◌, nat_le}
+use Rattle.std.proofs.Common.{w64, min, bit_and, bit_or, ap₂}
+use Rattle.std.proofs.lemmas.List.{drop-drop}
+use Rattle.std.specs.Int.{bit_at, bit_not, trailing_ones, trailing_zeros}
 use Rattle.std.specs.Char.{is_ascii_digit}
 use Rattle.std.specs.List.{list_all}
 use Rattle.std.specs.Simd.Lanes.{chunk, mask_l}
@@ -13,11 +14,12 @@ use Rattle.std.proofs.lemmas.List.Elements.{All-from_get_or}
 use Rattle.std.proofs.lemmas.List.Sums.{list_all-from_AllPass}
 use Rattle.std.proofs.lemmas.Simd.{bit_mask_l, length-chunk, get_or-chunk}
 use Rattle.std.proofs.lemmas.Nat.{trailing_le}
-use Rattle.std.proofs.lemmas.Nat.Bits.{bit_at-trailing_ones, bit_at_ones}
+use Rattle.std.proofs.lemmas.Nat.Bits.{bit_at-trailing_ones, bit_at-trailing_zeros, bit_at_ones, bit_at-lt, bit_at_and, bit_at_or, bit_at-zero}
+use lib.Count.{count_trailing_zeros}
 use Rattle.mc_text.specs.Lines.{words_of}
-use Rattle.mc_tables.specs.Counters.{AreMarks}
+use Rattle.mc_tables.specs.Counters.{AreMarks, AreLastDigits, HasCounters}
 use Rattle.mc_tables.specs.TableWords.{is_counter, is_decimal}
-use Rattle.mc_tables.proofs.PlainLemmas.{counter_behind, rest_of}
+use Rattle.mc_tables.proofs.PlainLemmas.{counter_behind}
 
 -- a bit of the mask of lanes that were tested
 lane_passes : (test : ℕ → Bool) (v : List ℕ) (k : ℕ) → bit_at (mask_l (map test v)) k ≡ 1
@@ -77,12 +79,6 @@ marks_behind passes line m n marks k set =
     let at = marks (n + k) (sym (ap (λ x. x % 2) (shr-shr m n k)) ∙ set) in
     (omega (arith, at.0, length-drop n line), ap passes (get_or-drop n line k 0) ∙ at.1)
 
-pub marks_of_rest : (passes : ℕ → Bool) (line : List ℕ) (m n : ℕ) → AreMarks passes line m
-    → AreMarks passes (take (length line - n) (drop n line)) (m / 2 ^ n)
-marks_of_rest passes line m n marks =
-    subst (λ rest. AreMarks passes rest (m / 2 ^ n)) (sym (rest_of line n))
-    (marks_behind passes line m n marks)
-
 -- a run of marks is within the line
 pub run_within : (passes : ℕ → Bool) (line : List ℕ) (m n : ℕ) → AreMarks passes line m
     → ((k : ℕ) → k < n → bit_at m k ≡ 1) → n ≤ length line
@@ -132,3 +128,230 @@ counter_marked line digits spaces n of_digits of_spaces run space some few =
     let decimal : is_decimal word ≡ true =
     and_from (nat_le 1 (length word)) _ (le-leb 1 (length word) (omega (arith, size, some))) all in
     counter_behind line n decimal few at.0 (eqb-true (get_or line n 0) 32 at.1)
+
+-- ---- counters and the spaces before them
+
+-- `trailing_zeros` is the place of the lowest bit that is set
+pub lowest_set : (n k : ℕ) → n < 2 ^ 64 → k < trailing_zeros w64 n → bit_at n k ≡ 0
+lowest_set zero k fits less = bit_at-zero k
+lowest_set (suc n) k fits less = (bit_at-trailing_zeros w64 (suc n) (omega arith) fits).2 k less
+
+none_set : trailing_zeros w64 0 ≡ 64
+unfolding count_trailing_zeros
+none_set = refl
+
+pub set_there : (n : ℕ) → n < 2 ^ 64 → trailing_zeros w64 n < 64
+    → bit_at n (trailing_zeros w64 n) ≡ 1
+set_there zero fits few = absurd (omega (arith, few, none_set))
+set_there (suc n) fits few = (bit_at-trailing_zeros w64 (suc n) (omega arith) fits).1
+
+pub are_last_digits : (digits spaces : ℕ)
+    → AreLastDigits digits spaces (bit_and digits (spaces / 2))
+are_last_digits digits spaces k =
+    let next : 1 + k ≡ k + 1 = omega arith in
+    bit_at_and digits (spaces / 2) k
+    ∙ ap (min (bit_at digits k)) (ap (λ x. x % 2) (shr-shr spaces 1 k) ∙ ap (bit_at spaces) next)
+
+-- each byte at the front is a digit or a space
+abbrev pub AreKnown : ℕ → ℕ → ℕ → Type 0
+AreKnown digits spaces n = (k : ℕ) → k < n → (bit_at digits k ≡ 1) ⊎ (bit_at spaces k ≡ 1)
+
+-- no digit before a place has a space behind it
+abbrev HasNoEnd : ℕ → ℕ → ℕ → Type 0
+HasNoEnd digits spaces n = (k : ℕ) → k < n → bit_at digits k ≡ 1 → bit_at spaces (k + 1) ≡ 1 → ⊥
+
+-- from a place on there are spaces, and then digits to the last one
+record Split (digits spaces from last : ℕ) : Type 0 where
+  first : ℕ
+  after : from ≤ first
+  within : first ≤ last
+  are_spaces : (k : ℕ) → from ≤ k → k < first → bit_at spaces k ≡ 1
+  are_digits : (k : ℕ) → first ≤ k → k ≤ last → bit_at digits k ≡ 1
+
+-- a digit before them is one more digit
+digit_before : (digits spaces from last : ℕ) → from < last → HasNoEnd digits spaces last
+    → bit_at digits from ≡ 1 → Split digits spaces (from + 1) last → Split digits spaces from last
+digit_before digits spaces from last below no_end digit split =
+    elim (cases_lt (from + 1) split.first) [
+      | inl space ↦ absurd (no_end from below digit (split.are_spaces (from + 1) (omega arith) space))
+      | inr none ↦ record {
+        first = from;
+        after = omega arith;
+        within = omega (arith, below);
+        are_spaces = λ k at less. absurd (omega (arith, at, less));
+        are_digits = λ k at most. elim (cases_lt from k) [
+          | inl later ↦ split.are_digits k (omega (arith, none, later)) most
+          | inr now ↦ (let is : from ≡ k = omega (arith, at, now) in
+              subst (λ i. bit_at digits i ≡ 1) is digit)
+        ];
+      }
+    ]
+
+-- and a space one more space
+space_before : (digits spaces from last : ℕ) → bit_at spaces from ≡ 1
+    → Split digits spaces (from + 1) last → Split digits spaces from last
+space_before digits spaces from last space split =
+    record {
+      first = split.first;
+      after = omega (arith, split.after);
+      within = split.within;
+      are_spaces = λ k at less. elim (cases_lt from k) [
+        | inl later ↦ split.are_spaces k (omega (arith, later)) less
+        | inr now ↦ (let is : from ≡ k = omega (arith, at, now) in
+            subst (λ i. bit_at spaces i ≡ 1) is space)
+      ];
+      are_digits = split.are_digits;
+    }
+
+split_from : (d digits spaces from last : ℕ) → from + d ≡ last → HasNoEnd digits spaces last
+    → AreKnown digits spaces last → bit_at digits last ≡ 1 → Split digits spaces from last
+split_from zero digits spaces from last sum no_end known digit =
+    record {
+      first = last;
+      after = omega (arith, sum);
+      within = omega arith;
+      are_spaces = λ k at less. absurd (omega (arith, sum, at, less));
+      are_digits = λ k at most. (let is : last ≡ k = omega (arith, at, most) in
+          subst (λ i. bit_at digits i ≡ 1) is digit);
+    }
+split_from (suc d) digits spaces from last sum no_end known digit =
+    let others = split_from d digits spaces (from + 1) last (omega (arith, sum)) no_end known digit in
+    let below : from < last = omega (arith, sum) in
+    elim (known from below) [
+      | inl is_digit ↦ digit_before digits spaces from last below no_end is_digit others
+      | inr is_space ↦ space_before digits spaces from last is_space others
+    ]
+
+-- the least of two bits is 1 where both are
+both_set : (a b : ℕ) → a < 2 → b < 2 → min a b ≡ 1 → (a ≡ 1) × (b ≡ 1)
+both_set a b few_a few_b is = (omega (arith, few_a, few_b, is), omega (arith, few_a, few_b, is))
+
+-- spaces, digits to the last one and a space behind it begin with a counter
+counter_from : (line : List ℕ) (digits spaces n more end : ℕ) → AreMarks is_ascii_digit line digits
+    → AreMarks (λ b. b == 32) line spaces → n + more ≡ end → 0 < more → more ≤ 20
+    → ((k : ℕ) → k < n → bit_at spaces k ≡ 1) → ((k : ℕ) → k < more → bit_at digits (n + k) ≡ 1)
+    → bit_at spaces end ≡ 1 → (word : List ℕ)
+    × (words_of line ≡ word ∷ words_of (drop end line)) × (is_counter word ≡ true)
+counter_from line digits spaces n more end of_digits of_spaces sum some few are_spaces are_digits space =
+    let found = counter_marked (drop n line) (digits / 2 ^ n) (spaces / 2 ^ n) more
+    (marks_behind is_ascii_digit line digits n of_digits)
+    (marks_behind (λ b. b == 32) line spaces n of_spaces)
+    (λ k less. ap (λ x. x % 2) (shr-shr digits n k) ∙ are_digits k less)
+    (ap (λ x. x % 2) (shr-shr spaces n more) ∙ ap (bit_at spaces) sum ∙ space) some few in
+    let behind = drop-drop more n line ∙ ap (λ i. drop i line) sum in (
+      found.0,
+      sym (spaces_behind line spaces n of_spaces are_spaces) ∙ found.1
+          ∙ ap (λ (r : List ℕ). found.0 ∷ words_of r) behind,
+      found.2,
+    )
+
+counter_split : (line : List ℕ) (digits spaces last : ℕ) → AreMarks is_ascii_digit line digits
+    → AreMarks (λ b. b == 32) line spaces → last < 20 → Split digits spaces 0 last
+    → bit_at spaces (last + 1) ≡ 1 → (word : List ℕ)
+    × (words_of line ≡ word ∷ words_of (drop (last + 1) line)) × (is_counter word ≡ true)
+counter_split line digits spaces last of_digits of_spaces few split space =
+    counter_from line digits spaces split.first (last + 1 - split.first) (last + 1) of_digits of_spaces
+    (omega (arith, split.within)) (omega (arith, split.within)) (omega (arith, few))
+    (λ k less. split.are_spaces k (omega arith) less)
+    (λ k less. split.are_digits (split.first + k) (omega arith) (omega (arith, less, split.within))) space
+
+no_end_before : (digits spaces ends last : ℕ) → AreLastDigits digits spaces ends
+    → ((k : ℕ) → k < last → bit_at ends k ≡ 0) → HasNoEnd digits spaces last
+no_end_before digits spaces ends last are_ends lowest k less digit space =
+    let both : min 1 1 ≡ 0 = ap₂ min (sym digit) (sym space) ∙ sym (are_ends k) ∙ lowest k less in
+    omega (arith, both)
+
+-- the first word is the counter that ends with the first digit that has a space behind it
+one_counter : (line : List ℕ) (digits spaces ends last : ℕ) → AreMarks is_ascii_digit line digits
+    → AreMarks (λ b. b == 32) line spaces → AreLastDigits digits spaces ends
+    → AreKnown digits spaces (last + 1) → ((k : ℕ) → k < last → bit_at ends k ≡ 0)
+    → bit_at ends last ≡ 1 → last < 20 → (word : List ℕ)
+    × (words_of line ≡ word ∷ words_of (drop (last + 1) line)) × (is_counter word ≡ true)
+one_counter line digits spaces ends last of_digits of_spaces are_ends known lowest set few =
+    let both = both_set _ _ (bit_at-lt digits last) (bit_at-lt spaces (last + 1)) (sym (are_ends last) ∙ set) in
+    counter_split line digits spaces last of_digits of_spaces few
+    (split_from last digits spaces 0 last (omega arith)
+    (no_end_before digits spaces ends last are_ends lowest)
+    (λ k less. known k (omega (arith, less))) both.0) both.1
+
+-- ---- what stands behind it, likewise
+
+ends_behind : (digits spaces ends n : ℕ) → AreLastDigits digits spaces ends
+    → AreLastDigits (digits / 2 ^ n) (spaces / 2 ^ n) (ends / 2 ^ n)
+ends_behind digits spaces ends n are_ends k =
+    let next : n + k + 1 ≡ n + (k + 1) = omega arith in
+    ap (λ x. x % 2) (shr-shr ends n k) ∙ are_ends (n + k)
+    ∙ ap₂ min (sym (ap (λ x. x % 2) (shr-shr digits n k)))
+    (ap (bit_at spaces) next ∙ sym (ap (λ x. x % 2) (shr-shr spaces n (k + 1))))
+
+known_behind : (digits spaces n m : ℕ) → AreKnown digits spaces (n + m)
+    → AreKnown (digits / 2 ^ n) (spaces / 2 ^ n) m
+known_behind digits spaces n m known k less =
+    elim (known (n + k) (omega (arith, less))) [
+      | inl digit ↦ inl (ap (λ x. x % 2) (shr-shr digits n k) ∙ digit)
+      | inr space ↦ inr (ap (λ x. x % 2) (shr-shr spaces n k) ∙ space)
+    ]
+
+-- each byte in a run of marks is a digit or a space
+pub run_known : (digits spaces n : ℕ) → ((k : ℕ) → k < n → bit_at (bit_or digits spaces) k ≡ 1)
+    → AreKnown digits spaces n
+run_known digits spaces n run k less =
+    let is = sym (bit_at_or digits spaces k) ∙ run k less in
+    elim (cases_lt 0 (bit_at digits k)) [
+      | inl digit ↦ inl (omega (arith, digit, bit_at-lt digits k))
+      | inr none ↦ inr (omega (arith, none, is, bit_at-lt spaces k))
+    ]
+
+-- they stand within the line
+pub known_within : (line : List ℕ) (digits spaces n : ℕ) → AreMarks is_ascii_digit line digits
+    → AreMarks (λ b. b == 32) line spaces → AreKnown digits spaces n → n ≤ length line
+known_within line digits spaces zero of_digits of_spaces known = omega arith
+known_within line digits spaces (suc n) of_digits of_spaces known =
+    elim (known n (omega arith)) [
+      | inl digit ↦ (let at = of_digits n digit in omega (arith, at.0))
+      | inr space ↦ (let at = of_spaces n space in omega (arith, at.0))
+    ]
+
+-- three counters are a line's first words
+pub three_counters : (line : List ℕ) (digits spaces ends a b c : ℕ)
+    → AreMarks is_ascii_digit line digits → AreMarks (λ b. b == 32) line spaces
+    → AreLastDigits digits spaces ends → AreKnown digits spaces (a + 1 + (b + 1) + (c + 1))
+    → ((k : ℕ) → k < a → bit_at ends k ≡ 0) → bit_at ends a ≡ 1 → a < 20
+    → ((k : ℕ) → k < b → bit_at (ends / 2 ^ (a + 1)) k ≡ 0) → bit_at (ends / 2 ^ (a + 1)) b ≡ 1 → b < 20
+    → ((k : ℕ) → k < c → bit_at (ends / 2 ^ (a + 1) / 2 ^ (b + 1)) k ≡ 0)
+    → bit_at (ends / 2 ^ (a + 1) / 2 ^ (b + 1)) c ≡ 1 → c < 20
+    → HasCounters line (drop (a + 1 + (b + 1) + (c + 1)) line)
+three_counters line digits spaces ends a b c of_digits of_spaces are_ends known low_a set_a few_a low_b
+    set_b few_b low_c set_c few_c =
+    let first = one_counter line digits spaces ends a of_digits of_spaces are_ends
+    (λ k less. known k (omega (arith, less))) low_a set_a few_a in
+    let line1 = drop (a + 1) line in
+    let digits1 = digits / 2 ^ (a + 1) in
+    let spaces1 = spaces / 2 ^ (a + 1) in
+    let ends1 = ends / 2 ^ (a + 1) in
+    let of_digits1 = marks_behind is_ascii_digit line digits (a + 1) of_digits in
+    let of_spaces1 = marks_behind (λ b. b == 32) line spaces (a + 1) of_spaces in
+    let are_ends1 = ends_behind digits spaces ends (a + 1) are_ends in
+    let known1 = known_behind digits spaces (a + 1) (b + 1 + (c + 1))
+    (λ k less. known k (omega (arith, less))) in
+    let second = one_counter line1 digits1 spaces1 ends1 b of_digits1 of_spaces1 are_ends1
+    (λ k less. known1 k (omega (arith, less))) low_b set_b few_b in
+    let known2 = known_behind digits1 spaces1 (b + 1) (c + 1) known1 in
+    let third = one_counter (drop (b + 1) line1) (digits1 / 2 ^ (b + 1)) (spaces1 / 2 ^ (b + 1))
+    (ends1 / 2 ^ (b + 1)) c (marks_behind is_ascii_digit line1 digits1 (b + 1) of_digits1)
+    (marks_behind (λ b. b == 32) line1 spaces1 (b + 1) of_spaces1)
+    (ends_behind digits1 spaces1 ends1 (b + 1) are_ends1) known2 low_c set_c few_c in
+    let end : drop (c + 1) (drop (b + 1) line1) ≡ drop (a + 1 + (b + 1) + (c + 1)) line =
+    drop-drop (c + 1) (b + 1) line1 ∙ drop-drop (b + 1 + (c + 1)) (a + 1) line
+    ∙ ap (λ n. drop n line) (omega arith) in
+    record {
+      packets = first.0;
+      bytes = second.0;
+      wrong = third.0;
+      words = first.1 ∙ ap (λ (ws : List (List ℕ)). first.0 ∷ ws)
+          (second.1 ∙ ap (λ (ws : List (List ℕ)). second.0 ∷ ws)
+          (third.1 ∙ ap (λ (r : List ℕ). third.0 ∷ words_of r) end));
+      packets_count = first.2;
+      bytes_count = second.2;
+      wrong_count = third.2;
+    }

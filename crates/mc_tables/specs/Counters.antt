@@ -1,5 +1,5 @@
 -- The counters of a row, which are read past: of them nothing is kept.
-use Rattle.std.specs.Prelude.{◌≡◌, ℕ, ◌<◌, ◌==◌, Bool, true, List, ◌∷◌, length, slice_index}
+use Rattle.std.specs.Prelude.{◌≡◌, ℕ, ◌+◌, ◌<◌, ◌==◌, min, Bool, true, List, ◌∷◌, length, slice_index}
 use Rattle.std.specs.Int.{bit_at}
 use Rattle.std.specs.Char.{is_ascii_digit}
 use Rattle.mc_text.specs.Lines.{words_of}
@@ -25,3 +25,8 @@ AreMarks passes bytes marks =
 pub record IsMarked (line : MarkedLine) : Type 0 where
   pub digits : AreMarks is_ascii_digit line.bytes.now line.digits
   pub spaces : AreMarks (λ b. b == 32) line.bytes.now line.spaces
+
+-- the bits of digits that have a space behind them
+abbrev pub AreLastDigits : ℕ → ℕ → ℕ → Type 0
+AreLastDigits digits spaces ends =
+    (k : ℕ) → bit_at ends k ≡ min (bit_at digits k) (bit_at spaces (k + 1))

@@ -12,6 +12,7 @@ pub mod VifsSoFar
 pub mod CacheTable
 pub mod CacheReading
 pub mod OutgoingSteps
+pub mod FourOifs
 pub mod CacheSteps
 pub mod CacheNumbers
 pub mod ListedRows

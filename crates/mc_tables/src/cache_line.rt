@@ -32,23 +32,31 @@ pub struct CacheWords<'a> {
     pub wrong: &'a [u8],
 }
 
-/// Reads a row, and puts its outgoing vifs by ascending vif in the place of those that were there.
+/// Reads a row, and puts it and its outgoing vifs by ascending vif in the place of those that were
+/// there. A row that is answered would be copied from where it was put together.
 #[tactic(auto, using(crate::proofs::EntryLemmas::few_read))]
-pub fn read_row(line: &[u8], order: Order, oifs: &mut Vec<Oif>) -> Result<CacheRow, TableFaultKind>
+pub fn read_row(
+    line: &[u8],
+    order: Order,
+    row: &mut CacheRow,
+    oifs: &mut Vec<Oif>,
+) -> Result<(), TableFaultKind>
     ensures few { OnOk result (length oifs.new.items ≤ 32) }
-    ensures read { IfOk result (λ row.
-        row_in_words order (words_of line.now) ≡ Ok (row_with row oifs.new.items)) }
+    ensures read { OnOk result
+        (row_in_words order (words_of line.now) ≡ Ok (row_with row.new oifs.new.items)) }
     ensures fault { IfErr result (λ fault. fault ≢ Memory →
         row_in_words order (words_of line.now) ≡ Err fault) }
 {
     oifs.clear();
-    if let Some((row, outgoing)) = row_at_front(line, order) {
+    if let Some((front, outgoing)) = row_at_front(line, order) {
         if read_ascending(outgoing, oifs)? {
-            return Ok(row);
+            *row = front;
+            return Ok(());
         }
         oifs.clear();
     }
-    read_words_of(line, order, oifs)
+    *row = read_words_of(line, order, oifs)?;
+    Ok(())
 }
 
 /// Reads a row word by word.

@@ -14,6 +14,7 @@ mod digit_sort;
 mod entry;
 mod fault;
 mod flat_oifs;
+mod four_oifs;
 mod header;
 mod key_numbers;
 mod laws;

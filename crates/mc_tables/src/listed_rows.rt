@@ -23,7 +23,7 @@ use crate::key_numbers::KeyNumbers;
 use crate::notes_so_far::NotesSoFar;
 use crate::other_rows::OtherRows;
 use crate::rows::Rows;
-use mc_text::{Line, Order};
+use mc_text::{Addr, Line, Order};
 use std::alloc::Global;
 use std::marker::Model;
 
@@ -35,7 +35,8 @@ const MAX_ROWS: usize = 65_536;
 #[derive(Debug, Drop)]
 pub struct ListedRows {
     order: Order,
-    // of the row that is read
+    // the row that is read, and its outgoing vifs
+    row: CacheRow,
     oifs: Vec<Oif>,
     kept: CacheRows,
     others: OtherRows,
@@ -68,8 +69,16 @@ impl ListedRows {
         requires { numbers.numbers ≡ [] }
         ensures { result ≡ no_rows order numbers.listed }
     {
+        // Until a row is read.
+        let none = Addr::from_octets([0, 0, 0, 0]);
+        let row = CacheRow {
+            group: none,
+            origin: none,
+            iif: None,
+        };
         ListedRows {
             order,
+            row,
             oifs: Vec::new(alloc),
             kept: CacheRows::new(alloc, numbers),
             others: OtherRows::new(alloc),
@@ -92,14 +101,11 @@ impl ListedRows {
             line_added self.old (line_text line.now) ≡ Err fault) }
         ensures others { OnErr result (self.new.rows.others ≡ self.old.rows.others) }
     {
-        match &read_row_with_room(self.count, line, self.order, &mut self.oifs) {
-            Ok(row) => {
-                let (kept, others, count) = (&mut self.kept, &mut self.others, &mut self.count);
-                add_read(kept, others, count, row, &self.oifs, line.number)?;
-                Ok(())
-            }
-            Err(kind) => Err(*kind),
-        }
+        let (count, order) = (self.count, self.order);
+        read_row_with_room(count, line, order, &mut self.row, &mut self.oifs)?;
+        let (kept, others, count) = (&mut self.kept, &mut self.others, &mut self.count);
+        add_read(kept, others, count, &self.row, &self.oifs, line.number)?;
+        Ok(())
     }
 
     /// The same, and notes the row.
@@ -122,14 +128,11 @@ impl ListedRows {
         ensures first { length notes.new.first.table.numbered ≤ self.new.rows.count }
         ensures unlisted { notes.new.unlisted ≤ self.new.rows.count }
     {
-        match &read_row_with_room(self.count, line, self.order, &mut self.oifs) {
-            Ok(row) => {
-                let (kept, others, count) = (&mut self.kept, &mut self.others, &mut self.count);
-                let is_kept = add_read(kept, others, count, row, &self.oifs, line.number)?;
-                notes.add(row, &self.oifs, is_kept)
-            }
-            Err(kind) => Err(*kind),
-        }
+        let (count, order) = (self.count, self.order);
+        read_row_with_room(count, line, order, &mut self.row, &mut self.oifs)?;
+        let (kept, others, count) = (&mut self.kept, &mut self.others, &mut self.count);
+        let is_kept = add_read(kept, others, count, &self.row, &self.oifs, line.number)?;
+        notes.add(&self.row, &self.oifs, is_kept)
     }
 
     /// What a line is refused for that has this fault: an earlier row that repeats one comes first.
@@ -201,12 +204,13 @@ fn read_row_with_room(
     count: usize,
     line: &Line<'_>,
     order: Order,
+    row: &mut CacheRow,
     oifs: &mut Vec<Oif>,
-) -> Result<CacheRow, TableFaultKind>
+) -> Result<(), TableFaultKind>
     ensures room { OnOk result (count < 65536) }
     ensures few { OnOk result (length oifs.new.items ≤ 32) }
-    ensures read { IfOk result (λ row.
-        row_with_room order count (line_text line.now) ≡ Ok (row_with row oifs.new.items)) }
+    ensures read { OnOk result
+        (row_with_room order count (line_text line.now) ≡ Ok (row_with row.new oifs.new.items)) }
     ensures fault { IfErr result (λ fault. fault ≢ Memory →
         row_with_room order count (line_text line.now) ≡ Err fault) }
 {
@@ -216,7 +220,7 @@ fn read_row_with_room(
     if count >= MAX_ROWS {
         return Err(TableFaultKind::TooLarge);
     }
-    read_row(line.bytes, order, oifs)
+    read_row(line.bytes, order, row, oifs)
 }
 
 impl Rows for ListedRows {

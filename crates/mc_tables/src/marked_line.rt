@@ -1,17 +1,18 @@
 //! A line whose digits and spaces are looked for at once, so that its words are found without a
 //! look at each byte.
 
-ghost use Rattle.std.specs.Prelude.{◌≡◌, ℕ, ◌<◌, ◌≤◌, ◌==◌, ◌∷◌, List, IfSome, length, drop, true};
+ghost use Rattle.std.specs.Prelude.{◌≡◌, ℕ, ◌<◌, ◌≤◌, ◌==◌, IfSome, drop, length};
 ghost use Rattle.std.specs.Int.{bit_at};
 ghost use Rattle.std.specs.Char.{is_ascii_digit};
-ghost use Rattle.mc_text.specs.Lines.{words_of};
-ghost use Rattle.mc_tables.specs.Counters.{AreMarks, IsMarked};
-ghost use Rattle.mc_tables.specs.TableWords.{is_counter};
+ghost use Rattle.mc_tables.specs.Counters.{AreLastDigits, AreMarks, HasCounters, IsMarked};
 
 use std::simd::prelude::*;
 
 /// How many bytes are looked at.
 const LANES: usize = 32;
+
+/// How many bytes a counter may have with the spaces before it.
+const MOST: usize = 20;
 
 /// A line, and which of the bytes at its front are decimal digits and which are spaces. The lowest
 /// bit tells of the first byte.
@@ -51,6 +52,33 @@ fn front_run(marks: u64) -> usize
     marks.trailing_ones() as usize
 }
 
+/// The place of the lowest bit that is set. Where none is, it is past all bits.
+#[inline(always)]
+fn lowest_mark(marks: u64) -> usize
+    ensures lowest { (k : ℕ) → k < result → bit_at marks k ≡ 0 }
+    ensures set { result < 64 → bit_at marks result ≡ 1 }
+{
+    marks.trailing_zeros() as usize
+}
+
+/// The digits that have a space behind them.
+#[inline(always)]
+fn last_digits(digits: u64, spaces: u64) -> u64
+    ensures { AreLastDigits digits spaces result }
+{
+    digits & (spaces >> 1)
+}
+
+/// The line without so many bytes at its front.
+#[inline(always)]
+#[tactic(auto, using(crate::proofs::PlainLemmas::rest_of))]
+fn without_front(line: &[u8], count: usize) -> &[u8]
+    requires { count ≤ length line.now }
+    ensures { result.now ≡ drop count line.now }
+{
+    &line[count..]
+}
+
 impl<'a> MarkedLine<'a> {
     /// Looks at a line, if it is long enough.
     #[inline(always)]
@@ -68,62 +96,32 @@ impl<'a> MarkedLine<'a> {
         })
     }
 
-    /// The line without so many bytes at its front.
+    /// What stands behind the three counters that are its first words, if each has at most twenty
+    /// bytes with the spaces before it, and all are looked at.
     #[inline(always)]
-    fn behind(self, count: usize) -> MarkedLine<'a>
-        requires marked { IsMarked self }
-        requires few { count < 64 }
-        requires within { count ≤ length self.bytes.now }
-        ensures bytes { result.bytes.now ≡ drop count self.entry.bytes.now }
-        ensures marked { IsMarked result }
-    {
-        MarkedLine {
-            bytes: &self.bytes[count..],
-            digits: self.digits >> count,
-            spaces: self.spaces >> count,
-        }
-    }
-
-    /// What stands behind the spaces at its front, if they are at most 31.
-    #[inline(always)]
-    fn behind_spaces(self) -> Option<MarkedLine<'a>>
+    pub fn behind_counters(self) -> Option<&'a [u8]>
         requires { IsMarked self }
-        ensures words { IfSome result (λ after.
-            words_of after.bytes.now ≡ words_of self.entry.bytes.now) }
-        ensures marked { IfSome result IsMarked }
+        ensures { IfSome result (λ after. HasCounters self.entry.bytes.now after.now) }
     {
-        let count = front_run(self.spaces);
-        if count >= LANES {
+        let ends = last_digits(self.digits, self.spaces);
+        let packets = lowest_mark(ends);
+        if packets >= MOST {
             return None;
         }
-        Some(self.behind(count))
-    }
-
-    /// What stands behind the digits at its front, if they are one to twenty with a space behind.
-    #[inline(always)]
-    fn behind_digits(self) -> Option<MarkedLine<'a>>
-        requires { IsMarked self }
-        ensures word { IfSome result (λ after. (word : List ℕ)
-            × (words_of self.entry.bytes.now ≡ word ∷ words_of after.bytes.now)
-            × (is_counter word ≡ true)) }
-        ensures marked { IfSome result IsMarked }
-    {
-        let count = front_run(self.digits);
-        if count == 0 || count > 20 || (self.spaces >> count) & 1 == 0 {
+        let ends = ends >> (packets + 1);
+        let bytes = lowest_mark(ends);
+        if bytes >= MOST {
             return None;
         }
-        Some(self.behind(count))
-    }
-
-    /// What stands behind its first word, if that is a counter of at most twenty digits.
-    #[inline(always)]
-    pub fn behind_counter(self) -> Option<MarkedLine<'a>>
-        requires { IsMarked self }
-        ensures word { IfSome result (λ after. (word : List ℕ)
-            × (words_of self.entry.bytes.now ≡ word ∷ words_of after.bytes.now)
-            × (is_counter word ≡ true)) }
-        ensures marked { IfSome result IsMarked }
-    {
-        self.behind_spaces()?.behind_digits()
+        let ends = ends >> (bytes + 1);
+        let wrong = lowest_mark(ends);
+        if wrong >= MOST {
+            return None;
+        }
+        let end = packets + 1 + (bytes + 1) + (wrong + 1);
+        if front_run(self.digits | self.spaces) < end {
+            return None;
+        }
+        Some(without_front(self.bytes, end))
     }
 }

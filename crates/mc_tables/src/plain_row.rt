@@ -16,6 +16,7 @@ ghost use Rattle.mc_tables.specs.Counters.{HasCounters};
 use crate::address_words::{addresses_at_front, after_addresses};
 use crate::cache_row::CacheRow;
 use crate::entry::Oif;
+use crate::four_oifs::{FOUR_LEN, add_four};
 use crate::marked_line::MarkedLine;
 use crate::outgoing::MAX_THRESHOLD;
 use crate::table_words::{MAX_VIF, number};
@@ -148,11 +149,7 @@ fn after_counter(line: &[u8]) -> Option<&[u8]>
 fn after_near_counters(line: &[u8]) -> Option<&[u8]>
     ensures { IfSome result (λ after. HasCounters line.now after.now) }
 {
-    let packets = MarkedLine::of(line)?;
-    let bytes = packets.behind_counter()?;
-    let wrong = bytes.behind_counter()?;
-    let outgoing = wrong.behind_counter()?;
-    Some(outgoing.bytes)
+    MarkedLine::of(line)?.behind_counters()
 }
 
 /// What stands behind the three counters that are a line's first words.
@@ -271,6 +268,10 @@ pub fn read_ascending(line: &[u8], oifs: &mut Vec<Oif>) -> Result<bool, AllocErr
 {
     let mut rest = line;
     let mut next = 0;
+    'fours: while let Some(after) = add_four(rest, next, oifs)? {
+        next = after;
+        rest = &rest[FOUR_LEN..];
+    }
     'oifs: while !rest.is_empty() {
         let Some((oif, after)) = oif_at_front(rest) else {
             return Ok(without_spaces(rest).is_empty());

@@ -6,6 +6,15 @@ use Rattle.mc_tables.specs.CacheReading.{oifs_in}
 use Rattle.mc_tables.specs.OutgoingSteps.{oifs_after}
 use Rattle.mc_tables.proofs.plain_row.read_ascending.Given as goal
 
+-- four at a time, likewise
+abbrev pub invariant-fours : goal.invariant-fours
+invariant-fours l =
+    (oifs_after l.oifs.items (words_of l.rest) ≡ oifs_in (words_of l.fn.line))
+    × (list_all (λ other. nat_lt other.vif l.next) l.oifs.items ≡ true)
+
+abbrev pub decreases-fours : goal.decreases-fours
+decreases-fours l = length l.rest
+
 -- what is read after the outgoing vifs so far is what is read of the line, and they are all below
 -- the next
 abbrev pub invariant-oifs : goal.invariant-oifs

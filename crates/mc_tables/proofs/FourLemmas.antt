@@ -1,0 +1,291 @@
+-- Outgoing vifs that are printed in seven bytes each.
+use Rattle.std.proofs.Common.{◌≡◌, ℕ, ◌+◌, ◌-◌, ◌*◌, ◌%◌, ◌^◌, ◌<◌, ◌≤◌, Bool, true, false, List, [], ◌∷◌, ◌++◌, length, take}
+use Rattle.std.proofs.Common.{cond, eqb, ltb, bit_or, map, ap₂, w8, Fits, ◌/◌}
+use Rattle.std.specs.Simd.Lanes.{zip2, mask_l, top}
+use Rattle.std.proofs.lemmas.Simd.{length-zip2, get_or-zip2, bit_mask_l, mask_l-mod}
+use Rattle.std.proofs.lemmas.Bool.{agree_below_at}
+use Rattle.std.proofs.lemmas.List.{get_or-map, length-map, length-take-le, get_or-take, append-nil, append_assoc}
+use Rattle.std.proofs.Common.{drop, get_or, Ok, refl, sym, ap, subst, ◌∙◌, arith, inl, inr}
+use Rattle.std.specs.Prelude.{◌==◌, ◌&&◌, ◌||◌, nat_le, nat_lt}
+use Rattle.std.specs.List.{list_all}
+use Rattle.std.specs.Char.{is_ascii_digit}
+use Rattle.std.proofs.lemmas.Bool.{and_parts, and_from, cases_Bool, leb-true, le-leb, eqb-true}
+use Rattle.std.proofs.lemmas.List.{get_or-drop, drop-drop, length-drop}
+use Rattle.mc_text.specs.Lines.{words_of}
+use Rattle.mc_tables.specs.declared.entry.Oif.{Oif}
+use Rattle.mc_tables.specs.CacheReading.{oif_in}
+use Rattle.mc_tables.specs.OutgoingSteps.{oifs_after}
+use Rattle.mc_tables.specs.FourOifs.{IsPrinted, ArePrinted, Ascend}
+use Rattle.mc_tables.proofs.PlainLemmas.{short_first, two_first, rest_of, one_ascends}
+
+-- the vif of its two bytes
+abbrev vif_of : ℕ → ℕ → ℕ
+vif_of tens units = tens % 16 * 10 + (units - 48)
+
+-- a line begins with the word of an outgoing vif
+abbrev Begins : List ℕ → List ℕ → ℕ → ℕ → Type 0
+Begins line behind vif threshold =
+    (word : List ℕ) × (words_of line ≡ word ∷ words_of behind) × (oif_in word ≡ Ok (vif, threshold))
+
+without_tens : (line : List ℕ) → 7 ≤ length line → IsPrinted line → (get_or line 1 0 == 32) ≡ true
+    → Begins line (drop 7 line) (vif_of (get_or line 1 0) (get_or line 2 0)) (get_or line 4 0 - 48)
+without_tens line long printed space =
+    let first = eqb-true (get_or line 1 0) 32 space in
+    let found = short_first line long printed.before first printed.units printed.colon printed.threshold
+    printed.behind printed.last in
+    let plain : get_or line 2 0 - 48 ≡ 0 + (get_or line 2 0 - 48) = omega arith in
+    let vif : get_or line 2 0 - 48 ≡ vif_of (get_or line 1 0) (get_or line 2 0) =
+    plain ∙ ap (λ t. vif_of t (get_or line 2 0)) (sym first) in (
+      found.0,
+      found.1 ∙ ap (λ (r : List ℕ). found.0 ∷ words_of r) (rest_of line 7),
+      found.2 ∙ ap (λ (v : ℕ). Ok (v, get_or line 4 0 - 48)) vif,
+    )
+
+tens_value : (tens : ℕ) → 49 ≤ tens → tens ≤ 51 → tens - 48 ≡ tens % 16
+tens_value tens low high = omega (arith, low, high)
+
+with_tens : (line : List ℕ) → 7 ≤ length line → IsPrinted line → (get_or line 1 0 == 32) ≡ false
+    → vif_of (get_or line 1 0) (get_or line 2 0) ≤ 31
+    → Begins line (drop 7 line) (vif_of (get_or line 1 0) (get_or line 2 0)) (get_or line 4 0 - 48)
+with_tens line long printed other few =
+    let tens = get_or line 1 0 in
+    let units = get_or line 2 0 in
+    let range = rw other at printed.tens in
+    let parts = and_parts (nat_le 49 tens) (nat_le tens 51) range in
+    let low = leb-true 49 tens parts.0 in
+    let high = leb-true tens 51 parts.1 in
+    let digit : is_ascii_digit tens ≡ true =
+    and_from (nat_le 48 tens) (nat_le tens 57) (le-leb 48 tens (omega (arith, low)))
+    (le-leb tens 57 (omega (arith, high))) in
+    let vif : (tens - 48) * 10 + (units - 48) ≡ vif_of tens units =
+    ap (λ t. t * 10 + (units - 48)) (tens_value tens low high) in
+    let found = two_first line long printed.before digit printed.units
+    (subst (λ v. v ≤ 31) (sym vif) few) printed.colon printed.threshold printed.behind printed.last in (
+      found.0,
+      found.1 ∙ ap (λ (r : List ℕ). found.0 ∷ words_of r) (rest_of line 7),
+      found.2 ∙ ap (λ (v : ℕ). Ok (v, get_or line 4 0 - 48)) vif,
+    )
+
+-- what is printed is read
+pub one_read : (line : List ℕ) → 7 ≤ length line → IsPrinted line
+    → vif_of (get_or line 1 0) (get_or line 2 0) ≤ 31
+    → Begins line (drop 7 line) (vif_of (get_or line 1 0) (get_or line 2 0)) (get_or line 4 0 - 48)
+one_read line long printed few =
+    elim (cases_Bool (get_or line 1 0 == 32)) [
+      | inl space ↦ without_tens line long printed space
+      | inr other ↦ with_tens line long printed other few
+    ]
+
+-- the units and the threshold of one are digits
+pub are_digits : (line : List ℕ) (at : ℕ) → IsPrinted (drop at line)
+    → (48 ≤ get_or line (at + 2) 0) × (get_or line (at + 2) 0 ≤ 57)
+    × (49 ≤ get_or line (at + 4) 0) × (get_or line (at + 4) 0 ≤ 57)
+are_digits line at printed =
+    let units = and_parts (nat_le 48 _) (nat_le _ 57) printed.units in
+    let threshold = and_parts (nat_le 49 _) (nat_le _ 57) printed.threshold in
+    let u = get_or-drop at line 2 0 in
+    let t = get_or-drop at line 4 0 in (
+      subst (λ b. 48 ≤ b) u (leb-true 48 _ units.0),
+      subst (λ b. b ≤ 57) u (leb-true _ 57 units.1),
+      subst (λ b. 49 ≤ b) t (leb-true 49 _ threshold.0),
+      subst (λ b. b ≤ 57) t (leb-true _ 57 threshold.1),
+    )
+
+pub vif_fits : (line : List ℕ) (at : ℕ) → IsPrinted (drop at line)
+    → Fits w8 (vif_of (get_or line (at + 1) 0) (get_or line (at + 2) 0))
+vif_fits line at printed =
+    let digits = are_digits line at printed in
+    record { fits = omega (arith, digits.1) }
+
+-- so is what is printed at a place
+pub read_at : (line : List ℕ) (at : ℕ) → at + 7 ≤ length line → IsPrinted (drop at line)
+    → vif_of (get_or line (at + 1) 0) (get_or line (at + 2) 0) ≤ 31
+    → Begins (drop at line) (drop (at + 7) line)
+    (vif_of (get_or line (at + 1) 0) (get_or line (at + 2) 0)) (get_or line (at + 4) 0 - 48)
+read_at line at long printed few =
+    let rest = drop at line in
+    let t = get_or-drop at line 1 0 in
+    let u = get_or-drop at line 2 0 in
+    let h = get_or-drop at line 4 0 in
+    let vif = ap₂ vif_of t u in
+    let found = one_read rest (omega (arith, long, length-drop at line)) printed
+    (subst (λ v. v ≤ 31) (sym vif) few) in (
+      found.0,
+      found.1 ∙ ap (λ (r : List ℕ). found.0 ∷ words_of r) (drop-drop 7 at line),
+      found.2 ∙ ap₂ (λ (v : ℕ) (b : ℕ). Ok (v, b - 48)) vif h,
+    )
+
+-- four that ascend are the first words
+pub four_read : (line : List ℕ) (next : ℕ) (a b c d : Oif)
+    → (a.vif ≤ 31 → Begins line (drop 7 line) a.vif a.threshold)
+    → (b.vif ≤ 31 → Begins (drop 7 line) (drop 14 line) b.vif b.threshold)
+    → (c.vif ≤ 31 → Begins (drop 14 line) (drop 21 line) c.vif c.threshold)
+    → (d.vif ≤ 31 → Begins (drop 21 line) (drop 28 line) d.vif d.threshold)
+    → next ≤ a.vif → a.vif < b.vif → b.vif < c.vif → c.vif < d.vif → d.vif ≤ 31
+    → (words : List (List ℕ)) × (words_of line ≡ words ++ words_of (drop 28 line))
+    × Ascend next words (a ∷ b ∷ c ∷ d ∷ []) (d.vif + 1)
+four_read line next a b c d of_a of_b of_c of_d up up_b up_c up_d few =
+    let first = of_a (omega (arith, up_b, up_c, up_d, few)) in
+    let second = of_b (omega (arith, up_c, up_d, few)) in
+    let third = of_c (omega (arith, up_d, few)) in
+    let fourth = of_d few in (
+      first.0 ∷ second.0 ∷ third.0 ∷ fourth.0 ∷ [],
+      first.1 ∙ ap (λ (ws : List (List ℕ)). first.0 ∷ ws)
+          (second.1 ∙ ap (λ (ws : List (List ℕ)). second.0 ∷ ws)
+          (third.1 ∙ ap (λ (ws : List (List ℕ)). third.0 ∷ ws) fourth.1)),
+      (
+        first.2,
+        up,
+        (second.2, omega (arith, up_b), (third.2, omega (arith, up_c), (fourth.2, omega (arith, up_d), refl))),
+      ),
+    )
+
+-- those that ascend are added one after another
+pub all_ascend : (oifs : List Oif) (next : ℕ) (words : List (List ℕ)) (more : List Oif) (end : ℕ)
+    (rest : List (List ℕ)) → Ascend next words more end
+    → list_all (λ other. nat_lt other.vif next) oifs ≡ true
+    → (oifs_after oifs (words ++ rest) ≡ oifs_after (oifs ++ more) rest)
+    × (list_all (λ other. nat_lt other.vif end) (oifs ++ more) ≡ true)
+all_ascend oifs next [] [] end rest ascend below = (
+  ap (λ os. oifs_after os rest) (sym (append-nil oifs)),
+  ap (λ os. list_all (λ other. nat_lt other.vif end) os) (append-nil oifs)
+      ∙ ap (λ n. list_all (λ other. nat_lt other.vif n) oifs) ascend ∙ below,
+)
+all_ascend oifs next (word ∷ words) (oif ∷ more) end rest ascend below =
+    let step = one_ascends oifs oif next word (words ++ rest) ascend.0 below ascend.1 in
+    let others = all_ascend (oifs ++ oif ∷ []) (oif.vif + 1) words more end rest ascend.2 step.1 in
+    let whole = append_assoc oifs (oif ∷ []) more in (
+      step.0 ∙ others.0 ∙ ap (λ os. oifs_after os rest) whole,
+      ap (λ os. list_all (λ other. nat_lt other.vif end) os) (sym whole) ∙ others.1,
+    )
+all_ascend oifs next [] (oif ∷ more) end rest ascend below = absurd ascend
+all_ascend oifs next (word ∷ words) [] end rest ascend below = absurd ascend
+
+-- ---- the test of all lanes
+
+abbrev below : ℕ → ℕ → ℕ
+below a b = cond (ltb a b) 255 0
+
+abbrev less : ℕ → ℕ → ℕ
+less a b = (a + (256 - b)) % 256
+
+abbrev same : ℕ → ℕ → ℕ
+same a b = cond (eqb a b) 255 0
+
+-- what a lane becomes, and whether its top bit is set
+abbrev lanes_of : List ℕ → List ℕ → List ℕ → List ℕ → List ℕ
+lanes_of v least sizes others =
+    zip2 bit_or (zip2 below (zip2 less v least) sizes) (zip2 same v others)
+
+abbrev passes : ℕ → ℕ → ℕ → ℕ → Bool
+passes least size other b = top 7 (bit_or (below (less b least) size) (same b other))
+
+length_of_lanes : (v least sizes others : List ℕ) → length v ≡ 32 → length least ≡ 32
+    → length sizes ≡ 32 → length others ≡ 32 → length (lanes_of v least sizes others) ≡ 32
+length_of_lanes v least sizes others a b c d =
+    let first = length-zip2 less v least (a ∙ sym b) ∙ a in
+    let second = length-zip2 below (zip2 less v least) sizes (first ∙ sym c) ∙ first in
+    let third = length-zip2 same v others (a ∙ sym d) ∙ a in
+    length-zip2 bit_or _ _ (second ∙ sym third) ∙ second
+
+lane_at : (v least sizes others : List ℕ) → length v ≡ 32 → length least ≡ 32
+    → length sizes ≡ 32 → length others ≡ 32 → (k : ℕ) → k < 32
+    → get_or (map (top 7) (lanes_of v least sizes others)) k false
+    ≡ passes (get_or least k 0) (get_or sizes k 0) (get_or others k 0) (get_or v k 0)
+lane_at v least sizes others a b c d k within =
+    let first = length-zip2 less v least (a ∙ sym b) ∙ a in
+    let second = length-zip2 below (zip2 less v least) sizes (first ∙ sym c) ∙ first in
+    let third = length-zip2 same v others (a ∙ sym d) ∙ a in
+    let size = length_of_lanes v least sizes others a b c d in
+    get_or-map (top 7) (lanes_of v least sizes others) k 0 false (omega (arith, within, size))
+    ∙ ap (top 7)
+    (get_or-zip2 bit_or _ _ k 0 0 0 (omega (arith, within, second)) (omega (arith, within, third))
+    ∙ ap₂ bit_or
+    (get_or-zip2 below _ sizes k 0 0 0 (omega (arith, within, first)) (omega (arith, within, c))
+    ∙ ap (λ x. below x (get_or sizes k 0))
+    (get_or-zip2 less v least k 0 0 0 (omega (arith, within, a)) (omega (arith, within, b))))
+    (get_or-zip2 same v others k 0 0 0 (omega (arith, within, a)) (omega (arith, within, d))))
+
+is_set : (b : Bool) → cond {A = ℕ} b 1 0 ≡ 1 → b ≡ true
+is_set true e = refl
+is_set false e = absurd (omega (arith, e))
+
+-- where all top bits are set, each lane passes
+each_passes : (v least sizes others : List ℕ) → length v ≡ 32 → length least ≡ 32
+    → length sizes ≡ 32 → length others ≡ 32
+    → eqb (mask_l (map (top 7) (lanes_of v least sizes others)) % 2 ^ 64) 4294967295 ≡ true
+    → (k : ℕ) → k < 32 → 4294967295 / 2 ^ k % 2 ≡ 1
+    → passes (get_or least k 0) (get_or sizes k 0) (get_or others k 0) (get_or v k 0) ≡ true
+each_passes v least sizes others a b c d all k within bit =
+    let tops = map (top 7) (lanes_of v least sizes others) in
+    let size = length-map (lanes_of v least sizes others) (top 7)
+    ∙ length_of_lanes v least sizes others a b c d in
+    let mask = sym (mask_l-mod tops 64 (omega (arith, size))) ∙ eqb-true _ 4294967295 all in
+    sym (lane_at v least sizes others a b c d k within)
+    ∙ is_set _ (sym (bit_mask_l tops k) ∙ ap (λ m. m / 2 ^ k % 2) mask ∙ bit)
+
+-- ---- what may stand at each place
+
+space_stands : (b : ℕ) → b < 256 → passes 32 1 32 b ≡ true → b ≡ 32
+space_stands b fits e =
+    eqb-true b 32 (sym (agree_below_at (passes 32 1 32) (λ x. x == 32) 256 b refl fits) ∙ e)
+
+tens_stand : (b : ℕ) → b < 256 → passes 49 3 32 b ≡ true
+    → (b == 32 || (nat_le 49 b && nat_le b 51)) ≡ true
+tens_stand b fits e =
+    sym (agree_below_at (passes 49 3 32) (λ x. x == 32 || (nat_le 49 x && nat_le x 51)) 256 b refl fits) ∙ e
+
+units_stand : (b : ℕ) → b < 256 → passes 48 10 48 b ≡ true → is_ascii_digit b ≡ true
+units_stand b fits e = sym (agree_below_at (passes 48 10 48) is_ascii_digit 256 b refl fits) ∙ e
+
+colon_stands : (b : ℕ) → b < 256 → passes 58 1 58 b ≡ true → b ≡ 58
+colon_stands b fits e =
+    eqb-true b 58 (sym (agree_below_at (passes 58 1 58) (λ x. x == 58) 256 b refl fits) ∙ e)
+
+threshold_stands : (b : ℕ) → b < 256 → passes 49 9 49 b ≡ true → (nat_le 49 b && nat_le b 57) ≡ true
+threshold_stands b fits e =
+    sym (agree_below_at (passes 49 9 49) (λ x. nat_le 49 x && nat_le x 57) 256 b refl fits) ∙ e
+
+one_printed : (line : List ℕ) (n : ℕ) → ((k : ℕ) → Fits w8 (get_or line k 0))
+    → passes 32 1 32 (get_or line (n + 0) 0) ≡ true → passes 49 3 32 (get_or line (n + 1) 0) ≡ true
+    → passes 48 10 48 (get_or line (n + 2) 0) ≡ true → passes 58 1 58 (get_or line (n + 3) 0) ≡ true
+    → passes 49 9 49 (get_or line (n + 4) 0) ≡ true → passes 32 1 32 (get_or line (n + 5) 0) ≡ true
+    → passes 32 1 32 (get_or line (n + 6) 0) ≡ true → IsPrinted (drop n line)
+one_printed line n fits a b c d e f g =
+    let at : (k : ℕ) → get_or (drop n line) k 0 ≡ get_or line (n + k) 0 = λ k. get_or-drop n line k 0 in
+    record {
+      before = at 0 ∙ space_stands _ (fits (n + 0)).fits a;
+      tens = ap (λ x. x == 32 || (nat_le 49 x && nat_le x 51)) (at 1) ∙ tens_stand _ (fits (n + 1)).fits b;
+      units = ap is_ascii_digit (at 2) ∙ units_stand _ (fits (n + 2)).fits c;
+      colon = at 3 ∙ colon_stands _ (fits (n + 3)).fits d;
+      threshold = ap (λ x. nat_le 49 x && nat_le x 57) (at 4) ∙ threshold_stands _ (fits (n + 4)).fits e;
+      behind = at 5 ∙ space_stands _ (fits (n + 5)).fits f;
+      last = at 6 ∙ space_stands _ (fits (n + 6)).fits g;
+    }
+
+abbrev least_bytes : List ℕ
+least_bytes = 32 ∷ 49 ∷ 48 ∷ 58 ∷ 49 ∷ 32 ∷ 32 ∷ 32 ∷ 49 ∷ 48 ∷ 58 ∷ 49 ∷ 32 ∷ 32 ∷ 32 ∷ 49 ∷ 48 ∷ 58 ∷ 49 ∷ 32 ∷ 32 ∷ 32 ∷ 49 ∷ 48 ∷ 58 ∷ 49 ∷ 32 ∷ 32 ∷ 0 ∷ 0 ∷ 0 ∷ 0 ∷ []
+
+abbrev range_sizes : List ℕ
+range_sizes = 1 ∷ 3 ∷ 10 ∷ 1 ∷ 9 ∷ 1 ∷ 1 ∷ 1 ∷ 3 ∷ 10 ∷ 1 ∷ 9 ∷ 1 ∷ 1 ∷ 1 ∷ 3 ∷ 10 ∷ 1 ∷ 9 ∷ 1 ∷ 1 ∷ 1 ∷ 3 ∷ 10 ∷ 1 ∷ 9 ∷ 1 ∷ 1 ∷ 255 ∷ 255 ∷ 255 ∷ 255 ∷ []
+
+abbrev other_bytes : List ℕ
+other_bytes = 32 ∷ 32 ∷ 48 ∷ 58 ∷ 49 ∷ 32 ∷ 32 ∷ 32 ∷ 32 ∷ 48 ∷ 58 ∷ 49 ∷ 32 ∷ 32 ∷ 32 ∷ 32 ∷ 48 ∷ 58 ∷ 49 ∷ 32 ∷ 32 ∷ 32 ∷ 32 ∷ 48 ∷ 58 ∷ 49 ∷ 32 ∷ 32 ∷ 255 ∷ 255 ∷ 255 ∷ 255 ∷ []
+
+pub all_printed : (line : List ℕ) → 32 ≤ length line → ((k : ℕ) → Fits w8 (get_or line k 0))
+    → eqb (mask_l (map (top 7) (lanes_of (take 32 line) least_bytes range_sizes other_bytes)) % 2 ^ 64)
+    4294967295 ≡ true → ArePrinted line
+all_printed line long fits all =
+    let size = length-take-le 32 line long in
+    let lane : (k : ℕ) → k < 32 → 4294967295 / 2 ^ k % 2 ≡ 1
+    → passes (get_or least_bytes k 0) (get_or range_sizes k 0) (get_or other_bytes k 0) (get_or line k 0) ≡ true =
+    λ k within bit. subst
+    (λ b. passes (get_or least_bytes k 0) (get_or range_sizes k 0) (get_or other_bytes k 0) b ≡ true)
+    (get_or-take 32 line k 0 within)
+    (each_passes (take 32 line) least_bytes range_sizes other_bytes size refl refl refl all k within bit) in
+    record {
+      first = one_printed line 0 fits (lane 0 (omega arith) refl) (lane 1 (omega arith) refl) (lane 2 (omega arith) refl) (lane 3 (omega arith) refl) (lane 4 (omega arith) refl) (lane 5 (omega arith) refl) (lane 6 (omega arith) refl);
+      second = one_printed line 7 fits (lane 7 (omega arith) refl) (lane 8 (omega arith) refl) (lane 9 (omega arith) refl) (lane 10 (omega arith) refl) (lane 11 (omega arith) refl) (lane 12 (omega arith) refl) (lane 13 (omega arith) refl);
+      third = one_printed line 14 fits (lane 14 (omega arith) refl) (lane 15 (omega arith) refl) (lane 16 (omega arith) refl) (lane 17 (omega arith) refl) (lane 18 (omega arith) refl) (lane 19 (omega arith) refl) (lane 20 (omega arith) refl);
+      fourth = one_printed line 21 fits (lane 21 (omega arith) refl) (lane 22 (omega arith) refl) (lane 23 (omega arith) refl) (lane 24 (omega arith) refl) (lane 25 (omega arith) refl) (lane 26 (omega arith) refl) (lane 27 (omega arith) refl);
+    }

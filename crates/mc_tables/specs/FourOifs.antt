@@ -1,0 +1,36 @@
+-- Outgoing vifs with thresholds of one digit, as ipmr_mfc_seq_show prints them: " %2d:%-3d"
+-- (net/ipv4/ipmr.c).
+use Rattle.std.specs.Prelude.{◌≡◌, ℕ, ◌+◌, ◌≤◌, ◌==◌, ◌||◌, ◌&&◌, nat_le, Bool, true, List, [], ◌∷◌}
+use Rattle.std.specs.Prelude.{drop, slice_index, Ok}
+use Rattle.std.specs.Char.{is_ascii_digit}
+use Rattle.mc_tables.specs.declared.entry.Oif.{Oif}
+use Rattle.mc_tables.specs.CacheReading.{oif_in}
+
+-- a byte in this range
+abbrev pub is_within : ℕ → ℕ → ℕ → Bool
+is_within least most byte = nat_le least byte && nat_le byte most
+
+-- a line begins with one
+pub record IsPrinted (line : List ℕ) : Type 0 where
+  pub before : slice_index line 0 ≡ 32
+  pub tens : (slice_index line 1 == 32 || is_within 49 51 (slice_index line 1)) ≡ true
+  pub units : is_ascii_digit (slice_index line 2) ≡ true
+  pub colon : slice_index line 3 ≡ 58
+  pub threshold : is_within 49 57 (slice_index line 4) ≡ true
+  pub behind : slice_index line 5 ≡ 32
+  pub last : slice_index line 6 ≡ 32
+
+-- it begins with four
+pub record ArePrinted (line : List ℕ) : Type 0 where
+  pub first : IsPrinted line
+  pub second : IsPrinted (drop 7 line)
+  pub third : IsPrinted (drop 14 line)
+  pub fourth : IsPrinted (drop 21 line)
+
+-- words write outgoing vifs that ascend from a number on, and the number next to the last
+abbrev pub Ascend : ℕ → List (List ℕ) → List Oif → ℕ → Type 0
+Ascend next [] [] end = end ≡ next
+Ascend next (word ∷ words) (oif ∷ oifs) end =
+    (oif_in word ≡ Ok (oif.vif, oif.threshold)) × (next ≤ oif.vif)
+    × Ascend (oif.vif + 1) words oifs end
+Ascend next words oifs end = ⊥

@@ -1,16 +1,16 @@
 -- Outgoing vifs that are printed in seven bytes each.
-use Rattle.std.proofs.Common.{◌≡◌, ℕ, ◌+◌, ◌-◌, ◌*◌, ◌%◌, ◌^◌, ◌<◌, ◌≤◌, Bool, true, false, List, [], ◌∷◌, ◌++◌, length, take}
-use Rattle.std.proofs.Common.{cond, eqb, ltb, bit_or, map, ap₂, w8, Fits, ◌/◌}
-use Rattle.std.specs.Simd.Lanes.{zip2, mask_l, top}
-use Rattle.std.proofs.lemmas.Simd.{length-zip2, get_or-zip2, bit_mask_l, mask_l-mod}
-use Rattle.std.proofs.lemmas.Bool.{agree_below_at}
-use Rattle.std.proofs.lemmas.List.{get_or-map, length-map, length-take-le, get_or-take, append-nil, append_assoc}
-use Rattle.std.proofs.Common.{drop, get_or, Ok, refl, sym, ap, subst, ◌∙◌, arith, inl, inr}
+use Rattle.std.proofs.Common.{◌≡◌, ℕ, ◌+◌, ◌-◌, ◌*◌, ◌/◌, ◌%◌, ◌^◌, ◌<◌, ◌≤◌, Bool, true, false, cond}
+use Rattle.std.proofs.Common.{eqb, ltb, bit_or, w8, Fits, List, [], ◌∷◌, ◌++◌, length, map, take, drop}
+use Rattle.std.proofs.Common.{get_or, Ok, refl, sym, ap, ap₂, subst, ◌∙◌, arith, inl, inr}
 use Rattle.std.specs.Prelude.{◌==◌, ◌&&◌, ◌||◌, nat_le, nat_lt}
 use Rattle.std.specs.List.{list_all}
 use Rattle.std.specs.Char.{is_ascii_digit}
-use Rattle.std.proofs.lemmas.Bool.{and_parts, and_from, cases_Bool, leb-true, le-leb, eqb-true}
-use Rattle.std.proofs.lemmas.List.{get_or-drop, drop-drop, length-drop}
+use Rattle.std.specs.Simd.Lanes.{zip2, mask_l, top}
+use Rattle.std.proofs.lemmas.Bool.{agree_below_at, and_parts, and_from, cases_Bool, leb-true, le-leb}
+use Rattle.std.proofs.lemmas.Bool.{eqb-true}
+use Rattle.std.proofs.lemmas.List.{get_or-map, get_or-take, get_or-drop, length-map, length-take-le}
+use Rattle.std.proofs.lemmas.List.{length-drop, drop-drop, append-nil, append_assoc}
+use Rattle.std.proofs.lemmas.Simd.{length-zip2, get_or-zip2, bit_mask_l, mask_l-mod}
 use Rattle.mc_text.specs.Lines.{words_of}
 use Rattle.mc_tables.specs.declared.entry.Oif.{Oif}
 use Rattle.mc_tables.specs.CacheReading.{oif_in}
@@ -136,7 +136,11 @@ four_read line next a b c d of_a of_b of_c of_d up up_b up_c up_d few =
       (
         first.2,
         up,
-        (second.2, omega (arith, up_b), (third.2, omega (arith, up_c), (fourth.2, omega (arith, up_d), refl))),
+        (
+          second.2,
+          omega (arith, up_b),
+          (third.2, omega (arith, up_c), (fourth.2, omega (arith, up_d), refl)),
+        ),
       ),
     )
 
@@ -233,7 +237,8 @@ space_stands b fits e =
 tens_stand : (b : ℕ) → b < 256 → passes 49 3 32 b ≡ true
     → (b == 32 || (nat_le 49 b && nat_le b 51)) ≡ true
 tens_stand b fits e =
-    sym (agree_below_at (passes 49 3 32) (λ x. x == 32 || (nat_le 49 x && nat_le x 51)) 256 b refl fits) ∙ e
+    sym (agree_below_at (passes 49 3 32) (λ x. x == 32 || (nat_le 49 x && nat_le x 51)) 256 b refl fits)
+    ∙ e
 
 units_stand : (b : ℕ) → b < 256 → passes 48 10 48 b ≡ true → is_ascii_digit b ≡ true
 units_stand b fits e = sym (agree_below_at (passes 48 10 48) is_ascii_digit 256 b refl fits) ∙ e
@@ -242,7 +247,8 @@ colon_stands : (b : ℕ) → b < 256 → passes 58 1 58 b ≡ true → b ≡ 58
 colon_stands b fits e =
     eqb-true b 58 (sym (agree_below_at (passes 58 1 58) (λ x. x == 58) 256 b refl fits) ∙ e)
 
-threshold_stands : (b : ℕ) → b < 256 → passes 49 9 49 b ≡ true → (nat_le 49 b && nat_le b 57) ≡ true
+threshold_stands : (b : ℕ) → b < 256 → passes 49 9 49 b ≡ true
+    → (nat_le 49 b && nat_le b 57) ≡ true
 threshold_stands b fits e =
     sym (agree_below_at (passes 49 9 49) (λ x. nat_le 49 x && nat_le x 57) 256 b refl fits) ∙ e
 
@@ -252,40 +258,59 @@ one_printed : (line : List ℕ) (n : ℕ) → ((k : ℕ) → Fits w8 (get_or lin
     → passes 49 9 49 (get_or line (n + 4) 0) ≡ true → passes 32 1 32 (get_or line (n + 5) 0) ≡ true
     → passes 32 1 32 (get_or line (n + 6) 0) ≡ true → IsPrinted (drop n line)
 one_printed line n fits a b c d e f g =
-    let at : (k : ℕ) → get_or (drop n line) k 0 ≡ get_or line (n + k) 0 = λ k. get_or-drop n line k 0 in
+    let at : (k : ℕ) → get_or (drop n line) k 0 ≡ get_or line (n + k) 0 =
+    λ k. get_or-drop n line k 0 in
     record {
       before = at 0 ∙ space_stands _ (fits (n + 0)).fits a;
-      tens = ap (λ x. x == 32 || (nat_le 49 x && nat_le x 51)) (at 1) ∙ tens_stand _ (fits (n + 1)).fits b;
+      tens = ap (λ x. x == 32 || (nat_le 49 x && nat_le x 51)) (at 1)
+          ∙ tens_stand _ (fits (n + 1)).fits b;
       units = ap is_ascii_digit (at 2) ∙ units_stand _ (fits (n + 2)).fits c;
       colon = at 3 ∙ colon_stands _ (fits (n + 3)).fits d;
-      threshold = ap (λ x. nat_le 49 x && nat_le x 57) (at 4) ∙ threshold_stands _ (fits (n + 4)).fits e;
+      threshold = ap (λ x. nat_le 49 x && nat_le x 57) (at 4)
+          ∙ threshold_stands _ (fits (n + 4)).fits e;
       behind = at 5 ∙ space_stands _ (fits (n + 5)).fits f;
       last = at 6 ∙ space_stands _ (fits (n + 6)).fits g;
     }
 
 abbrev least_bytes : List ℕ
-least_bytes = 32 ∷ 49 ∷ 48 ∷ 58 ∷ 49 ∷ 32 ∷ 32 ∷ 32 ∷ 49 ∷ 48 ∷ 58 ∷ 49 ∷ 32 ∷ 32 ∷ 32 ∷ 49 ∷ 48 ∷ 58 ∷ 49 ∷ 32 ∷ 32 ∷ 32 ∷ 49 ∷ 48 ∷ 58 ∷ 49 ∷ 32 ∷ 32 ∷ 0 ∷ 0 ∷ 0 ∷ 0 ∷ []
+least_bytes =
+    32 ∷ 49 ∷ 48 ∷ 58 ∷ 49 ∷ 32 ∷ 32 ∷ 32 ∷ 49 ∷ 48 ∷ 58 ∷ 49 ∷ 32 ∷ 32 ∷ 32 ∷ 49 ∷ 48 ∷ 58
+    ∷ 49 ∷ 32 ∷ 32 ∷ 32 ∷ 49 ∷ 48 ∷ 58 ∷ 49 ∷ 32 ∷ 32 ∷ 0 ∷ 0 ∷ 0 ∷ 0 ∷ []
 
 abbrev range_sizes : List ℕ
-range_sizes = 1 ∷ 3 ∷ 10 ∷ 1 ∷ 9 ∷ 1 ∷ 1 ∷ 1 ∷ 3 ∷ 10 ∷ 1 ∷ 9 ∷ 1 ∷ 1 ∷ 1 ∷ 3 ∷ 10 ∷ 1 ∷ 9 ∷ 1 ∷ 1 ∷ 1 ∷ 3 ∷ 10 ∷ 1 ∷ 9 ∷ 1 ∷ 1 ∷ 255 ∷ 255 ∷ 255 ∷ 255 ∷ []
+range_sizes =
+    1 ∷ 3 ∷ 10 ∷ 1 ∷ 9 ∷ 1 ∷ 1 ∷ 1 ∷ 3 ∷ 10 ∷ 1 ∷ 9 ∷ 1 ∷ 1 ∷ 1 ∷ 3 ∷ 10 ∷ 1 ∷ 9 ∷ 1 ∷ 1 ∷ 1
+    ∷ 3 ∷ 10 ∷ 1 ∷ 9 ∷ 1 ∷ 1 ∷ 255 ∷ 255 ∷ 255 ∷ 255 ∷ []
 
 abbrev other_bytes : List ℕ
-other_bytes = 32 ∷ 32 ∷ 48 ∷ 58 ∷ 49 ∷ 32 ∷ 32 ∷ 32 ∷ 32 ∷ 48 ∷ 58 ∷ 49 ∷ 32 ∷ 32 ∷ 32 ∷ 32 ∷ 48 ∷ 58 ∷ 49 ∷ 32 ∷ 32 ∷ 32 ∷ 32 ∷ 48 ∷ 58 ∷ 49 ∷ 32 ∷ 32 ∷ 255 ∷ 255 ∷ 255 ∷ 255 ∷ []
+other_bytes =
+    32 ∷ 32 ∷ 48 ∷ 58 ∷ 49 ∷ 32 ∷ 32 ∷ 32 ∷ 32 ∷ 48 ∷ 58 ∷ 49 ∷ 32 ∷ 32 ∷ 32 ∷ 32 ∷ 48 ∷ 58
+    ∷ 49 ∷ 32 ∷ 32 ∷ 32 ∷ 32 ∷ 48 ∷ 58 ∷ 49 ∷ 32 ∷ 32 ∷ 255 ∷ 255 ∷ 255 ∷ 255 ∷ []
+
+-- whether a byte passes at a place
+abbrev passes_at : ℕ → ℕ → Bool
+passes_at k b = passes (get_or least_bytes k 0) (get_or range_sizes k 0) (get_or other_bytes k 0) b
 
 pub all_printed : (line : List ℕ) → 32 ≤ length line → ((k : ℕ) → Fits w8 (get_or line k 0))
     → eqb (mask_l (map (top 7) (lanes_of (take 32 line) least_bytes range_sizes other_bytes)) % 2 ^ 64)
     4294967295 ≡ true → ArePrinted line
 all_printed line long fits all =
     let size = length-take-le 32 line long in
-    let lane : (k : ℕ) → k < 32 → 4294967295 / 2 ^ k % 2 ≡ 1
-    → passes (get_or least_bytes k 0) (get_or range_sizes k 0) (get_or other_bytes k 0) (get_or line k 0) ≡ true =
-    λ k within bit. subst
-    (λ b. passes (get_or least_bytes k 0) (get_or range_sizes k 0) (get_or other_bytes k 0) b ≡ true)
-    (get_or-take 32 line k 0 within)
-    (each_passes (take 32 line) least_bytes range_sizes other_bytes size refl refl refl all k within bit) in
+    let at : (k : ℕ) → k < 32 → 4294967295 / 2 ^ k % 2 ≡ 1 → passes_at k (get_or line k 0) ≡ true =
+    λ k within bit. subst (λ b. passes_at k b ≡ true) (get_or-take 32 line k 0 within)
+    (each_passes (take 32 line) least_bytes range_sizes other_bytes size refl refl refl all k within
+    bit) in
     record {
-      first = one_printed line 0 fits (lane 0 (omega arith) refl) (lane 1 (omega arith) refl) (lane 2 (omega arith) refl) (lane 3 (omega arith) refl) (lane 4 (omega arith) refl) (lane 5 (omega arith) refl) (lane 6 (omega arith) refl);
-      second = one_printed line 7 fits (lane 7 (omega arith) refl) (lane 8 (omega arith) refl) (lane 9 (omega arith) refl) (lane 10 (omega arith) refl) (lane 11 (omega arith) refl) (lane 12 (omega arith) refl) (lane 13 (omega arith) refl);
-      third = one_printed line 14 fits (lane 14 (omega arith) refl) (lane 15 (omega arith) refl) (lane 16 (omega arith) refl) (lane 17 (omega arith) refl) (lane 18 (omega arith) refl) (lane 19 (omega arith) refl) (lane 20 (omega arith) refl);
-      fourth = one_printed line 21 fits (lane 21 (omega arith) refl) (lane 22 (omega arith) refl) (lane 23 (omega arith) refl) (lane 24 (omega arith) refl) (lane 25 (omega arith) refl) (lane 26 (omega arith) refl) (lane 27 (omega arith) refl);
+      first = one_printed line 0 fits (at 0 (omega arith) refl) (at 1 (omega arith) refl)
+          (at 2 (omega arith) refl) (at 3 (omega arith) refl) (at 4 (omega arith) refl)
+          (at 5 (omega arith) refl) (at 6 (omega arith) refl);
+      second = one_printed line 7 fits (at 7 (omega arith) refl) (at 8 (omega arith) refl)
+          (at 9 (omega arith) refl) (at 10 (omega arith) refl) (at 11 (omega arith) refl)
+          (at 12 (omega arith) refl) (at 13 (omega arith) refl);
+      third = one_printed line 14 fits (at 14 (omega arith) refl) (at 15 (omega arith) refl)
+          (at 16 (omega arith) refl) (at 17 (omega arith) refl) (at 18 (omega arith) refl)
+          (at 19 (omega arith) refl) (at 20 (omega arith) refl);
+      fourth = one_printed line 21 fits (at 21 (omega arith) refl) (at 22 (omega arith) refl)
+          (at 23 (omega arith) refl) (at 24 (omega arith) refl) (at 25 (omega arith) refl)
+          (at 26 (omega arith) refl) (at 27 (omega arith) refl);
     }

@@ -14,7 +14,8 @@ use Rattle.std.proofs.lemmas.List.Elements.{All-from_get_or}
 use Rattle.std.proofs.lemmas.List.Sums.{list_all-from_AllPass}
 use Rattle.std.proofs.lemmas.Simd.{bit_mask_l, length-chunk, get_or-chunk}
 use Rattle.std.proofs.lemmas.Nat.{trailing_le}
-use Rattle.std.proofs.lemmas.Nat.Bits.{bit_at-trailing_ones, bit_at-trailing_zeros, bit_at_ones, bit_at-lt, bit_at_and, bit_at_or, bit_at-zero}
+use Rattle.std.proofs.lemmas.Nat.Bits.{bit_at-trailing_ones, bit_at-trailing_zeros, bit_at_ones}
+use Rattle.std.proofs.lemmas.Nat.Bits.{bit_at-lt, bit_at_and, bit_at_or, bit_at-zero}
 use lib.Count.{count_trailing_zeros}
 use Rattle.mc_text.specs.Lines.{words_of}
 use Rattle.mc_tables.specs.Counters.{AreMarks, AreLastDigits, HasCounters}
@@ -109,11 +110,6 @@ pub spaces_behind : (line : List ℕ) (m n : ℕ) → AreMarks (λ b. b == 32) l
     → ((k : ℕ) → k < n → bit_at m k ≡ 1) → words_of (drop n line) ≡ words_of line
 spaces_behind line m n marks run =
     behind_spaces n line (run_passes (λ b. b == 32) line m n marks run)
-
--- a bit that isn't 0 is 1
-pub one_of : (bit : ℕ) → bit < 2 → (bit ≡ 0 → ⊥) → bit ≡ 1
-one_of zero less other = absurd (other refl)
-one_of (suc bit) less other = omega (arith, less)
 
 -- digits and a space behind them are a line's first word
 pub counter_marked : (line : List ℕ) (digits spaces n : ℕ) → AreMarks is_ascii_digit line digits
@@ -232,7 +228,8 @@ counter_from : (line : List ℕ) (digits spaces n more end : ℕ) → AreMarks i
     → ((k : ℕ) → k < n → bit_at spaces k ≡ 1) → ((k : ℕ) → k < more → bit_at digits (n + k) ≡ 1)
     → bit_at spaces end ≡ 1 → (word : List ℕ)
     × (words_of line ≡ word ∷ words_of (drop end line)) × (is_counter word ≡ true)
-counter_from line digits spaces n more end of_digits of_spaces sum some few are_spaces are_digits space =
+counter_from line digits spaces n more end of_digits of_spaces sum some few are_spaces are_digits
+    space =
     let found = counter_marked (drop n line) (digits / 2 ^ n) (spaces / 2 ^ n) more
     (marks_behind is_ascii_digit line digits n of_digits)
     (marks_behind (λ b. b == 32) line spaces n of_spaces)
@@ -253,7 +250,8 @@ counter_split line digits spaces last of_digits of_spaces few split space =
     counter_from line digits spaces split.first (last + 1 - split.first) (last + 1) of_digits of_spaces
     (omega (arith, split.within)) (omega (arith, split.within)) (omega (arith, few))
     (λ k less. split.are_spaces k (omega arith) less)
-    (λ k less. split.are_digits (split.first + k) (omega arith) (omega (arith, less, split.within))) space
+    (λ k less. split.are_digits (split.first + k) (omega arith) (omega (arith, less, split.within)))
+    space
 
 no_end_before : (digits spaces ends last : ℕ) → AreLastDigits digits spaces ends
     → ((k : ℕ) → k < last → bit_at ends k ≡ 0) → HasNoEnd digits spaces last
@@ -268,7 +266,8 @@ one_counter : (line : List ℕ) (digits spaces ends last : ℕ) → AreMarks is_
     → bit_at ends last ≡ 1 → last < 20 → (word : List ℕ)
     × (words_of line ≡ word ∷ words_of (drop (last + 1) line)) × (is_counter word ≡ true)
 one_counter line digits spaces ends last of_digits of_spaces are_ends known lowest set few =
-    let both = both_set _ _ (bit_at-lt digits last) (bit_at-lt spaces (last + 1)) (sym (are_ends last) ∙ set) in
+    let both = both_set _ _ (bit_at-lt digits last) (bit_at-lt spaces (last + 1))
+    (sym (are_ends last) ∙ set) in
     counter_split line digits spaces last of_digits of_spaces few
     (split_from last digits spaces 0 last (omega arith)
     (no_end_before digits spaces ends last are_ends lowest)

@@ -7,9 +7,10 @@ use Rattle.mc_tables.proofs.plain_row.read_ascending.Goals as goal
 
 pub oifs-preserved : goal.oifs-preserved
 oifs-preserved c =
-    let word = c.in-Some-oif_at_front.ensures.word in
+    let found = c.in-Some-oif_at_front in
+    let word = found.ensures.word in
     let oifs = c.oifs.oifs.items in
-    let step = one_ascends oifs c.in-Some-oif_at_front.oif c.oifs.next word.0 (words_of c.in-Some-oif_at_front.after.now) word.2
+    let step = one_ascends oifs found.oif c.oifs.next word.0 (words_of found.after.now) word.2
     c.oifs.invariant.1 (omega (arith, c.if-oif-next.false)) in
     let pushed = c.in_ok-push.ensures.items in (
       rw pushed
@@ -21,10 +22,9 @@ pub fours-preserved : goal.fours-preserved
 fours-preserved c =
     let added = rw c.in-Some.is at c.in_ok-after.ensures.added in
     let oifs = c.fours.oifs.items in
-    let words = added.0 in
-    let four = added.1 in
     let rest = words_of (drop 28 c.fours.rest.now) in
-    let step = all_ascend oifs c.fours.next words four c.in-Some.after rest added.4 c.fours.invariant.1 in
+    let step = all_ascend oifs c.fours.next added.0 added.1 c.in-Some.after rest added.4
+    c.fours.invariant.1 in
     let pushed = added.3 in (
       rw (pushed, rest_of c.fours.rest.now 28)
           (sym step.0 ∙ ap (oifs_after oifs) (sym added.2) ∙ c.fours.invariant.0),

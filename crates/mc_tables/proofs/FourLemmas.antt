@@ -1,6 +1,6 @@
 -- Outgoing vifs that are printed in seven bytes each.
 use Rattle.std.proofs.Common.{◌≡◌, ℕ, ◌+◌, ◌-◌, ◌*◌, ◌/◌, ◌%◌, ◌^◌, ◌<◌, ◌≤◌, Bool, true, false, cond}
-use Rattle.std.proofs.Common.{eqb, ltb, bit_or, w8, Fits, List, [], ◌∷◌, ◌++◌, length, map, take, drop}
+use Rattle.std.proofs.Common.{eqb, bit_or, w8, Fits, List, [], ◌∷◌, ◌++◌, length, map, take, drop}
 use Rattle.std.proofs.Common.{get_or, Ok, refl, sym, ap, ap₂, subst, ◌∙◌, arith, inl, inr}
 use Rattle.std.specs.Prelude.{◌==◌, ◌&&◌, ◌||◌, nat_le, nat_lt}
 use Rattle.std.specs.List.{list_all}
@@ -12,11 +12,13 @@ use Rattle.std.proofs.lemmas.List.{get_or-map, get_or-take, get_or-drop, length-
 use Rattle.std.proofs.lemmas.List.{length-drop, drop-drop, append-nil, append_assoc}
 use Rattle.std.proofs.lemmas.Simd.{length-zip2, get_or-zip2, bit_mask_l, mask_l-mod}
 use Rattle.mc_text.specs.Lines.{words_of}
+use Rattle.mc_text.proofs.DigitLaneLemmas.{below, less}
 use Rattle.mc_tables.specs.declared.entry.Oif.{Oif}
 use Rattle.mc_tables.specs.CacheReading.{oif_in}
 use Rattle.mc_tables.specs.OutgoingSteps.{oifs_after}
 use Rattle.mc_tables.specs.FourOifs.{IsPrinted, ArePrinted, Ascend}
 use Rattle.mc_tables.proofs.PlainLemmas.{short_first, two_first, rest_of, one_ascends}
+use Rattle.mc_tables.proofs.MarkedLemmas.{set_is_true}
 
 -- the vif of its two bytes
 abbrev vif_of : ℕ → ℕ → ℕ
@@ -167,12 +169,6 @@ all_ascend oifs next (word ∷ words) [] end rest ascend below = absurd ascend
 
 -- ---- the test of all lanes
 
-abbrev below : ℕ → ℕ → ℕ
-below a b = cond (ltb a b) 255 0
-
-abbrev less : ℕ → ℕ → ℕ
-less a b = (a + (256 - b)) % 256
-
 abbrev same : ℕ → ℕ → ℕ
 same a b = cond (eqb a b) 255 0
 
@@ -210,10 +206,6 @@ lane_at v least sizes others a b c d k within =
     (get_or-zip2 less v least k 0 0 0 (omega (arith, within, a)) (omega (arith, within, b))))
     (get_or-zip2 same v others k 0 0 0 (omega (arith, within, a)) (omega (arith, within, d))))
 
-is_set : (b : Bool) → cond {A = ℕ} b 1 0 ≡ 1 → b ≡ true
-is_set true e = refl
-is_set false e = absurd (omega (arith, e))
-
 -- where all top bits are set, each lane passes
 each_passes : (v least sizes others : List ℕ) → length v ≡ 32 → length least ≡ 32
     → length sizes ≡ 32 → length others ≡ 32
@@ -226,7 +218,7 @@ each_passes v least sizes others a b c d all k within bit =
     ∙ length_of_lanes v least sizes others a b c d in
     let mask = sym (mask_l-mod tops 64 (omega (arith, size))) ∙ eqb-true _ 4294967295 all in
     sym (lane_at v least sizes others a b c d k within)
-    ∙ is_set _ (sym (bit_mask_l tops k) ∙ ap (λ m. m / 2 ^ k % 2) mask ∙ bit)
+    ∙ set_is_true _ (sym (bit_mask_l tops k) ∙ ap (λ m. m / 2 ^ k % 2) mask ∙ bit)
 
 -- ---- what may stand at each place
 

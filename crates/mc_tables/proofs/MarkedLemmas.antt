@@ -1,15 +1,16 @@
 -- The bytes that the bits of a number mark.
-use Rattle.std.proofs.Common.{◌≡◌, ℕ, zero, suc, ◌+◌, ◌-◌, ◌/◌, ◌%◌, ◌^◌, ◌<◌, ◌≤◌, Bool, true, false, cond, List, [], ◌∷◌}
-use Rattle.std.proofs.Common.{length, take, drop, get_or, map, Fits, w8, refl, sym, ap, subst, ◌∙◌, arith, inl, inr, shr-shr}
+use Rattle.std.proofs.Common.{◌≡◌, ℕ, zero, suc, ◌+◌, ◌-◌, ◌/◌, ◌%◌, ◌^◌, ◌<◌, ◌≤◌, min, bit_and, bit_or}
+use Rattle.std.proofs.Common.{Bool, true, false, cond, List, [], ◌∷◌, length, take, drop, get_or, map}
+use Rattle.std.proofs.Common.{Fits, w8, w64, refl, sym, ap, ap₂, subst, ◌∙◌, arith, inl, inr, shr-shr}
 use Rattle.std.specs.Prelude.{◌==◌, ◌⊎◌, nat_le}
-use Rattle.std.proofs.Common.{w64, min, bit_and, bit_or, ap₂}
-use Rattle.std.proofs.lemmas.List.{drop-drop}
 use Rattle.std.specs.Int.{bit_at, bit_not, trailing_ones, trailing_zeros}
 use Rattle.std.specs.Char.{is_ascii_digit}
 use Rattle.std.specs.List.{list_all}
 use Rattle.std.specs.Simd.Lanes.{chunk, mask_l}
-use Rattle.std.proofs.lemmas.Bool.{agree_below, agree_below_at, cases_lt, eqb-true, and_parts, and_from, le-leb}
-use Rattle.std.proofs.lemmas.List.{get_or-drop, get_or_past, get_or-map, length-map, length-drop, get_or-take, length-take-le}
+use Rattle.std.proofs.lemmas.Bool.{agree_below, agree_below_at, cases_lt, eqb-true, and_parts}
+use Rattle.std.proofs.lemmas.Bool.{and_from, le-leb}
+use Rattle.std.proofs.lemmas.List.{get_or-drop, get_or_past, get_or-map, get_or-take, length-map}
+use Rattle.std.proofs.lemmas.List.{length-drop, length-take-le, drop-drop}
 use Rattle.std.proofs.lemmas.List.Elements.{All-from_get_or}
 use Rattle.std.proofs.lemmas.List.Sums.{list_all-from_AllPass}
 use Rattle.std.proofs.lemmas.Simd.{bit_mask_l, length-chunk, get_or-chunk}
@@ -21,6 +22,11 @@ use Rattle.mc_text.specs.Lines.{words_of}
 use Rattle.mc_tables.specs.Counters.{AreMarks, AreLastDigits, HasCounters}
 use Rattle.mc_tables.specs.TableWords.{is_counter, is_decimal}
 use Rattle.mc_tables.proofs.PlainLemmas.{counter_behind}
+
+-- the lane of a bit that is set
+pub set_is_true : (b : Bool) → cond {A = ℕ} b 1 0 ≡ 1 → b ≡ true
+set_is_true true e = refl
+set_is_true false e = absurd (omega (arith, e))
 
 -- a bit of the mask of lanes that were tested
 lane_passes : (test : ℕ → Bool) (v : List ℕ) (k : ℕ) → bit_at (mask_l (map test v)) k ≡ 1
@@ -36,10 +42,6 @@ lane_passes test v k set =
       | inr past ↦ absurd (none_past past)
     ]
   where
-    set_is_true : (b : Bool) → cond {A = ℕ} b 1 0 ≡ 1 → b ≡ true
-    set_is_true true e = refl
-    set_is_true false e = absurd (omega (arith, e))
-
     none_past : length v ≤ k → ⊥
     none_past past =
         let none = ap (λ b. cond {A = ℕ} b 1 0)

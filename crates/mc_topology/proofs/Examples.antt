@@ -15,7 +15,8 @@ use Rattle.mc_topology.specs.Flows.{ttl_of, flow_of, flow_with, flow_rows, flows
 use Rattle.mc_topology.specs.Interfaces.{interface_of, interface_with, interfaces_in}
 use Rattle.mc_topology.specs.Lans.{lan_of, lan_rows, lans_in}
 use Rattle.mc_topology.specs.Names.{is_name, is_device}
-use Rattle.mc_topology.specs.Reading.{utf8_text, document_of, version_in, topology_in, reading_of}
+use Rattle.mc_topology.specs.Reading.{utf8_text, toml_of, document_of, version_in, topology_in}
+use Rattle.mc_topology.specs.Reading.{reading_of}
 use Rattle.mc_topology.specs.Routers.{order_of, router_of, routers_in}
 use Rattle.mc_topology.specs.Sources.{source_of, source_with, sources_in}
 
@@ -38,7 +39,7 @@ pub text_is_read : reading_of text ≡ Ok (record {
   flows = (record { source = 167772165; lan = 0; group = 4009820675; ttl = 3 }) ∷ [];
 })
 unfolding
-    toml_on_literals is_utf8 chars digits reading_of topology_in document_of utf8_text
+    toml_on_literals is_utf8 chars digits reading_of topology_in document_of toml_of utf8_text
     after with_byte is_bounded
     version_in lans_in lan_rows lan_of
     routers_in router_of order_of interfaces_in interface_of interface_with sources_in source_of

@@ -17,17 +17,17 @@ use Rattle.mc_topology.specs.Sources.{sources_in}
 use Rattle.mc_topology.specs.Flows.{flows_in}
 use Rattle.mc_topology.specs.Answer.{◌>>=◌, out_of_memory}
 use Rattle.mc_topology.specs.Bounds.{is_bounded}
-use Rattle.mc_topology.specs.Reading.{utf8_text, document_of, version_in, topology_in}
+use Rattle.mc_topology.specs.Reading.{utf8_text, toml_of, document_of, version_in, topology_in}
 use Rattle.mc_topology.specs.Reading.{sourced_flows_in, interfaces_and_flows_in, reading_of}
 use Rattle.mc_topology.specs.Stands.{TopologyStands}
 use Rattle.mc_topology.specs.Topology.{TopologyValue}
 use Rattle.mc_topology.proofs.Steps.{ok_is}
-use Rattle.mc_topology.proofs.Whole.{reading_takes, reading_again}
+use Rattle.mc_topology.proofs.Whole.{meaning_again, reading_takes, reading_again}
 
 -- what was read stands there
 found_at : (text : List ℕ) (r : Result TopologyValue TopologyFault) → r ≡ reading_of text
     → IfOk r (TopologyStands text)
-found_at text (Ok t) gives = reading_takes text t (sym gives)
+found_at text (Ok t) gives = (reading_takes text t (sym gives)).stands
 found_at text (Err fault) gives = tt
 
 -- the same of an answer that lack of memory may stand in place of
@@ -36,17 +36,18 @@ pub read_found : (text : List ℕ) (r : Result TopologyValue TopologyFault)
 read_found text (Ok t) gives = found_at text (Ok t) (gives (λ e. absurd cc))
 read_found text (Err fault) gives = tt
 
--- a text that stands for a topology is read as that, unless memory runs out
+-- a text within the bounds that stands for a topology is read as that, unless memory runs out
 pub read_only : (text : List ℕ) (r : Result TopologyValue TopologyFault)
     → (r ≢ Err out_of_memory → r ≡ reading_of text) → (t : TopologyValue) → TopologyStands text t
-    → r ≢ Err out_of_memory → r ≡ Ok t
-read_only text r gives t is other = gives other ∙ reading_again text t is
+    → is_bounded text ≡ true → r ≢ Err out_of_memory → r ≡ Ok t
+read_only text r gives t is bounded other =
+    gives other ∙ reading_again text t (record { stands = is; bounded = bounded })
 
 -- a text stands for one topology at most
 pub one_topology : (text : List ℕ) (t u : TopologyValue) → TopologyStands text t
     → TopologyStands text u → t ≡ u
 one_topology text t u is_t is_u =
-    ok_is {E = TopologyFault} t u (sym (reading_again text t is_t) ∙ reading_again text u is_u)
+    ok_is {E = TopologyFault} t u (sym (meaning_again text t is_t) ∙ meaning_again text u is_u)
 
 -- ---- refusals
 
@@ -54,7 +55,7 @@ one_topology text t u is_t is_u =
 refused_by : (text : List ℕ) (b : Bool) → is_utf8 text ≡ b → length text ≤ 16777216
     → is_bounded text ≡ true
     → (IsUtf8 text → parse_document text ≡ None) → document_of text ≡ Err NotToml
-unfolding document_of utf8_text
+unfolding document_of toml_of utf8_text
 refused_by text true is few bounded none =
     let read = none (IsUtf8-from_is_utf8 text is) in
     rw (le-leb (length text) 16777216 few, bounded, is, read) refl

@@ -10,6 +10,7 @@ use Rattle.std.specs.Ordering.{int_eq}
 use Rattle.std.specs.Str.{is_utf8}
 use Rattle.std.specs.Cmp.{signed_Decides}
 use Rattle.std.proofs.lemmas.Bool.{leb-true, eqb-false, ne_eqb, and_parts}
+use Rattle.std.proofs.lemmas.Bool.{false≢true}
 use Rattle.std.proofs.lemmas.Str.{IsUtf8-from_is_utf8, is_utf8-from_IsUtf8}
 use Rattle.toml.specs.Data.{Data, Members}
 use Rattle.toml.specs.Parse.{parse_document}
@@ -30,11 +31,11 @@ use Rattle.mc_topology.specs.Interfaces.{interface_of, interfaces_in}
 use Rattle.mc_topology.specs.Sources.{source_of, sources_in}
 use Rattle.mc_topology.specs.Flows.{flow_of, flow_rows, flows_in}
 use Rattle.mc_topology.specs.Bounds.{is_bounded}
-use Rattle.mc_topology.specs.Reading.{top_keys, utf8_text, document_of, version_in, topology_in}
-use Rattle.mc_topology.specs.Reading.{reading_of}
+use Rattle.mc_topology.specs.Reading.{top_keys, utf8_text, toml_of, table_of, document_of}
+use Rattle.mc_topology.specs.Reading.{version_in, topology_in, reading_of, meaning_of}
 use Rattle.mc_topology.specs.Stands.{HasNumber, EachStands, IsLan, IsRouter, IsInterface}
 use Rattle.mc_topology.specs.Stands.{IsSourceRow, IsFlow, LansStand, SectionStands, DocumentStands}
-use Rattle.mc_topology.specs.Stands.{TopologyStands}
+use Rattle.mc_topology.specs.Stands.{TopologyStands, BoundedTopology}
 use Rattle.mc_topology.specs.Topology.{TopologyValue, lan_key, router_key, interface_key}
 use Rattle.mc_topology.specs.Topology.{source_key, flow_key}
 use Rattle.mc_topology.proofs.Distinct.{distinct_none}
@@ -298,36 +299,72 @@ topology_again ms t is =
 
 -- ---- the text
 
--- a text that is read stands for what is read
-pub reading_takes : (text : List ℕ) (t : TopologyValue) → reading_of text ≡ Ok t
+-- a text that means a topology stands for it
+pub meaning_takes : (text : List ℕ) (t : TopologyValue) → meaning_of text ≡ Ok t
     → TopologyStands text t
-unfolding reading_of document_of utf8_text
-reading_takes text t e =
-    let a = bind_ok (place section.Top 0 (document_of text)) topology_in t e in
-    let document = place_ok section.Top 0 (document_of text) a.0 a.1 in
-    let small = test_ok (nat_le (length text) 16777216 && is_bounded text) TooMany _ a.0 document in
-    let (few, bounded) = and_parts (nat_le (length text) 16777216) (is_bounded text) small.0 in
+unfolding meaning_of table_of toml_of utf8_text
+meaning_takes text t e =
+    let a = bind_ok (place section.Top 0 (table_of text)) topology_in t e in
+    let document = place_ok section.Top 0 (table_of text) a.0 a.1 in
+    let small = test_ok (nat_le (length text) 16777216) TooMany _ a.0 document in
     let utf8 = bind_ok (utf8_text text) (λ x. ok_or (parse_document x) NotToml) a.0 small.1 in
     let is = test_ok (is_utf8 text) NotToml (Ok text) utf8.0 utf8.1 in
     let same : text ≡ utf8.0 = ok_is text utf8.0 is.1 in
     record {
       document = a.0;
-      few = leb-true (length text) 16777216 few;
-      bounded = bounded;
+      few = leb-true (length text) 16777216 small.0;
       utf8 = IsUtf8-from_is_utf8 text is.0;
       reads = ap parse_document same ∙ ok_or_ok (parse_document utf8.0) NotToml a.0 utf8.2;
       stands = topology_takes a.0 t a.2;
     }
 
--- a text that stands for a topology is read as that
-pub reading_again : (text : List ℕ) (t : TopologyValue) → TopologyStands text t
-    → reading_of text ≡ Ok t
-unfolding reading_of document_of utf8_text
-reading_again text t is =
+-- a text that stands for a topology means it
+pub meaning_again : (text : List ℕ) (t : TopologyValue) → TopologyStands text t
+    → meaning_of text ≡ Ok t
+unfolding meaning_of table_of toml_of utf8_text
+meaning_again text t is =
     rw (
       le-leb (length text) 16777216 is.few,
-      is.bounded,
       is_utf8-from_IsUtf8 text is.utf8,
       is.reads,
       topology_again is.document t is.stands,
     ) refl
+
+and_true : (b : Bool) → (b && true) ≡ b
+and_true true = refl
+and_true false = refl
+
+-- a text within the bounds is read as what it means
+reading_bounded : (text : List ℕ) → is_bounded text ≡ true → reading_of text ≡ meaning_of text
+unfolding reading_of document_of meaning_of table_of
+reading_bounded text bounded = rw (bounded, and_true (nat_le (length text) 16777216)) refl
+
+-- and one beyond them is refused
+reading_unbounded : (text : List ℕ) (t : TopologyValue) → is_bounded text ≡ false
+    → reading_of text ≡ Ok t → ⊥
+unfolding reading_of document_of
+reading_unbounded text t beyond e =
+    let a = bind_ok (place section.Top 0 (document_of text)) topology_in t e in
+    let document = place_ok section.Top 0 (document_of text) a.0 a.1 in
+    let small = test_ok (nat_le (length text) 16777216 && is_bounded text) TooMany (toml_of text)
+    a.0 document in
+    let (few, bounded) = and_parts (nat_le (length text) 16777216) (is_bounded text) small.0 in
+    false≢true (sym beyond ∙ bounded)
+
+by_bound : (b : Bool) (text : List ℕ) (t : TopologyValue) → is_bounded text ≡ b
+    → reading_of text ≡ Ok t → BoundedTopology text t
+by_bound true text t is e = record {
+  stands = meaning_takes text t (sym (reading_bounded text is) ∙ e);
+  bounded = is;
+}
+by_bound false text t is e = absurd (reading_unbounded text t is e)
+
+-- a text that is read is within the bounds, and stands for what is read
+pub reading_takes : (text : List ℕ) (t : TopologyValue) → reading_of text ≡ Ok t
+    → BoundedTopology text t
+reading_takes text t e = by_bound (is_bounded text) text t refl e
+
+-- a text within the bounds that stands for a topology is read as that
+pub reading_again : (text : List ℕ) (t : TopologyValue) → BoundedTopology text t
+    → reading_of text ≡ Ok t
+reading_again text t is = reading_bounded text is.bounded ∙ meaning_again text t is.stands

@@ -26,12 +26,18 @@ use Rattle.mc_topology.specs.Topology.{TopologyValue}
 unfoldable pub utf8_text : List ℕ → Result (List ℕ) TopologyFaultKind
 utf8_text text = if is_utf8 text then Ok text else Err NotToml
 
--- The table of a text, which has to have at most 16,777,216 bytes and to be bounded (else TooMany), and
--- then to be TOML (NotToml).
+-- the table that a text in UTF-8 is (else NotToml)
+unfoldable pub toml_of : List ℕ → Result Members TopologyFaultKind
+toml_of text = utf8_text text >>= λ t. ok_or (parse_document t) NotToml
+
+-- the table of a text, which has to have at most 16,777,216 bytes (else TooMany), and then to be TOML
+unfoldable pub table_of : List ℕ → Result Members TopologyFaultKind
+table_of text = if nat_le (length text) 16777216 then toml_of text else Err TooMany
+
+-- the same of a text that has to be bounded too (else TooMany), before it is read as TOML
 unfoldable pub document_of : List ℕ → Result Members TopologyFaultKind
 document_of text =
-    if nat_le (length text) 16777216 && is_bounded text then (utf8_text text >>= λ t. ok_or (parse_document t) NotToml)
-    else Err TooMany
+    if nat_le (length text) 16777216 && is_bounded text then toml_of text else Err TooMany
 
 -- the keys of a topology
 abbrev pub top_keys : List (List ℕ)
@@ -85,3 +91,7 @@ interfaces_and_flows_in lans routers ms = do
 -- the topology of a text: first the text as a whole, at `top` 0, and then its table
 unfoldable pub reading_of : List ℕ → Result TopologyValue TopologyFault
 reading_of text = place Top 0 (document_of text) >>= topology_in
+
+-- the same without the bounds: what a text stands for, whatever it takes to read it
+unfoldable pub meaning_of : List ℕ → Result TopologyValue TopologyFault
+meaning_of text = place Top 0 (table_of text) >>= topology_in

@@ -146,7 +146,11 @@ pub record DocumentStands (ms : Members) (t : TopologyValue) : Type 0 where
 pub record TopologyStands (text : List ℕ) (t : TopologyValue) : Type 0 where
   pub document : Members
   pub few : length text ≤ 16777216
-  pub bounded : IsTrue (is_bounded text)
   pub utf8 : IsUtf8 text
   pub reads : parse_document text ≡ Some document
   pub stands : DocumentStands document t
+
+-- The same of a text that is within the bounds, so that it is read as TOML.
+pub record BoundedTopology (text : List ℕ) (t : TopologyValue) : Type 0 where
+  pub stands : TopologyStands text t
+  pub bounded : IsTrue (is_bounded text)

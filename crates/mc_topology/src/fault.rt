@@ -69,7 +69,7 @@ pub enum TopologyFaultKind {
     NoFlow,
     /// (13) An earlier flow has the source and the group.
     RepeatedFlow,
-    /// (14) The text has too many bytes or marks, or a word of too many bytes (`top`, 0), or a
+    /// (14) The text has too many bytes, or would take too much to be read as TOML (`top`, 0), or a
     /// section has too many parts (its number 0).
     TooMany,
     /// (15) Memory ran out (`top`, 0).

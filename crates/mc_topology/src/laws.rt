@@ -3,18 +3,20 @@
 ghost use Rattle.std.specs.Prelude.{◌≡◌, ◌↔◌, ℕ, List, Some, Ok, option_map, slice_get};
 ghost use Rattle.std.specs.Ordering.{nat_cmp};
 ghost use Rattle.mc_topology.specs.Names.{index_of};
-ghost use Rattle.mc_topology.specs.Reading.{reading_of};
+ghost use Rattle.mc_topology.specs.Reading.{reading_of, meaning_of};
 ghost use Rattle.mc_topology.specs.Lookup.{router_no_of};
-ghost use Rattle.mc_topology.specs.Stands.{TopologyStands};
+ghost use Rattle.mc_topology.specs.Stands.{TopologyStands, BoundedTopology};
 ghost use Rattle.mc_topology.specs.Topology.{TopologyValue, IsIn, IsTopology, lan_of_interface};
 
 use crate::number::{LanNo, RouterNo};
 
-/// Reading gives a topology exactly where the text stands for it, so a text stands for one topology
-/// at most.
+/// A text means a topology exactly where it stands for it, so a text stands for one topology at
+/// most. Reading gives it exactly where the text is within the bounds too.
 pub fn topologies_are_read_as_they_stand()
+    ensures means { (text : List ℕ) (t : TopologyValue) →
+        ((meaning_of text ≡ Ok t) ↔ TopologyStands text t) }
     ensures read { (text : List ℕ) (t : TopologyValue) →
-        ((reading_of text ≡ Ok t) ↔ TopologyStands text t) }
+        ((reading_of text ≡ Ok t) ↔ BoundedTopology text t) }
     ensures once { (text : List ℕ) (t u : TopologyValue) → TopologyStands text t →
         TopologyStands text u → t ≡ u }
 {}

@@ -38,8 +38,8 @@ use sources::sources_in;
 use std::alloc::Global;
 use toml::Table;
 
-/// The table that a text is.
-#[tactic(auto, unfolding(crate::specs::Reading::document_of, crate::specs::Reading::utf8_text))]
+/// The table that a text is, if it is within the bounds.
+#[tactic(auto, unfolding(crate::specs::Reading::document_of, crate::specs::Reading::toml_of, crate::specs::Reading::utf8_text))]
 fn document_of(alloc: Global, text: &[u8]) -> Result<Table, TopologyFault>
     ensures found { IfOk result (λ table. document_of text.now ≡ Ok (table_view table)) }
     ensures fault { IfErr result (λ fault. fault ≢ out_of_memory →

@@ -73,6 +73,7 @@ impl Model for Topology {
 impl Topology {
     ghost use Rattle.std.specs.Prelude.{◌≢◌, IfOk, Ok, Err};
     ghost use Rattle.mc_topology.specs.Answer.{out_of_memory};
+    ghost use Rattle.mc_topology.specs.Bounds.{is_bounded};
     ghost use Rattle.mc_topology.specs.Reading.{reading_of};
     ghost use Rattle.mc_topology.specs.Stands.{TopologyStands};
     ghost use Rattle.mc_topology.specs.Topology.{TopologyValue};
@@ -110,18 +111,20 @@ impl Topology {
     }
 
     /// Reads a topology: at most 16,777,216 bytes of TOML, 1,024 LANs, 256 routers, 8,192
-    /// interfaces, 4,096 sources and 1 to 4,096 flows. Outside of strings and comments the text has
-    /// at most 131,072 of the marks `.`, `,`, `=`, `{` and `[`, and no bare key and no string on one
-    /// line has more than 1,024 bytes with its first quote. The sections are judged in the order of
-    /// `Section`, the parts of a section from the front, and the first rule that is broken is
-    /// answered with its place. Of a table the keys are judged first, and then the values.
+    /// interfaces, 4,096 sources and 1 to 4,096 flows. Before it is read as TOML, a text is refused
+    /// as `TooMany`, at `top` 0, if that would take much time or memory: outside of strings and
+    /// comments it has at most 131,072 of the marks `.`, `,`, `=`, `{` and `[`, and the bytes of the
+    /// header above each `=` come to at most 268,435,456 together. The sections are judged in the
+    /// order of `Section`, the parts of a section from the front, and the first rule that is broken
+    /// is answered with its place. Of a table the keys are judged first, and then the values.
     /// `Memory`, at `top` 0, where a growth was refused.
     pub fn read(alloc: Global, text: &[u8]) -> Result<Topology, TopologyFault>
         // What is read is what the text stands for.
         ensures found { IfOk result (TopologyStands text.now) }
-        // A text that stands for a topology is read as that, unless memory runs out.
+        // A text that stands for a topology and is within the bounds is read as that, unless memory
+        // runs out.
         ensures only { (t : TopologyValue) → TopologyStands text.now t →
-            result ≢ Err out_of_memory → result ≡ Ok t }
+            IsTrue (is_bounded text.now) → result ≢ Err out_of_memory → result ≡ Ok t }
         // Which fault it is, unless memory runs out.
         ensures fault { result ≢ Err out_of_memory → result ≡ reading_of text.now }
     {

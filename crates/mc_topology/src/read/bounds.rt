@@ -1,17 +1,19 @@
 //! A look at a text before it is read as TOML, which bounds what reading it takes: each table and
-//! each value needs a mark of its own, and a key is compared with those beside it.
+//! each value has a mark of its own, and each pair is compared with the header above it.
 
-ghost use Rattle.std.specs.Prelude.{◌≡◌, ◌<◌, ◌≤◌, length};
-ghost use Rattle.mc_topology.specs.Bounds.{starts, in_line, in_lines, after, is_key_byte, is_mark};
-ghost use Rattle.mc_topology.specs.Bounds.{is_in_word, is_outside, with_byte, is_bounded};
+ghost use Rattle.std.specs.Prelude.{◌≡◌, ◌<◌, ◌≤◌, ◌^◌, length};
+ghost use Rattle.mc_topology.specs.Bounds.{starts, in_line, in_lines, after, is_blank, is_mark};
+ghost use Rattle.mc_topology.specs.Bounds.{is_outside, is_beside, part_with, part_after, nesting_after};
+ghost use Rattle.mc_topology.specs.Bounds.{header_after, with_byte, is_bounded};
 
 use mc_text::MAX_TEXT;
 
 /// The most marks of a text. A topology of as many parts as there may be has at most 125,451.
 const MAX_MARKS: usize = 131_072;
 
-/// The most bytes of a word of a text. A name of 32 characters, all escaped, has 320 and its quotes.
-const MAX_WORD: usize = 1_024;
+/// The most bytes that are compared. A topology has at most 45,568 pairs below headers of at most 98
+/// bytes, if all letters of their keys are escaped.
+const MAX_COMPARED: usize = 268_435_456;
 
 /// Where a text goes on, as TOML has strings and comments.
 #[derive(Clone, Copy)]
@@ -33,14 +35,28 @@ enum Place {
     LinesEscape,
 }
 
+/// The part of a line, outside of brackets that an earlier line opened.
+#[derive(Clone, Copy)]
+enum LinePart {
+    /// Nothing but blanks, and the mark of the byte order.
+    Margin,
+    /// A header, which begins with its `[`.
+    Header,
+    /// Behind anything else, and within brackets.
+    Rest,
+}
+
 /// What a text has had so far.
 #[derive(Clone, Copy)]
 struct Scan {
     place: Place,
-    /// How long the word is that goes on here.
-    word: usize,
-    /// How long the longest word is.
-    longest: usize,
+    part: LinePart,
+    /// The brackets that are open.
+    nesting: usize,
+    /// The bytes of the last header.
+    header: usize,
+    /// For each `=` the bytes of the header above it, all together.
+    compared: usize,
     marks: usize,
 }
 
@@ -86,11 +102,11 @@ fn in_lines(quote: u8, quotes: u8, byte: u8) -> Place
     }
 }
 
-/// Whether a key may have the byte that stands outside of strings.
-fn is_key_byte(byte: u8) -> bool
-    ensures { result ≡ is_key_byte byte }
+/// Whether the byte is white space.
+fn is_blank(byte: u8) -> bool
+    ensures { result ≡ is_blank byte }
 {
-    byte.is_ascii_alphanumeric() || byte == b'-' || byte == b'_'
+    matches!(byte, b'\t' | b'\n' | b'\r' | b' ')
 }
 
 /// Whether the byte makes a table or a value, outside of strings and comments.
@@ -98,6 +114,18 @@ fn is_mark(byte: u8) -> bool
     ensures { result ≡ is_mark byte }
 {
     matches!(byte, b'.' | b',' | b'=' | b'{' | b'[')
+}
+
+/// The brackets that are open behind a byte outside of strings and comments.
+fn nesting_after(nesting: usize, byte: u8) -> usize
+    requires { nesting < MAX_TEXT }
+    ensures { result ≡ nesting_after nesting byte }
+{
+    match byte {
+        b'[' | b'{' => nesting + 1,
+        b']' | b'}' => nesting.saturating_sub(1),
+        _ => nesting,
+    }
 }
 
 impl Place {
@@ -121,21 +149,61 @@ impl Place {
         }
     }
 
-    /// Whether a byte before this place is one of a word: of a string on one line, or of a bare key.
-    fn is_in_word(self, byte: u8) -> bool
-        ensures { result ≡ is_in_word self byte }
-    {
-        match self {
-            Place::Outside => is_key_byte(byte),
-            Place::Opened(_) | Place::Line(_) | Place::LineEscape => true,
-            _ => false,
-        }
-    }
-
     fn is_outside(self) -> bool
         ensures { result ≡ is_outside self }
     {
         matches!(self, Place::Outside)
+    }
+
+    /// Whether a byte before this place is no part of a header that it lies in: a comment, or a blank
+    /// outside of strings.
+    fn is_beside(self, byte: u8) -> bool
+        ensures { result ≡ is_beside self byte }
+    {
+        match self {
+            Place::Outside => is_blank(byte),
+            Place::Comment => true,
+            _ => false,
+        }
+    }
+}
+
+impl LinePart {
+    /// The part with a byte that doesn't end the line.
+    fn with_byte(self, byte: u8) -> LinePart
+        ensures { result ≡ part_with self byte }
+    {
+        match self {
+            LinePart::Margin if byte == b'[' => LinePart::Header,
+            LinePart::Margin if is_blank(byte) || byte >= 128 => LinePart::Margin,
+            LinePart::Margin => LinePart::Rest,
+            other => other,
+        }
+    }
+
+    /// The part behind a byte, where so many brackets are open.
+    fn after(self, nesting: usize, is_outside: bool, byte: u8) -> LinePart
+        ensures { result ≡ part_after self nesting is_outside byte }
+    {
+        if !is_outside || byte != b'\n' {
+            self.with_byte(byte)
+        } else if nesting == 0 {
+            LinePart::Margin
+        } else {
+            LinePart::Rest
+        }
+    }
+
+    /// How many bytes the last header has behind a byte that leads to this place.
+    fn header_after(self, header: usize, place: Place, byte: u8) -> usize
+        requires { header < MAX_TEXT }
+        ensures { result ≡ header_after self header place byte }
+    {
+        match self {
+            LinePart::Margin if byte == b'[' => 1,
+            LinePart::Header if !place.is_beside(byte) => header + 1,
+            _ => header,
+        }
     }
 }
 
@@ -143,31 +211,41 @@ impl Scan {
     /// The scan with a byte more.
     #[tactic(auto, unfolding(crate::specs::Bounds::with_byte))]
     fn with_byte(self, byte: u8) -> Scan
-        requires short { self.word < MAX_TEXT }
+        requires nested { self.nesting < MAX_TEXT }
+        requires short { self.header < MAX_TEXT }
+        requires cheap { self.compared < 2 ^ 48 }
         requires few { self.marks < MAX_TEXT }
         ensures { result ≡ with_byte self byte }
     {
         let place = self.place.after(byte);
-        let word = if place.is_in_word(byte) {
-            self.word + 1
+        let is_outside = place.is_outside();
+        let nesting = if is_outside {
+            nesting_after(self.nesting, byte)
         } else {
-            0
+            self.nesting
         };
-        let marks = if place.is_outside() && is_mark(byte) {
+        let compared = if is_outside && byte == b'=' {
+            self.compared + self.header
+        } else {
+            self.compared
+        };
+        let marks = if is_outside && is_mark(byte) {
             self.marks + 1
         } else {
             self.marks
         };
         Scan {
             place,
-            word,
-            longest: self.longest.max(word),
+            part: self.part.after(self.nesting, is_outside, byte),
+            nesting,
+            header: self.part.header_after(self.header, place, byte),
+            compared,
             marks,
         }
     }
 }
 
-/// Whether the text has at most so many marks, and no longer word.
+/// Whether the text has at most so many marks, and no more bytes are compared.
 #[tactic(auto, unfolding(crate::specs::Bounds::is_bounded))]
 pub(super) fn is_bounded(text: &[u8]) -> bool
     requires { length text.now ≤ MAX_TEXT }
@@ -175,12 +253,14 @@ pub(super) fn is_bounded(text: &[u8]) -> bool
 {
     let mut scan = Scan {
         place: Place::Outside,
-        word: 0,
-        longest: 0,
+        part: LinePart::Margin,
+        nesting: 0,
+        header: 0,
+        compared: 0,
         marks: 0,
     };
     for byte in text {
         scan = scan.with_byte(*byte);
     }
-    scan.marks <= MAX_MARKS && scan.longest <= MAX_WORD
+    scan.marks <= MAX_MARKS && scan.compared <= MAX_COMPARED
 }

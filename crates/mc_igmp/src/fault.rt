@@ -1,6 +1,6 @@
 //! Why a text is no report list.
 
-ghost use Rattle.std.specs.Prelude.{◌≡◌};
+ghost use Rattle.std.specs.Prelude.{◌≡◌, ◌↔◌, IsTrue};
 ghost use Rattle.mc_igmp.specs.ReadingList.{IsMemory};
 
 use std::alloc::{AllocError, AllocFailed};
@@ -52,6 +52,15 @@ impl ListFaultKind {
             record_no,
             kind: self,
         }
+    }
+}
+
+impl ListFault {
+    /// Whether memory ran out.
+    pub(crate) fn is_memory(self) -> bool
+        ensures { IsTrue result ↔ IsMemory self }
+    {
+        self == ListFaultKind::Memory.at(0, 0)
     }
 }
 

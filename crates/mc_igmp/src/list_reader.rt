@@ -1,12 +1,13 @@
 //! Reading a report list from pieces of its text.
 
-ghost use Rattle.std.specs.Prelude.{◌≡◌, ◌+◌, ◌<◌, ◌≤◌, ◌⊎◌, ℕ, List, [], ◌++◌, length, min};
-ghost use Rattle.std.specs.Prelude.{Ok, Err, IfOk, OnOk, IfErr, IfSome, ◌==◌, position, take, true};
+ghost use Rattle.std.specs.Prelude.{◌≡◌, ◌+◌, ◌<◌, ◌≤◌, ◌⊎◌, ◌↔◌, ℕ, List, [], ◌++◌, length, min};
+ghost use Rattle.std.specs.Prelude.{Ok, Err, Some, IfOk, OnOk, IfErr, OnErr, IsErr, IfSome, IsTrue};
+ghost use Rattle.std.specs.Prelude.{◌==◌, position, take, true};
 ghost use Rattle.std.specs.List.{list_all};
 ghost use Rattle.hex.specs.Hex.{is_hex_digit};
 ghost use Rattle.mc_text.specs.Lines.{max_text};
 ghost use Rattle.mc_igmp.specs.declared.record.Record.{Record};
-ghost use Rattle.mc_igmp.specs.ReadingList.{IsMemory, read_line, read_list};
+ghost use Rattle.mc_igmp.specs.ReadingList.{IsMemory, no_memory, read_line, read_list};
 ghost use Rattle.mc_igmp.specs.ListSoFar.{AreAhead, WithoutLineFeed, line_after, read_on};
 ghost use Rattle.mc_igmp.specs.ListSoFar.{no_list, without_records, list_if};
 
@@ -145,7 +146,8 @@ pub struct ListReader {
 }
 
 impl Model for ListReader {
-    ghost use Rattle.std.specs.Prelude.{◌≤◌, ◌+◌};
+    ghost use Rattle.std.specs.Prelude.{◌≡◌, ◌≤◌, ◌+◌, Some};
+    ghost use Rattle.mc_igmp.specs.ReadingList.{no_memory};
     ghost use Rattle.mc_igmp.specs.ListSoFar.{ListSoFar, GoOn};
 
     ghost Value = { ListSoFar };
@@ -159,7 +161,8 @@ impl Model for ListReader {
     } };
 
     ghost invariant = { λ s. (s.size ≤ 16777216 + 1)
-        × GoOn s.size s.lines.ended s.lines.begun.items s.fault };
+        × GoOn s.size s.lines.ended s.lines.begun.items s.fault
+        × (s.fault ≡ Some no_memory → s.size ≤ 16777216) };
 }
 
 impl ListReader {
@@ -194,13 +197,21 @@ impl ListReader {
     ///
     /// # Errors
     ///
-    /// `Memory` where a growth was refused. The reader is of no use then.
+    /// `Memory` where a growth was refused. Each later call answers it again, and so does `finish`.
     pub fn feed(&mut self, piece: &[u8]) -> Result<(), Memory>
         // Whatever bytes come then, reading ends as it would have with this piece before them.
         ensures goes_on { (more : List ℕ) → OnOk result
             (list_if self.new more ≡ list_if self.old (piece.now ++ more)) }
-        ensures size { self.new.size ≡ min (self.old.size + length piece.now) (max_text + 1) }
+        ensures size { OnOk result
+            (self.new.size ≡ min (self.old.size + length piece.now) (max_text + 1)) }
+        ensures within { self.new.size ≤ self.old.size + length piece.now }
+        ensures memory { OnErr result (self.new.fault ≡ Some no_memory) }
+        // Once memory ran out each call answers that again.
+        ensures again { self.old.fault ≡ Some no_memory → IsErr result × (self.new ≡ self.old) }
     {
+        if self.is_out_of_memory() {
+            return Err(Memory);
+        }
         self.size = self.size.saturating_add(piece.len()).min(MAX_TEXT + 1);
         if self.size > MAX_TEXT || self.fault.is_some() {
             return Ok(());
@@ -209,10 +220,20 @@ impl ListReader {
             return Ok(());
         };
         self.fault = Some(fault);
-        if fault.kind == ListFaultKind::Memory {
+        if fault.is_memory() {
             Err(Memory)
         } else {
             Ok(())
+        }
+    }
+
+    /// Whether memory ran out.
+    fn is_out_of_memory(&self) -> bool
+        ensures { IsTrue result ↔ (self.now.fault ≡ Some no_memory) }
+    {
+        match self.fault {
+            Some(fault) => fault.is_memory(),
+            None => false,
         }
     }
 
@@ -234,9 +255,10 @@ impl ListReader {
     ///
     /// # Errors
     ///
-    /// The first fault, as `ReportList::read` has it.
+    /// The first fault, as `ReportList::read` has it, or `Memory` where `feed` answered that.
     pub fn finish(self) -> Result<ReportList, ListFault>
-        ensures { result ≡ list_if self [] }
+        ensures ends { result ≡ list_if self [] }
+        ensures again { self.fault ≡ Some no_memory → result ≡ Err no_memory }
     {
         let ListReader { size, lines, fault } = self;
         if size > MAX_TEXT {

@@ -13,7 +13,7 @@ use Rattle.mc_topology.proofs.Steps.{bind_ok, test_ok, ok_is}
 use Rattle.mc_topology.proofs.Whole.{reading_takes, reading_again}
 use Rattle.mc_topology.proofs.Kept.{text_kept}
 use Rattle.mc_topology.specs.Reading.{reading_of}
-use Rattle.mc_topology.specs.Stands.{TopologyStands}
+use Rattle.mc_topology.specs.Stands.{BoundedTopology}
 use Rattle.mc_topology.specs.Topology.{TopologyValue}
 use Rattle.mc_layout.specs.Files.{FileText, file_named}
 use Rattle.mc_layout.specs.Layout.{Slot, file_name, part_name, topology_slot, other_slots, slots}
@@ -116,17 +116,17 @@ record AreRead (files : List FileText) (certified : Bool) (parts : List PartText
   text : List ℕ
   topology : TopologyValue
   first : file_named files (codes "topology") ≡ Some text
-  stands : TopologyStands text topology
+  stands : BoundedTopology text topology
   each : ArePacked files (slots certified topology) parts
   sizes : AllByRecursion IsSmall parts
   count : length parts ≤ max_parts
 
 -- the topology is what its text stands for
 told_takes : (text : List ℕ) (t : TopologyValue) → topology_told text ≡ Ok t
-    → TopologyStands text t
+    → BoundedTopology text t
 told_takes text t e = reading_takes text t (refused_ok Topology (reading_of text) t e)
 
-told_again : (text : List ℕ) (t : TopologyValue) → TopologyStands text t
+told_again : (text : List ℕ) (t : TopologyValue) → BoundedTopology text t
     → topology_told text ≡ Ok t
 told_again text t stands = rw (reading_again text t stands) refl
 
@@ -143,7 +143,7 @@ read_takes files certified parts e =
     (λ t. parts_after files (one.0 ∷ []) (other_slots certified t)) parts one.2 in
     let stands = told_takes one.0.bytes two.0 two.1 in
     let more = after_takes files (one.0 ∷ []) (other_slots certified two.0) parts two.2 in
-    let few = few_slots certified two.0 (text_kept one.0.bytes two.0 stands) in
+    let few = few_slots certified two.0 (text_kept one.0.bytes two.0 stands.stands) in
     let all : AreRead files certified (one.0 ∷ more.rest) = record {
       text = one.0.bytes;
       topology = two.0;
@@ -157,7 +157,7 @@ read_takes files certified parts e =
 
 read_of : (files : List FileText) (certified : Bool) (text : List ℕ) (t : TopologyValue)
     (parts : List PartText) → file_named files (codes "topology") ≡ Some text
-    → TopologyStands text t → ArePacked files (slots certified t) parts
+    → BoundedTopology text t → ArePacked files (slots certified t) parts
     → AllByRecursion IsSmall parts → parts_read certified files ≡ Ok parts
 unfolding parts_read
 read_of files certified text t [] first stands each small = absurd each
@@ -268,7 +268,7 @@ pub parts_named : (files : List FileText) (certified : Bool) (parts : List PartT
     → IsPacked files certified parts → AllByRecursion (λ part. IsPartName part.name) parts
 parts_named files certified parts is =
     names_kept files (slots certified is.topology) parts is.each
-    (slots_named certified is.topology (text_kept is.text is.topology is.stands))
+    (slots_named certified is.topology (text_kept is.text is.topology is.stands.stands))
 
 -- ---- steps over the files of a source
 

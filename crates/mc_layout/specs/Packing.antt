@@ -2,7 +2,7 @@
 use Rattle.std.specs.Prelude.{◌≡◌, ℕ, Bool, List, [], ◌∷◌, codes, Some, ⊤}
 use Rattle.mc_text.specs.Bundle.{PartText, AreWithinLimits}
 use Rattle.mc_topology.specs.Topology.{TopologyValue}
-use Rattle.mc_topology.specs.Stands.{TopologyStands}
+use Rattle.mc_topology.specs.Stands.{BoundedTopology}
 use Rattle.mc_layout.specs.Files.{FileText, file_named}
 use Rattle.mc_layout.specs.Layout.{Slot, file_name, part_name, slots}
 
@@ -14,13 +14,14 @@ ArePacked files (slot ∷ others) (part ∷ parts) =
     × ArePacked files others parts
 ArePacked files _ _ = ⊥
 
--- The parts of the bundle that is packed of the files: the topology, which has a meaning, and the
--- files of the other slots that it makes, in their order. They are within the limits of a bundle.
+-- The parts of the bundle that is packed of the files: the topology, which has a meaning and is within
+-- the bounds of what is read, and the files of the other slots that it makes, in their order. They are
+-- within the limits of a bundle.
 pub record IsPacked (files : List FileText) (certified : Bool) (parts : List PartText) : Type 0
   where
     pub text : List ℕ
     pub topology : TopologyValue
     pub first : file_named files (codes "topology") ≡ Some text
-    pub stands : TopologyStands text topology
+    pub stands : BoundedTopology text topology
     pub each : ArePacked files (slots certified topology) parts
     pub limits : AreWithinLimits parts

@@ -26,7 +26,7 @@ pub struct Folder<'a, R: Files> {
 }
 
 impl<'a, R: Files> Model for Folder<'a, R> {
-    ghost use Rattle.std.specs.Prelude.{None, is_some};
+    ghost use Rattle.std.specs.Prelude.{◌≡◌, None, is_some, nat_lt};
     ghost use Rattle.mc_layout.specs.Files.{FilesState};
 
     ghost Value = { FilesState };
@@ -37,6 +37,9 @@ impl<'a, R: Files> Model for Folder<'a, R> {
       left = None;
       failed = s.failures;
     } };
+
+    // there is a reason once a call failed
+    ghost invariant = { λ s. is_some s.unread ≡ nat_lt 0 s.failures };
 }
 
 /// Why a file isn't opened.

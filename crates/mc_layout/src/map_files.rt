@@ -1,6 +1,6 @@
 //! Files in memory.
 
-ghost use Rattle.std.specs.Prelude.{◌≡◌, ◌<◌, ◌+◌, map, Some, option_map, false};
+ghost use Rattle.std.specs.Prelude.{◌≡◌, ◌<◌, ◌+◌, ◌↔◌, map, Some, IfSome, IsSome, option_map, false};
 ghost use Rattle.mc_layout.specs.Files.{file_named, file_text};
 
 use crate::fault::FileFault;
@@ -118,7 +118,11 @@ impl<'a> PieceSource for MapFiles<'a> {
         self.left = None;
     }
 
-    fn unread(&self) -> Option<Unread> {
+    fn unread(&self) -> Option<Unread>
+        ensures reason { IsSome result ↔ (0 < self.now.failed) }
+        // No call fails but for a file that isn't there.
+        ensures missing { IfSome result (λ unread. unread ≡ Unread.NoSuchFile) }
+    {
         (self.failures > 0).then_some(Unread::NoSuchFile)
     }
 }

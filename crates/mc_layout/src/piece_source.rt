@@ -1,7 +1,7 @@
 //! Files that are read in pieces, one after the other.
 
-ghost use Rattle.std.specs.Prelude.{◌≡◌, ◌≢◌, ◌<◌, ℕ, Bool, false, List, Option, is_ok};
-ghost use Rattle.std.specs.Prelude.{IfErr, IfSome, OnErr, OnOk};
+ghost use Rattle.std.specs.Prelude.{◌≡◌, ◌≢◌, ◌<◌, ◌↔◌, ℕ, Bool, false, List, Option, is_ok};
+ghost use Rattle.std.specs.Prelude.{IfErr, IfSome, IsSome, OnErr, OnOk};
 ghost use Rattle.std.specs.Io.{ReadsAtMost};
 ghost use Rattle.std.specs.Io.KnownBytes.{ReadConsumes};
 ghost use Rattle.mc_text.specs.Device.{counted};
@@ -67,8 +67,10 @@ pub trait PieceSource: FileSource {
         ensures none { left self.new ≡ None }
         ensures failures { Self.failed self.new ≡ Self.failed self.old };
 
-    /// Why the last call that answered `Failed` did, for whoever has to mend it.
-    fn unread(&self) -> Option<Unread>;
+    /// Why the last call that answered `Failed` did, for whoever has to mend it; none where no call
+    /// did.
+    fn unread(&self) -> Option<Unread>
+        ensures reason { IsSome result ↔ (0 < Self.failed self.now) };
 }
 
 impl<F: PieceSource> PieceSource for &mut F {

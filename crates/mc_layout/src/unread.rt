@@ -1,5 +1,7 @@
 //! Why a file can't be read, in words for whoever has to mend it.
 
+ghost use Rattle.mc_layout.specs.UnreadText.{unread_text};
+
 use std::fmt;
 use std::io::{Error, ErrorKind};
 
@@ -31,6 +33,8 @@ impl Unread {
 }
 
 impl fmt::Display for Unread {
+    ghost output = { unread_text };
+
     fn fmt<W: fmt::Write>(&self, f: &mut fmt::Formatter<W>) -> fmt::Result {
         match self {
             Unread::NoSuchFile => f.write_str("no such file"),

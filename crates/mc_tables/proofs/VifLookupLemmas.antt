@@ -1,14 +1,16 @@
 -- The look-ups of a vif table answer by its map.
 use Rattle.std.proofs.Common.{◌≡◌, ℕ, ◌≤◌, arith, Bool, true, false, cond, List, [], ◌∷◌, Option}
-use Rattle.std.proofs.Common.{Some, None, refl, sym, ap, subst, ◌∙◌, inl, inr}
+use Rattle.std.proofs.Common.{Some, None, refl, sym, ap, subst, ◌∙◌, inl, inr, ◌≢◌, Ordering, Less, Equal, Greater}
 use Rattle.std.specs.Option.{option_map}
 use Rattle.std.specs.List as lists
-use Rattle.std.specs.Prelude.{nat_eq, map, IsSome, IsSomeAnd, IfSome, ◌||◌}
+use Rattle.std.specs.Prelude.{nat_eq, map, IsSome, IsSomeAnd, IfSome, ◌||◌, ◌&&◌, ◌↔◌, T}
 use Rattle.std.specs.List.{IsDistinct, AllByRecursion, filter_map, cons_option, list_any}
-use Rattle.std.specs.Ordering.{nat_cmp, eq_by_cmp}
+use Rattle.std.specs.Ordering.{nat_cmp, eq_by_cmp, is_lt, is_eq}
 use Rattle.std.specs.Cmp.{unsigned_tied}
 use Rattle.std.specs.Str.{bytes_eq}
-use Rattle.std.specs.FinMap.{find, get, from_entries, get-from_entries}
+use Rattle.std.specs.FinMap.{FinMap, find, get, from_entries, get-from_entries, entries, get-entries}
+use Rattle.std.specs.FinMap.{entries_sorted}
+use Rattle.std.specs.FinMap.Entries.{below_all, is_sorted}
 use Rattle.std.proofs.lemmas.Bool.{cases_eq, eq-eqb, ne_eqb, both_ways, or_left, or_right, or_from}
 use Rattle.std.proofs.lemmas.Bool.{false_from_ne_true}
 use Rattle.std.proofs.lemmas.Cmp.{nat_cmp_total, nat_eq_equiv, nat_list_eq_equiv}
@@ -17,7 +19,7 @@ use Rattle.std.proofs.lemmas.Slice.Eq.{bytes_eq-Decides}
 use Rattle.mc_tables.specs.TableLines.{is_among}
 use Rattle.mc_tables.specs.VifTable.{VifText, no_device, device_of}
 use Rattle.mc_tables.specs.VifReading.{device_repeats}
-use Rattle.mc_tables.specs.VifLookups.{HasDevice, first_index_with}
+use Rattle.mc_tables.specs.VifLookups.{HasDevice, IsVifTable, first_index_with, index_of}
 
 -- ---- the tests of a row against the earlier ones
 
@@ -267,3 +269,94 @@ answer_in_map device rows None all has = tt
 answer_in_map device rows (Some index) all has =
     index_in_map rows index all
     (there_with device (get (from_entries {R = nat_cmp} rows) index) has)
+
+-- ---- the map's own entries, which stand in the order of their indexes
+
+both_parts : (a b : Bool) → T (a && b) → T a × T b
+both_parts true b h = (tt, h)
+both_parts false b h = absurd h
+
+less_apart : (o : Ordering) → T (is_lt o) → is_eq o ≡ false
+less_apart Less h = refl
+less_apart Equal h = absurd h
+less_apart Greater h = absurd h
+
+-- an index below others is none of them
+below_differs : (index : ℕ) (rows : List (ℕ × VifText)) → T (below_all nat_cmp index rows)
+    → AllByRecursion (λ other. nat_eq index other ≡ false) (map (λ row. row.0) rows)
+below_differs index [] h = tt
+below_differs index (row ∷ rows) h =
+    let parts = both_parts (is_lt (nat_cmp index row.0)) (below_all nat_cmp index rows) h in (
+      sym (unsigned_tied index row.0) ∙ less_apart (nat_cmp index row.0) parts.0,
+      below_differs index rows parts.1,
+    )
+
+-- indexes in order differ
+sorted_differ : (rows : List (ℕ × VifText)) → T (is_sorted nat_cmp rows)
+    → IsDistinct nat_eq (map (λ row. row.0) rows)
+unfolding IsDistinct
+sorted_differ [] h = tt
+sorted_differ (row ∷ rows) h =
+    let parts = both_parts (below_all nat_cmp row.0 rows) (is_sorted nat_cmp rows) h in
+    (below_differs row.0 rows parts.0, sorted_differ rows parts.1)
+
+-- a device that a row has is found
+first_there : (device : List ℕ) (rows : List (ℕ × VifText))
+    → list_any (λ row. bytes_eq row.1.device device) rows ≡ true
+    → (index : ℕ) × (first_index_with device rows ≡ Some index)
+first_there device [] e = absurd cc
+first_there device (row ∷ rows) e =
+    subst (λ (o : Option ℕ). (index : ℕ) × (o ≡ Some index)) (sym (first_cons device row rows))
+    (elim (bytes_eq row.1.device device) as
+    (λ b. (b || list_any (λ r. bytes_eq r.1.device device) rows) ≡ true
+    → (index : ℕ) × (cond b (Some row.0) (first_index_with device rows) ≡ Some index)) [
+      | true ↦ λ _. (row.0, refl)
+      | false ↦ λ later. first_there device rows later
+    ] e)
+
+-- the index of the map's first entry with a device has it
+first_entry_has : (vifs : FinMap nat_cmp VifText) (device : List ℕ) (index : ℕ)
+    → first_index_with device (entries vifs) ≡ Some index → HasDevice vifs index device
+first_entry_has vifs device index e =
+    subst (Has device) (sym (get-entries vifs index))
+    (index_found device (entries vifs) index (sorted_differ (entries vifs) (entries_sorted vifs)) e)
+
+-- an index is answered for a device exactly if its vif has the device, and it isn't `none`
+pub index_of-exact : (vifs : FinMap nat_cmp VifText) (device : List ℕ) (index : ℕ)
+    → IsVifTable vifs
+    → (index_of vifs device ≡ Some index) ↔ ((device ≢ no_device) × HasDevice vifs index device)
+index_of-exact vifs device index rules = (
+  elim (bytes_eq device no_device) as
+      (λ b. bytes_eq device no_device ≡ b
+      → cond b None (first_index_with device (entries vifs)) ≡ Some index
+      → (device ≢ no_device) × HasDevice vifs index device) [
+        | true ↦ λ is e. absurd cc
+        | false ↦ λ is e. (
+          λ unnamed. both_ways (bytes_eq device no_device) is
+              ((bytes_eq-Decides device no_device).1 unnamed),
+          first_entry_has vifs device index e,
+        )
+      ] refl,
+  λ both.
+      let some = false_from_ne_true (bytes_eq device no_device) (λ e. both.0 (is_none device e)) in
+      let first = first_there device (entries vifs)
+      (device_there device (entries vifs) index (subst (Has device) (get-entries vifs index) both.1)) in
+      let same = rules.devices_differ device first.0 index both.0
+      (first_entry_has vifs device first.0 first.1) both.1 in
+      ap (λ b. cond b None (first_index_with device (entries vifs))) some ∙ first.1 ∙ ap Some same,
+)
+
+-- what is answered exactly so is that index
+pub index_of-value : (vifs : FinMap nat_cmp VifText) (device : List ℕ) (answer : Option ℕ)
+    → IsVifTable vifs
+    → ((index : ℕ) → (answer ≡ Some index) ↔ ((device ≢ no_device) × HasDevice vifs index device))
+    → answer ≡ index_of vifs device
+index_of-value vifs device answer rules exact =
+    elim answer as (λ a. answer ≡ a → a ≡ index_of vifs device) [
+      | Some index ↦ λ is. sym ((index_of-exact vifs device index rules).1 ((exact index).0 is))
+      | None ↦ λ is. elim (index_of vifs device) as (λ o. index_of vifs device ≡ o → None ≡ o) [
+        | None ↦ λ _. refl
+        | Some index ↦ λ there.
+            let some = (exact index).1 ((index_of-exact vifs device index rules).0 there) in absurd cc
+      ] refl
+    ] refl

@@ -1,9 +1,10 @@
 -- What the look-ups of a vif table answer.
-use Rattle.std.specs.Prelude.{◌≡◌, ◌≢◌, ◌≤◌, ℕ, List, find, Option, IsSome, IsSomeAnd}
+use Rattle.std.specs.Prelude.{◌≡◌, ◌≢◌, ◌≤◌, ℕ, List, find, Option, None, IsSome, IsSomeAnd}
+use Rattle.std.specs.Prelude.{if◌then◌else◌}
 use Rattle.std.specs.Option.{option_map}
 use Rattle.std.specs.Ordering.{nat_cmp}
 use Rattle.std.specs.Str.{bytes_eq}
-use Rattle.std.specs.FinMap.{FinMap, get}
+use Rattle.std.specs.FinMap.{FinMap, get, entries}
 use Rattle.mc_tables.specs.VifTable.{VifText, no_device}
 
 -- the vif of this index has this device
@@ -21,3 +22,8 @@ pub record IsVifTable (vifs : FinMap nat_cmp VifText) : Type 0 where
 abbrev pub first_index_with : List ℕ → List (ℕ × VifText) → Option ℕ
 first_index_with device rows =
     option_map (λ row. row.0) (find (λ row. bytes_eq row.1.device device) rows)
+
+-- the index that is answered for a device, of which there is none for `none`
+abbrev pub index_of : FinMap nat_cmp VifText → List ℕ → Option ℕ
+index_of vifs device =
+    if bytes_eq device no_device then None else first_index_with device (entries vifs)

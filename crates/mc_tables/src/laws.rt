@@ -9,7 +9,7 @@ ghost use Rattle.std.specs.FinMap.{FinMap, find, get};
 ghost use Rattle.mc_text.specs.declared.text.addr.Order.{Order};
 ghost use Rattle.mc_tables.specs.declared.fault.TableFault.{TableFault};
 ghost use Rattle.mc_tables.specs.VifTable.{VifText, no_device, StandsForVifs};
-ghost use Rattle.mc_tables.specs.VifLookups.{HasDevice, IsVifTable};
+ghost use Rattle.mc_tables.specs.VifLookups.{HasDevice, IsVifTable, index_of};
 ghost use Rattle.mc_tables.specs.CacheTable.{CacheText, IsEntry, IsCache, RowText, StandsForCache};
 ghost use Rattle.mc_tables.specs.CacheTable.{key_cmp, same_key};
 ghost use Rattle.mc_tables.specs.VifReading.{vifs_in};
@@ -48,6 +48,14 @@ pub fn devices_have_one_vif()
     ensures { (text : List ℕ) (vifs : FinMap nat_cmp VifText) → StandsForVifs text vifs →
         (device : List ℕ) (i j : ℕ) → device ≢ no_device →
         HasDevice vifs i device → HasDevice vifs j device → i ≡ j }
+{}
+
+/// An index is answered for a device exactly if its vif has that device, and the device isn't
+/// `none`.
+pub fn indexes_are_of_devices()
+    ensures { (text : List ℕ) (vifs : FinMap nat_cmp VifText) → StandsForVifs text vifs →
+        (device : List ℕ) (index : ℕ) → (index_of vifs device ≡ Some index)
+        ↔ ((device ≢ no_device) × HasDevice vifs index device) }
 {}
 
 /// The indexes of vifs are 0 to 31.

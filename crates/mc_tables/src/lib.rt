@@ -49,9 +49,10 @@ pub use entry::{Entry, Oif};
 pub use fault::{TableFault, TableFaultKind};
 pub use flat_oifs::FlatOifs;
 pub use laws::{
-    devices_have_one_vif, entries_ascend_in_range, listed_rows_are_part_of_the_whole,
-    notes_change_no_table, notes_tell_of_rows, tables_are_read_as_they_stand,
-    tables_keep_their_rules, texts_stand_for_one_table, vifs_are_numbered_to_31,
+    devices_have_one_vif, entries_ascend_in_range, indexes_are_of_devices,
+    listed_rows_are_part_of_the_whole, notes_change_no_table, notes_tell_of_rows,
+    tables_are_read_as_they_stand, tables_keep_their_rules, texts_stand_for_one_table,
+    vifs_are_numbered_to_31,
 };
 pub use listed_pairs::ListedPairs;
 pub use noted_cache::NotedCache;

@@ -13,7 +13,7 @@ ghost use Rattle.mc_tables.specs.TableLines.{rows_after};
 ghost use Rattle.mc_tables.specs.VifTable.{VifText, no_device, AreVifs, StandsForVifs};
 ghost use Rattle.mc_tables.specs.VifReading.{index_repeats, device_repeats, vif_in_line};
 ghost use Rattle.mc_tables.specs.VifReading.{vifs_in};
-ghost use Rattle.mc_tables.specs.VifLookups.{HasDevice, IsVifTable, first_index_with};
+ghost use Rattle.mc_tables.specs.VifLookups.{HasDevice, IsVifTable, first_index_with, index_of};
 
 use crate::fault::{TableFault, TableFaultKind};
 use crate::vif::Vif;
@@ -108,6 +108,7 @@ impl VifTable {
             HasDevice self.now index device.now → result ≡ Some index }
         ensures exact { (index : ℕ) → (result ≡ Some index) ↔
             ((device.now ≢ no_device) × HasDevice self.now index device.now) }
+        ensures value { result ≡ index_of self.now device.now }
         ensures rules { IsVifTable self.now }
     {
         let vifs = self.vifs.as_slice();

@@ -2,5 +2,6 @@
 //! they are written after others that were read.
 
 mod limits;
+mod memory;
 mod network;
 mod written;

@@ -107,6 +107,52 @@ fn list_in_pieces(rt: HostRuntime) -> Result<(), Fail> {
     Ok(())
 }
 
+// A list that is read to its end by a reader that was fed it in two pieces. Once a growth is refused, each
+// later call answers that.
+fn fed_or_refused(rt: &impl Abort, alloc: Global) -> Result<ReportList, ListFault> {
+    let (front, rest) = LIST.split_at(100);
+    let mut reader = ListReader::new(alloc);
+    if reader.feed(front).is_err() {
+        assert!(rt; reader.feed(rest) == Err(Memory));
+        assert!(rt; reader.feed(b"") == Err(Memory));
+        assert!(rt; reader.room() > 0);
+    }
+    if reader.feed(rest).is_err() {
+        assert!(rt; reader.feed(b"zz\n") == Err(Memory));
+    }
+    reader.finish()
+}
+
+// The same, by another reader where a growth is refused.
+fn fed_at_last(rt: &impl Abort, alloc: Global) -> Result<ReportList, ListFault> {
+    match fed_or_refused(rt, alloc) {
+        Err(fault) if fault.kind == ListFaultKind::Memory => fed_or_refused(rt, alloc),
+        answer => answer,
+    }
+}
+
+#[test]
+fn list_in_pieces_after_a_refused_growth(rt: HostRuntime) -> Result<(), Fail> {
+    check_records(&rt, &fed_at_last(&rt, rt.alloc())?);
+    Ok(())
+}
+
+// After the fault of a line the rest is taken, and the fault is answered at the end.
+#[test]
+fn list_with_a_fault_in_pieces(rt: HostRuntime) -> Result<(), Fail> {
+    let mut reader = ListReader::new(rt.alloc());
+    reader.feed(b"11zz\n")?;
+    assert!(rt; reader.feed(b"1101ecfe00").is_ok());
+    assert!(rt; reader.feed(b"\n").is_ok());
+    let fault = ListFault {
+        line: 1,
+        record_no: 0,
+        kind: ListFaultKind::BadHex,
+    };
+    assert!(rt; reader.finish().err() == Some(fault));
+    Ok(())
+}
+
 // Records that were forgotten are not among those of the list.
 #[test]
 fn forgotten_records(rt: HostRuntime) -> Result<(), Fail> {

@@ -2,6 +2,8 @@
 //! devices that fail.
 
 mod bundle_writes;
+mod bundles;
 mod devices;
+mod framing;
 mod parts;
 mod texts;

@@ -2,6 +2,7 @@ pub mod Addr
 pub mod AddressReading
 pub mod AddressWord
 pub mod Bundle
+pub mod BundleFaults
 pub mod BundleReading
 pub mod Device
 pub mod DeviceName

@@ -1,8 +1,9 @@
 //! Reading a bundle.
 
-ghost use Rattle.std.specs.Prelude.{◌≡◌, ◌≢◌, ◌-◌, ◌<◌, ◌≤◌, List, length, min, IfOk, Ok, Err};
-ghost use Rattle.std.specs.Prelude.{Some, slice_get, option_map, None};
+ghost use Rattle.std.specs.Prelude.{◌≡◌, ◌≢◌, ◌-◌, ◌<◌, ◌≤◌, ◌⊎◌, List, length, min, IfOk, IfErr, Ok};
+ghost use Rattle.std.specs.Prelude.{Err, Some, slice_get, option_map, None};
 ghost use Rattle.mc_text.specs.Bundle.{PartText, IsBundle, max_bundle, max_parts};
+ghost use Rattle.mc_text.specs.BundleFaults.{IsFramingFault};
 ghost use Rattle.mc_text.specs.BundleReading.{Gives, part_bytes_at as part_bytes_of, part_place};
 ghost use Rattle.mc_text.specs.BundleReading.{end_place, place_of, parts_from, bundle_of};
 ghost use Rattle.mc_text.specs.BundleView.{part_text, part_texts};
@@ -168,6 +169,9 @@ impl<'a> Bundle<'a> {
             → result ≢ Err BundleFault.Memory → result ≡ Ok parts }
         // Else the fault is the first one from the front, unless memory runs out.
         ensures fault { result ≢ Err BundleFault.Memory → result ≡ bundle_of text.now }
+        // No other comes.
+        ensures faults { IfErr result
+            (λ fault. IsFramingFault fault ⊎ (fault ≡ BundleFault.Memory)) }
     {
         Bundle::from_text(alloc, text)
     }

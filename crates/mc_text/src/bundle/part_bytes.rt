@@ -1,6 +1,6 @@
 //! The bytes of a bundle's present part, collected.
 
-ghost use Rattle.std.specs.Prelude.{◌≡◌, ◌≢◌, ◌<◌, ◌++◌, ℕ, List, Some, Err, IfOk, IfErr, OnOk};
+ghost use Rattle.std.specs.Prelude.{◌≡◌, ◌≢◌, ◌<◌, ◌++◌, ◌⊎◌, ℕ, List, Some, Err, IfOk, IfErr, OnOk};
 ghost use Rattle.std.specs.Prelude.{length};
 ghost use Rattle.mc_text.specs.declared.bundle.stage.Stage.TheVariants as stages;
 ghost use Rattle.mc_text.specs.Device.{counted};
@@ -37,6 +37,8 @@ pub fn collect_part<R: Input>(
     ensures fault { (text done : List ℕ) → parts.old.told ≡ Some text → IfErr result
         (λ fault. fault ≢ BundleFault.Read → fault ≢ BundleFault.Memory →
         parts_if parts.old done text ≡ Err fault) }
+    ensures faults { IfErr result (λ fault. (fault ≡ BundleFault.Truncated)
+        ⊎ ((fault ≡ BundleFault.Read) ⊎ (fault ≡ BundleFault.Memory))) }
     ensures failures { parts.new.failed ≡ counted is_read result parts.old.failed }
 {
     let mut bytes = Vec::new(alloc);

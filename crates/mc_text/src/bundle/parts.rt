@@ -3,6 +3,7 @@
 ghost use Rattle.std.specs.Prelude.{◌≡◌, ◌≢◌, ◌+◌, ◌<◌, ◌≤◌, ◌++◌, ◌⊎◌, ℕ, List, [], length, take};
 ghost use Rattle.std.specs.Prelude.{Ok, Err, Some, true, false, IfOk, IfErr, IsSome, OnErr};
 ghost use Rattle.mc_text.specs.declared.bundle.stage.Stage.TheVariants as stages;
+ghost use Rattle.mc_text.specs.BundleFaults.{IsInputFault};
 ghost use Rattle.mc_text.specs.BundleReading.{bundle_of};
 ghost use Rattle.mc_text.specs.Device.{counted};
 ghost use Rattle.mc_text.specs.PartsReading.{before, is_read, parts_if, passed};
@@ -85,6 +86,9 @@ impl<R: Input> Parts<R> {
         // Which fault it is, unless the input failed.
         ensures fault { (text done : List ℕ) → self.old.told ≡ Some text → IfErr result
             (λ fault. fault ≢ BundleFault.Read → parts_if self.old done text ≡ Err fault) }
+        // Of whatever input, no other fault comes.
+        ensures faults { IfErr result (λ fault. IsInputFault fault
+            ⊎ ((fault ≡ BundleFault.Failed) × (self.old.stage ≡ stages.Failed))) }
         ensures open { result ≡ Ok true →
             (self.new.stage ≡ stages.Part) × (self.new.left ≡ self.new.size) }
         ensures named { result ≡ Ok true → IsSome self.new.name }
@@ -179,6 +183,10 @@ impl<R: Input> Parts<R> {
         // Which fault it is, unless the input failed.
         ensures fault { (text done : List ℕ) → self.old.told ≡ Some text → IfErr result
             (λ fault. fault ≢ BundleFault.Read → parts_if self.old done text ≡ Err fault) }
+        // Of whatever input, no other fault comes.
+        ensures faults { IfErr result (λ fault. (fault ≡ BundleFault.Truncated)
+            ⊎ ((fault ≡ BundleFault.Read)
+            ⊎ ((fault ≡ BundleFault.Failed) × (self.old.stage ≡ stages.Failed)))) }
         ensures failed { OnErr result (self.new.stage ≡ stages.Failed) }
         // Where no part is open nothing is read.
         ensures closed { (self.old.stage ≡ stages.Start) ⊎ (self.old.stage ≡ stages.End) →

@@ -3,6 +3,7 @@
 ghost use Rattle.std.specs.Prelude.{◌≡◌, ◌≢◌, ◌+◌, ◌<◌, ◌≤◌, length, take, min, OnOk, IfOk, IfErr};
 ghost use Rattle.std.specs.Prelude.{Ok, Err, Some, None, IfSome, option_map, ℕ, List, [], ◌∷◌, Option};
 ghost use Rattle.std.specs.Io.KnownBytes.{Consumes, IsAtEnd};
+ghost use Rattle.mc_text.specs.BundleFaults.{IsFramingFault, IsInputFault};
 ghost use Rattle.mc_text.specs.BundleReading.{line_at as line_of};
 ghost use Rattle.mc_text.specs.Device.{counted};
 ghost use Rattle.mc_text.specs.PartsReading.{Reads, magic_of, rest_of, end_opened, part_opened};
@@ -46,6 +47,7 @@ pub(crate) fn read_magic<R: Input>(input: &mut R) -> Result<(), BundleFault>
     ensures same { R.names input.new ≡ R.names input.old }
     ensures reads { Reads (λ x. x) (R.told input.old) (R.told input.new) result magic_of }
     ensures consumed { ConsumesUpTo 17 (R.told input.old) (R.told input.new) }
+    ensures faults { IfErr result IsInputFault }
     ensures failures { R.failed input.new ≡ counted is_read result (R.failed input.old) }
 {
     let mut line = [0u8; 17];
@@ -85,6 +87,7 @@ fn read_line<R: Input>(input: &mut R, line: &mut [u8; 96]) -> Result<usize, Bund
     ensures consumed { ConsumesUpTo 96 (R.told input.old) (R.told input.new) }
     ensures taken { IfOk result
         (λ n. ConsumesUpTo (n + 1) (R.told input.old) (R.told input.new)) }
+    ensures faults { IfErr result IsInputFault }
     ensures failures { R.failed input.new ≡ counted is_read result (R.failed input.old) }
 {
     let mut count = 0;
@@ -107,6 +110,7 @@ pub(crate) fn skip_rest<R: Input>(input: &mut R, left: usize) -> Result<(), Bund
     ensures same { R.names input.new ≡ R.names input.old }
     ensures reads { Reads (λ x. x) (R.told input.old) (R.told input.new) result (rest_of left) }
     ensures consumed { ConsumesUpTo (left + 1) (R.told input.old) (R.told input.new) }
+    ensures faults { IfErr result IsInputFault }
     ensures failures { R.failed input.new ≡ counted is_read result (R.failed input.old) }
 {
     let mut buffer = [0u8; 4096];
@@ -131,6 +135,7 @@ fn read_end<R: Input>(input: &mut R, room: usize) -> Result<(), BundleFault>
     ensures same { R.names input.new ≡ R.names input.old }
     ensures reads { Reads (λ _. None) (R.told input.old) (R.told input.new) result (end_opened room) }
     ensures consumed { ConsumesUpTo 1 (R.told input.old) (R.told input.new) }
+    ensures faults { IfErr result IsInputFault }
     ensures failures { R.failed input.new ≡ counted is_read result (R.failed input.old) }
 {
     if room < 4 {
@@ -153,6 +158,7 @@ fn open_part(
     ensures opened { (exact : Option (List ℕ × ℕ)) →
         said ≡ option_map (λ s. (s.0, min s.1 u64.MAX)) exact →
         result ≡ part_opened parts room line.now exact }
+    ensures faults { IfErr result IsFramingFault }
     ensures bound { IfOk result (λ part. part.size ≤ MAX_PART) }
     ensures fewer { IfOk result (λ part. part.parts < parts) }
     ensures room { IfOk result
@@ -191,6 +197,7 @@ pub(crate) fn open_next<R: Input>(
     ensures fewer { IfOk result (λ found. IfSome found (λ part. part.parts < parts)) }
     ensures consumed { Spends
         (room + 96) (may_come_after result) (R.told input.old) (R.told input.new) }
+    ensures faults { IfErr result IsInputFault }
     ensures failures { R.failed input.new ≡ counted is_read result (R.failed input.old) }
 {
     let mut buffer = [0u8; 96];
@@ -220,6 +227,7 @@ pub(crate) fn read_next<R: Input>(
     ensures fewer { IfOk result (λ found. IfSome found (λ part. part.parts < parts)) }
     ensures consumed { Spends (before_line start left + (room + 96)) (may_come_after result)
         (R.told input.old) (R.told input.new) }
+    ensures faults { IfErr result IsInputFault }
     ensures failures { R.failed input.new ≡ counted is_read result (R.failed input.old) }
 {
     if start {

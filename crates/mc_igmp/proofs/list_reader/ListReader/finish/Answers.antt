@@ -5,8 +5,8 @@ use Rattle.mc_igmp.specs.ListSoFar.{ListSoFar, list_if}
 use Rattle.mc_igmp.proofs.PieceLemmas.{ends_unended, ends_ended}
 use Rattle.mc_igmp.proofs.list_reader.ListReader.finish.Goals as goal
 
-pub returns-then-not-is_empty : goal.returns-then-not-is_empty
-returns-then-not-is_empty c =
+pub returns-then-not-is_empty-clause-ends : goal.returns-then-not-is_empty-clause-ends
+returns-then-not-is_empty-clause-ends c =
     let so_far : ListSoFar = record {
       size = c.self.inside.size;
       ended = c.self.inside.lines.ended;
@@ -22,8 +22,8 @@ returns-then-not-is_empty c =
     ∙ sym (ends_unended so_far (omega arith) c.in_default.is on.0 some)
     ∙ ap (λ (s : ListSoFar). list_if s []) c.self.view_is
 
-pub returns : goal.returns
-returns c =
+pub returns-clause-ends : goal.returns-clause-ends
+returns-clause-ends c =
     let so_far : ListSoFar = record {
       size = c.self.inside.size;
       ended = c.self.inside.lines.ended;

@@ -2,6 +2,7 @@ use Rattle.std.proofs.Common.{◌∙◌, sym, ap, subst}
 use Rattle.std.specs.Prelude.{IfSome}
 use Rattle.mc_tables.specs.VifLookups.{HasDevice, IsVifTable, first_index_with}
 use Rattle.mc_tables.proofs.VifLookupLemmas.{index_found_in_map, index_only_in_map, answer_in_map}
+use Rattle.mc_tables.proofs.VifLookupLemmas.{index_of-value}
 use Rattle.mc_tables.proofs.RuleLemmas.{vif_rules, answers_exactly}
 use Rattle.mc_tables.proofs.vif_table.VifTable.index_of.Goals as goal
 
@@ -45,3 +46,8 @@ pub returns-then-eq-clause-rules : goal.returns-then-eq-clause-rules
 returns-then-eq-clause-rules c =
     subst IsVifTable c.self.view_is
     (vif_rules c.self.inside.vifs.items c.self.invariant.1 c.self.invariant.2)
+
+pub returns-clause-value : goal.returns-clause-value
+returns-clause-value c =
+    index_of-value c.args.self.now c.args.device.now c.index_with_device.result
+    (returns-clause-rules c) (returns-clause-exact c)

@@ -1,0 +1,49 @@
+//! Want of memory: what is written of a certificate is asked for again. With every growth granted this test
+//! writes it once. `rt try --test --fail-alloc N`, for N from 1 on, refuses one growth after the other.
+
+ghost use Rattle.mc_cert.specs.Certificate.{BelongsTo};
+
+use super::network::TWO_FLOWS;
+use crate::topology::network::on_topology;
+use mc_cert::*;
+use mc_text::Memory;
+use mc_topology::Topology;
+use std::alloc::Global;
+use std::test::Fail;
+
+/// A certificate of two flows, each with a tree of its own.
+const TEXT: &str =
+    r#"{"flows":[{"group":"239.1.2.3","source":"10.0.0.5","tree":0},{"group":"239.1.2.4","source":"10.0.0.5","tree":1}],"trees":[[{"lan":"l0","need":1,"rank":0},{"lan":"l2","need":255,"rank":255,"router":"r2","vif":31}],[{"lan":"l0","need":1,"rank":0}]],"version":2}"#;
+
+/// Whether the certificate is written so, at the second try where a growth is refused.
+fn is_written_at_last(
+    alloc: Global,
+    topology: &Topology,
+    certificate: &Certificate,
+) -> Result<bool, Memory>
+    requires { BelongsTo topology.now certificate.now }
+{
+    match certificate.to_json(alloc, topology) {
+        Ok(text) => Ok(text.as_str() == TEXT),
+        Err(Memory) => Ok(certificate.to_json(alloc, topology)?.as_str() == TEXT),
+    }
+}
+
+/// The same of the certificate that the text stands for.
+fn is_rewritten(alloc: Global, topology: &Topology) -> Result<bool, Fail> {
+    texts_stand_for_certificates();
+    match Certificate::read(alloc, TEXT.as_bytes(), topology) {
+        Ok(certificate) => Ok(is_written_at_last(alloc, topology, &certificate)?),
+        Err(fault) => Err(fault.into()),
+    }
+}
+
+#[test]
+fn certificate_is_written_after_a_refused_growth(rt: HostRuntime) -> Result<(), Fail> {
+    let alloc = rt.alloc();
+    let found = on_topology(alloc, TWO_FLOWS.as_bytes(), |topology| {
+        is_rewritten(alloc, topology)
+    })?;
+    assert!(rt; found?);
+    Ok(())
+}

@@ -26,6 +26,7 @@ pub mod Least
 pub mod Ranks
 pub mod Attended
 pub mod Spare
+pub mod LeftOut
 pub mod WorkedNetworks
 pub mod WorkedReasons
 pub mod WorkedTravels

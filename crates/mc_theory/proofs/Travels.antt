@@ -159,7 +159,7 @@ finding-none n count f h = by n count f (double [] f.carried) refl h
     by n count f (Some c) q h = absurd cc
 
 -- a clean flight's finding
-finding-end : (n : Net) (count : ℕ) (f : Flight) → IsClean f →
+pub finding-end : (n : Net) (count : ℕ) (f : Flight) → IsClean f →
     finding n count f ≡ end_finding n count f.carried f.waiting
 finding-end n count f clean = ap (double_finding n count f)
     (double-from [] f.carried clean.once (λ l k z. k)) ∙

@@ -11,4 +11,5 @@ pub mod Made
 pub mod Shown
 pub mod Ways
 pub mod Hops
+pub mod LeftOut
 pub mod Worked

@@ -93,9 +93,17 @@ line_with_a_leak = line_with ((0, onward) ∷ (1, Exact 0 ((1, 1) ∷ (2, 1) ∷
 abbrev pub line_with_an_open_row : Net
 line_with_an_open_row = line_with ((0, onward) ∷ (1, Open) ∷ []) 3
 
+-- in by vif 0, out by vif 1 and by vif 0 too
+abbrev pub sends_back : Row
+sends_back = Exact 0 ((0, 1) ∷ (1, 1) ∷ [])
+
 -- r1 sends by the vif that it takes from too
 abbrev pub line_that_sends_back : Net
-line_that_sends_back = line_with ((0, Exact 0 ((0, 1) ∷ (1, 1) ∷ [])) ∷ (1, onward) ∷ []) 3
+line_that_sends_back = line_with ((0, sends_back) ∷ (1, onward) ∷ []) 3
+
+-- a line from which r2 is left out, with this row of r1
+abbrev pub r1_alone : Row → Net
+r1_alone row = network 2 ((0, 0, 0) ∷ (0, 1, 1) ∷ []) ((0, row) ∷ []) (λ l. l == 2) 3
 
 -- the entries of l0, l1 and l2, and the line's certificate
 abbrev pub root_entry : Entry

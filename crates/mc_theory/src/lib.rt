@@ -2,8 +2,8 @@
 //! flow, and why a certificate covers every order in which routers handle copies.
 //!
 //! The definitions stand in `specs/`, to be read in this order: `Nets`, `Flights`, `Headline`,
-//! `Certificates`, `Reasons`, `Events`, `Findings`, `Shown`, `Origins`, `Made`, `Ways`, `Hops`;
-//! `Worked` has small networks to try them on. Nothing here runs: each function below is a law
+//! `Certificates`, `Reasons`, `Events`, `Findings`, `Shown`, `Origins`, `Made`, `Ways`, `Hops`,
+//! `LeftOut`; `Worked` has small networks to try them on. Nothing here runs: each function below is a law
 //! about them.
 
 #![tactic(auto)]
@@ -11,6 +11,7 @@
 mod certificate_laws;
 mod headline_laws;
 mod hop_laws;
+mod left_out_laws;
 mod travel_laws;
 mod way_laws;
 mod worked_way_laws;
@@ -30,6 +31,10 @@ pub use hop_laws::{
     a_second_copy_of_a_loop_came_from_its_lan, a_stop_is_found, a_walk_back_finds_the_hops,
     hops_are_determined, hops_are_few, hops_are_found_one_by_one,
     the_need_of_its_hops_is_the_least_ttl,
+};
+pub use left_out_laws::{
+    a_run_without_routers_is_one_with_them, r1_is_known_without_r2,
+    what_goes_wrong_without_routers_goes_wrong_with_them,
 };
 pub use travel_laws::{
     a_clean_travel_makes_a_tree, a_finding_says_what_the_flight_shows, a_finding_shows,

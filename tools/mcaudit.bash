@@ -3,9 +3,10 @@
 _mcaudit() {
     local word=${COMP_WORDS[COMP_CWORD]}
     local before=${COMP_WORDS[COMP_CWORD - 1]}
+    local commands='audit check make pack replay wants'
     COMPREPLY=()
     if [ "$COMP_CWORD" -eq 1 ]; then
-        mapfile -t COMPREPLY < <(compgen -W 'audit check make pack replay wants --version' -- "$word")
+        mapfile -t COMPREPLY < <(compgen -W "$commands help --version" -- "$word")
         return
     fi
     local option=--certificate
@@ -22,6 +23,8 @@ _mcaudit() {
                     compopt -o filenames 2> /dev/null
                     mapfile -t COMPREPLY < <(compgen -A directory -- "$word") ;;
             esac ;;
+        help)
+            if [ "$COMP_CWORD" -eq 2 ]; then mapfile -t COMPREPLY < <(compgen -W "$commands" -- "$word"); fi ;;
         replay)
             if [ "$before" = --order ]; then
                 mapfile -t COMPREPLY < <(compgen -W 'first last' -- "$word")

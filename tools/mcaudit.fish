@@ -41,6 +41,11 @@ function __mcaudit_folders --argument-names program condition
     complete -c $program -n $condition -f -a '(__fish_complete_directories)'
 end
 
+# Whether this is the command of the words, or of what is there of them.
+function __mcaudit_command_is --argument-names command
+    contains -- $command (commandline -opc)[2]
+end
+
 # what several tools have
 set -l help '--help::print help'
 set -l told_version '--version::print the version'
@@ -63,14 +68,17 @@ set -l asking \
     '--wait:value:wait so long for a query'
 
 # the word behind --without is a router, whatever it begins with
-set -l audit '__fish_seen_subcommand_from audit; and not __fish_prev_arg_in --without'
+set -l audit '__mcaudit_command_is audit; and not __fish_prev_arg_in --without'
 __mcaudit_commands mcaudit \
     'audit:judge each flow of the files of a folder' \
     'check:judge each flow of a bundle by its certificate' \
     'make:make the certificate of a bundle' \
     'pack:pack the files of a folder into a bundle' \
     'replay:show the travel of one packet' \
-    'wants:tell whether a LAN wants what a source sends'
+    'wants:tell whether a LAN wants what a source sends' \
+    'help:print the help of the program or of a command'
+complete -c mcaudit -n '__mcaudit_command_is help; and test (count (commandline -opc)) -eq 2' \
+    -f -a 'audit check make pack replay wants'
 __mcaudit_options mcaudit __fish_use_subcommand $told_version
 __mcaudit_options mcaudit $audit \
     '--travel::tell the travel of each packet that shows a fault' \
@@ -80,9 +88,9 @@ __mcaudit_options mcaudit $audit \
     '--json::write an object a line' \
     '--without:value:audit without the tables of a router'
 __mcaudit_folders mcaudit $audit
-__mcaudit_options mcaudit '__fish_seen_subcommand_from pack' '--certificate::pack the certificate too'
-__mcaudit_folders mcaudit '__fish_seen_subcommand_from pack'
-__mcaudit_options mcaudit '__fish_seen_subcommand_from replay' '--order:first last:which waiting copy is handled next'
+__mcaudit_options mcaudit '__mcaudit_command_is pack' '--certificate::pack the certificate too'
+__mcaudit_folders mcaudit '__mcaudit_command_is pack'
+__mcaudit_options mcaudit '__mcaudit_command_is replay' '--order:first last:which waiting copy is handled next'
 
 set -l tool
 for tool in mcaudit-collect mcaudit-draft mcaudit-monitor mcaudit-page

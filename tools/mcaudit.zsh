@@ -30,17 +30,19 @@ local -a asking=(
 
 case $service in
 mcaudit)
+    local -a commands=(
+        'audit:judge each flow of the files of a folder'
+        'check:judge each flow of a bundle by its certificate'
+        'make:make the certificate of a bundle'
+        'pack:pack the files of a folder into a bundle'
+        'replay:show the travel of one packet'
+        'wants:tell whether a LAN wants what a source sends'
+    )
     case $CURRENT:$words[2] in
     2:*)
-        local -a commands=(
-            'audit:judge each flow of the files of a folder'
-            'check:judge each flow of a bundle by its certificate'
-            'make:make the certificate of a bundle'
-            'pack:pack the files of a folder into a bundle'
-            'replay:show the travel of one packet'
-            'wants:tell whether a LAN wants what a source sends'
-        )
+        commands+=('help:print the help of the program or of a command')
         _arguments $version '1: :{_describe command commands}' ;;
+    3:help) _describe command commands ;;
     *:audit)
         _arguments ': :' \
             '--travel[tell the travel of each packet that shows a fault]' \

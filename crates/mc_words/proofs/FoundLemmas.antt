@@ -1,5 +1,5 @@
 -- What is read of the words that clap finds.
-use Rattle.std.proofs.Common.{◌≡◌, ℕ, List, [], Option, Some, None, unwrap_or, map, ap, ◌∙◌}
+use Rattle.std.proofs.Common.{◌≡◌, ℕ, List, [], Option, Some, None, unwrap_or, ap, ◌∙◌}
 use Rattle.std.specs.Option.{option_map}
 use Rattle.std.specs.Borrow.{Bor}
 
@@ -9,12 +9,3 @@ pub unwrap_or-now : (read : Option (Bor (List ℕ))) (other : Bor (List ℕ)) (f
     → (unwrap_or read other).now ≡ unwrap_or found []
 unwrap_or-now None other found same empty = empty ∙ ap (λ o. unwrap_or o []) same
 unwrap_or-now (Some word) other found same empty = ap (λ o. unwrap_or o []) same
-
--- the same, where several words may be found
-pub unwrap_or-all_now : (read : Option (Bor (List (Bor (List ℕ))))) (other : Bor (List (Bor (List ℕ))))
-    (found : Option (List (List ℕ)))
-    → option_map (λ words. map (λ word. word.now) words.now) read ≡ found → other.now ≡ []
-    → map (λ word. word.now) (unwrap_or read other).now ≡ unwrap_or found []
-unwrap_or-all_now None other found same empty =
-    ap (map (λ word. word.now)) empty ∙ ap (λ o. unwrap_or o []) same
-unwrap_or-all_now (Some words) other found same empty = ap (λ o. unwrap_or o []) same

@@ -1,3 +1,6 @@
 mod AuditLemmas
+mod ClapLemmas
+mod CommandLemmas
+mod DraftLemmas
+mod FirstWordLemmas
 mod FoundLemmas
-mod VersionLemmas

@@ -1,5 +1,5 @@
 pub mod AuditWords
-pub mod Found
+pub mod Commands
 pub mod Task
 pub use Rattle.mc_text.specs.Addr
 pub use Rattle.mc_text.specs.Bundle

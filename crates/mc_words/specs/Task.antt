@@ -1,17 +1,15 @@
 -- What a task's values may be, and how words write them.
 use Rattle.std.specs.Prelude.{◌≡◌, ◌≤◌, ◌⊎◌, ℕ, Bool, true, false, List, map, codes, Some, ⊤}
-use Rattle.std.specs.Prelude.{IsSomeAnd, slice_get}
-use Rattle.clap.specs.Simple.{subcommand_rows_of}
+use Rattle.std.specs.Prelude.{IsSomeAnd, Option, [], ◌∷◌, drop, slice_get}
 use Rattle.clap.specs.Walk.{Row}
-use Rattle.clap.specs.declared.parser.matches.ArgMatches.{ArgMatches}
 use Rattle.mc_text.specs.Addr.{IsForwardedGroup, IsSource, dotted}
 use Rattle.mc_text.specs.Number.{IsDecimal}
-use Rattle.mc_words.specs.AuditWords.{are_routers, is_option}
-use Rattle.mc_words.specs.Found.{AreFound, IsFlag, word_of}
+use Rattle.mc_words.specs.AuditWords.{AreAuditWords, are_routers, is_option}
+use Rattle.mc_words.specs.Commands.{AreTaken, IsFlag, found_in, is_command, word_of}
 use Rattle.mc_words.specs.declared.audit_words.AuditWords.{AuditWords}
 use Rattle.mc_words.specs.declared.task.Task.{Task}
 use Rattle.mc_words.specs.declared.task.Task.TheVariants.{Wants, Check, Make, Replay, Pack, Audit}
-use Rattle.mc_words.specs.declared.task.Task.TheVariants.{Version}
+use Rattle.mc_words.specs.declared.task.Task.TheVariants.{Help, Version}
 
 -- the folder doesn't begin like an option, and what is left out are names of routers, each once
 pub record IsAudit (words : AuditWords) : Type 0 where
@@ -25,6 +23,7 @@ IsAllowed Make = ⊤
 IsAllowed (Replay flow ttl last) = (1 ≤ flow) × (flow ≤ 4096) × (1 ≤ ttl) × (ttl ≤ 255)
 IsAllowed (Pack folder certificate) = ⊤
 IsAllowed (Audit words) = IsAudit words
+IsAllowed (Help text) = ⊤
 IsAllowed Version = ⊤
 
 -- the words after `wants` are the group and the source of the task
@@ -55,14 +54,48 @@ IsTaskOf command rows (Replay flow ttl last) = (command ≡ codes "replay")
     (word_of rows (codes "order")) (Replay flow ttl last)
 IsTaskOf command rows (Pack folder certificate) = (command ≡ codes "pack")
     × (folder.now ≡ word_of rows (codes "folder")) × IsFlag rows (codes "certificate") certificate
-IsTaskOf command rows (Audit words) = (command ≡ codes "audit") × AreFound rows words
+IsTaskOf command rows (Audit words) = ⊥
+IsTaskOf command rows (Help text) = ⊥
 IsTaskOf command rows Version = ⊥
 
 -- the task is the one that the command which is found asks for
-abbrev pub IsAskedFor : ArgMatches → Task → Type 0
-IsAskedFor matches task = IsSomeAnd (subcommand_rows_of matches) (λ met. IsTaskOf met.0 met.1 task)
+abbrev pub IsNamed : Option (List ℕ × List Row) → Task → Type 0
+IsNamed found task = IsSomeAnd found (λ command. IsTaskOf command.0 command.1 task)
+
+-- clap takes the words, and the task is that of the command which it finds in them
+abbrev pub IsClapTask : List (List ℕ) → Task → Type 0
+IsClapTask words task = AreTaken words × IsNamed (found_in words) task
+
+-- the first word behind the program's own name
+abbrev pub IsFirst : List ℕ → List (List ℕ) → Type 0
+IsFirst word words = slice_get words 1 ≡ Some word
 
 -- the word behind the program's own name asks for the version
 abbrev pub AskForVersion : List (List ℕ) → Type 0
-AskForVersion words =
-    (slice_get words 1 ≡ Some (codes "--version")) ⊎ (slice_get words 1 ≡ Some (codes "-V"))
+AskForVersion words = IsFirst (codes "--version") words ⊎ IsFirst (codes "-V") words
+
+-- the words behind `help` are none, or the name of a command
+abbrev pub is_topic : List (List ℕ) → Bool
+is_topic [] = true
+is_topic (name ∷ []) = is_command name
+is_topic (name ∷ other ∷ more) = false
+
+-- the words ask for help
+abbrev pub AskForHelp : List (List ℕ) → Type 0
+AskForHelp words = IsFirst (codes "help") words × (is_topic (drop 2 words) ≡ true)
+
+abbrev pub IsHelp : Task → Type 0
+IsHelp (Help text) = ⊤
+IsHelp other = ⊥
+
+-- the task is an audit of what these words say
+abbrev pub IsAuditFor : List (List ℕ) → Task → Type 0
+IsAuditFor words (Audit audit) = AreAuditWords words audit
+IsAuditFor words other = ⊥
+
+-- The program's words, of which the first is its own name, ask for the task.
+abbrev pub IsAskedFor : List (List ℕ) → Task → Type 0
+IsAskedFor words Version = AskForVersion words
+IsAskedFor words (Help text) = AskForHelp words
+IsAskedFor words (Audit audit) = IsFirst (codes "audit") words × AreAuditWords (drop 2 words) audit
+IsAskedFor words task = IsClapTask words task

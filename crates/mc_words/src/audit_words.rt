@@ -1,19 +1,16 @@
 //! What the words after `audit` say.
 
-ghost use Rattle.std.specs.Prelude.{◌≡◌, map, is_none, true, false, IfErr, IfOk, OnOk};
-ghost use Rattle.clap.specs.Matches.{found_of};
-ghost use Rattle.clap.specs.Walk.{rows_of};
-ghost use Rattle.mc_words.specs.AuditWords.{is_among, are_routers, is_option};
-ghost use Rattle.mc_words.specs.Found.{AreFound, AreOptions, CanBeAudited};
-ghost use Rattle.mc_words.specs.Task.{IsAudit};
+ghost use Rattle.std.specs.Prelude.{◌≡◌, map, is_none, IfErr, IfOk, IfSome, IsSome};
+ghost use Rattle.mc_words.specs.AuditWords.{AreAuditWords, AreWholeWords, IsWhole, are_routers};
+ghost use Rattle.mc_words.specs.AuditWords.{given_of, is_among, is_router};
+ghost use Rattle.mc_words.specs.declared.audit_words.AuditWords.{AuditWords};
 ghost use Rattle.mc_words.specs.declared.fault.WordsFault.TheVariants.{Memory};
 
 use crate::command::audit_command;
-use crate::fault::{WordsFault, wrong_words};
-use crate::found::{is_set, word_of};
-use clap::ArgMatches;
+use crate::draft::{Draft, Place, draft_of};
+use crate::fault::{FOLDER_RULE, WordsFault, explained_refusal, wrong_words};
 use mc_topology::is_name;
-use std::alloc::Global;
+use std::alloc::{AllocError, Global};
 
 /// What the words after `audit` say.
 #[derive(Debug, Drop, PartialEq, Eq)]
@@ -43,8 +40,6 @@ pub struct AuditOptions {
     pub json: bool,
 }
 
-const FOLDER_RULE: &str = "<folder> doesn't begin with -; ./-x is the folder -x";
-
 const ROUTER_RULE: &str =
     "--without names a router: 1 to 32 letters, digits, -, _ or ., as in the topology";
 
@@ -73,65 +68,70 @@ fn broken_rule(words: &[&str]) -> Option<&'static str>
     None
 }
 
-/// The routers that these words name, in their order.
-fn routers_of<'a>(alloc: Global, words: &[&'a str]) -> Result<Vec<&'a str>, WordsFault>
-    ensures kept { IfOk result (λ routers. routers.items ≡ words.now) }
-    ensures routers { OnOk result (are_routers (map (λ word. word.now) words.now) ≡ true) }
-    ensures only { are_routers (map (λ word. word.now) words.now) ≡ true
-        → IfErr result (λ fault. fault ≡ Memory) }
+/// Whether the next word has to be there, since `--without` is before it.
+fn is_router(place: Place) -> bool
+    ensures { result ≡ is_router place }
 {
-    if let Some(rule) = broken_rule(words) {
-        return Err(wrong_words(alloc, audit_command(alloc), rule));
-    }
-    Ok(Vec::from_slice(alloc, words)?)
-}
-
-/// The folder that this word names.
-fn folder_of(alloc: Global, word: &str) -> Result<&str, WordsFault>
-    ensures kept { IfOk result (λ folder. folder.now ≡ word.now) }
-    ensures folder { OnOk result (is_option word.now ≡ false) }
-    ensures only { is_option word.now ≡ false → IfErr result (λ fault. fault ≡ Memory) }
-{
-    if word.starts_with('-') {
-        return Err(wrong_words(alloc, audit_command(alloc), FOLDER_RULE));
-    }
-    Ok(word)
-}
-
-/// The options that are set.
-fn options_of(matches: &ArgMatches<'_>) -> AuditOptions
-    ensures { AreOptions (rows_of (found_of matches.now)) result }
-{
-    AuditOptions {
-        travels: is_set(matches, "travel"),
-        faults: is_set(matches, "faults"),
-        unlisted: is_set(matches, "unlisted"),
-        strict: is_set(matches, "strict"),
-        json: is_set(matches, "json"),
+    match place {
+        Place::Router => true,
+        Place::Options | Place::Plain => false,
     }
 }
 
-/// What the words after `audit` say.
+/// What a draft of all words says, unless a word lacks.
+fn whole_of(draft: Draft<'_>) -> Option<AuditWords<'_>>
+    ensures found { IfSome result (IsWhole (given_of draft.entry)) }
+    ensures only { (audit : AuditWords) → IsWhole (given_of draft.entry) audit → IsSome result }
+{
+    if is_router(draft.place) {
+        return None;
+    }
+    let folder = draft.folder?;
+    Some(AuditWords {
+        folder,
+        options: draft.options,
+        without: draft.without,
+    })
+}
+
+/// What the words say, unless one of them is wrong or lacks.
+fn whole_words_of<'a>(
+    alloc: Global,
+    words: &[&'a str],
+) -> Result<Option<AuditWords<'a>>, AllocError>
+    ensures found { IfOk result (λ whole.
+        IfSome whole (AreWholeWords (map (λ word. word.now) words.now))) }
+    ensures only { (audit : AuditWords) → AreWholeWords (map (λ word. word.now) words.now) audit
+        → IfOk result IsSome }
+{
+    match draft_of(alloc, words)? {
+        Some(draft) => Ok(whole_of(draft)),
+        None => Ok(None),
+    }
+}
+
+/// What the words behind `audit` say; `all` are all words of the program, of which they are the end.
 ///
 /// # Errors
 ///
-/// `Wrong` where the folder begins with `-`, or where a router to be left out is no name or is named
-/// twice, and `Memory` where memory runs out.
+/// `Wrong` where they say nothing, and `Memory` where memory runs out.
 pub fn audit_words_of<'a>(
     alloc: Global,
-    matches: &ArgMatches<'a>,
+    words: &[&'a str],
+    all: &'a [&'a str],
 ) -> Result<AuditWords<'a>, WordsFault>
-    ensures allowed { IfOk result IsAudit }
-    ensures found { IfOk result (AreFound (rows_of (found_of matches.now))) }
-    ensures only { CanBeAudited (rows_of (found_of matches.now))
+    ensures found { IfOk result (AreAuditWords (map (λ word. word.now) words.now)) }
+    ensures only { (audit : AuditWords) → AreAuditWords (map (λ word. word.now) words.now) audit
         → IfErr result (λ fault. fault ≡ Memory) }
 {
-    let folder = folder_of(alloc, word_of(matches, "folder"))?;
-    let options = options_of(matches);
-    let without = routers_of(alloc, matches.get_strs("without").unwrap_or(&[]))?;
-    Ok(AuditWords {
-        folder,
-        options,
-        without,
-    })
+    let Some(audit) = whole_words_of(alloc, words)? else {
+        return Err(explained_refusal(alloc, all));
+    };
+    if audit.folder.starts_with('-') {
+        return Err(wrong_words(alloc, audit_command(alloc), FOLDER_RULE));
+    }
+    match broken_rule(&audit.without) {
+        Some(rule) => Err(wrong_words(alloc, audit_command(alloc), rule)),
+        None => Ok(audit),
+    }
 }

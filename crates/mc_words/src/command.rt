@@ -1,5 +1,12 @@
 //! The program's commands and their arguments, and its help.
 
+ghost use Rattle.std.specs.Prelude.{◌≡◌, [], false, is_some, IfOk};
+ghost use Rattle.clap.specs.Simple.{App, Shape, with_rule, with_subcommand};
+ghost use Rattle.clap.specs.Walk.{Rule, rule_of};
+ghost use Rattle.mc_words.specs.Commands.{IsCommand, IsLeaf, check_shape, command_shape, commands};
+ghost use Rattle.mc_words.specs.Commands.{flag_rule, make_shape, option_rule, pack_shape};
+ghost use Rattle.mc_words.specs.Commands.{is_command, program_shape, replay_shape, required_rule, wants_shape};
+
 use clap::{Arg, ArgAction, Command};
 use std::alloc::{AllocError, Global};
 
@@ -18,32 +25,49 @@ Does a LAN want what 10.0.0.5 sends to 239.1.2.3?
   mcaudit wants 239.1.2.3 10.0.0.5 < reports
 
 Statuses: 0 yes, 1 no, 2 refused input, 3 read or write failed, 4 no memory, 5 wrong words
+mcaudit help writes this text, and mcaudit help <command> that of a command
 mcaudit --version tells the version";
 
 /// A command with one argument more.
 fn with_argument<'a>(
     command: Result<Command<'a>, AllocError>,
     argument: Arg<'a>,
-) -> Result<Command<'a>, AllocError> {
-    command?.arg(argument)
+) -> Result<Command<'a>, AllocError>
+    ensures { (app : App) (rule : Rule) → rule_of argument.entry ≡ rule
+        → argument.entry.global ≡ false → IfOk command.entry (IsCommand app)
+        → IfOk result (IsCommand (with_rule app rule)) }
+{
+    let command = command?;
+    command.arg(argument)
 }
 
 /// A command with one command more below it.
 fn with_command<'a>(
     command: Result<Command<'a>, AllocError>,
     below: Result<Command<'a>, AllocError>,
-) -> Result<Command<'a>, AllocError> {
+) -> Result<Command<'a>, AllocError>
+    ensures { (app : App) (shape : Shape) → IfOk command.entry (IsCommand app)
+        → IfOk below.entry (IsLeaf shape)
+        → IfOk result (IsCommand (with_subcommand app shape)) }
+{
     let command = command?;
-    command.subcommand(below?)
+    let below = below?;
+    command.subcommand(below)
 }
 
 /// An argument that has to be there.
-fn required<'a>(alloc: Global, name: &'a str, help: &'a str) -> Arg<'a> {
+fn required<'a>(alloc: Global, name: &'a str, help: &'a str) -> Arg<'a>
+    ensures rule { rule_of result ≡ required_rule name.now }
+    ensures local { result.global ≡ false }
+{
     Arg::new(alloc, name).required(true).help(help)
 }
 
 /// An argument `--name` that is there or not.
-fn flag<'a>(alloc: Global, name: &'a str, help: &'a str) -> Arg<'a> {
+fn flag<'a>(alloc: Global, name: &'a str, help: &'a str) -> Arg<'a>
+    ensures rule { rule_of result ≡ flag_rule name.now }
+    ensures local { result.global ≡ false }
+{
     Arg::new(alloc, name)
         .long(name)
         .action(ArgAction::SetTrue)
@@ -51,7 +75,10 @@ fn flag<'a>(alloc: Global, name: &'a str, help: &'a str) -> Arg<'a> {
 }
 
 /// An argument `--name` with a value, and the value that it has where it isn't there.
-fn option<'a>(alloc: Global, name: &'a str, value: &'a str, help: &'a str) -> Arg<'a> {
+fn option<'a>(alloc: Global, name: &'a str, value: &'a str, help: &'a str) -> Arg<'a>
+    ensures rule { rule_of result ≡ option_rule name.now value.now }
+    ensures local { result.global ≡ false }
+{
     Arg::new(alloc, name)
         .long(name)
         .default_value(value)
@@ -70,7 +97,9 @@ fn repeated<'a>(alloc: Global, name: &'a str, value: &'a str, help: &'a str) -> 
 }
 
 /// A command that has no arguments yet.
-fn bare_command<'a>(alloc: Global, name: &'a str, about: &'a str, usage: &'a str) -> Command<'a> {
+fn bare_command<'a>(alloc: Global, name: &'a str, about: &'a str, usage: &'a str) -> Command<'a>
+    ensures { IsLeaf (command_shape name.now []) result }
+{
     Command::new(alloc, name).about(about).override_usage(usage)
 }
 
@@ -78,7 +107,9 @@ const FOLDER: &str =
     "The folder with the files topology, vif-<router>, cache-<router> and igmp-<lan>";
 
 /// The command `wants` and its arguments.
-pub fn wants_command<'a>(alloc: Global) -> Result<Command<'a>, AllocError> {
+pub fn wants_command<'a>(alloc: Global) -> Result<Command<'a>, AllocError>
+    ensures { IfOk result (IsLeaf wants_shape) }
+{
     let command = bare_command(
         alloc,
         "wants",
@@ -119,7 +150,9 @@ pub fn audit_command<'a>(alloc: Global) -> Result<Command<'a>, AllocError> {
 }
 
 /// The command `check`, which has no arguments.
-fn check_command<'a>(alloc: Global) -> Command<'a> {
+fn check_command<'a>(alloc: Global) -> Command<'a>
+    ensures { IsLeaf check_shape result }
+{
     bare_command(
         alloc,
         "check",
@@ -129,7 +162,9 @@ fn check_command<'a>(alloc: Global) -> Command<'a> {
 }
 
 /// The command `make`, which has no arguments.
-fn make_command<'a>(alloc: Global) -> Command<'a> {
+fn make_command<'a>(alloc: Global) -> Command<'a>
+    ensures { IsLeaf make_shape result }
+{
     bare_command(
         alloc,
         "make",
@@ -139,7 +174,9 @@ fn make_command<'a>(alloc: Global) -> Command<'a> {
 }
 
 /// The command `pack` and its arguments.
-fn pack_command<'a>(alloc: Global) -> Result<Command<'a>, AllocError> {
+fn pack_command<'a>(alloc: Global) -> Result<Command<'a>, AllocError>
+    ensures { IfOk result (IsLeaf pack_shape) }
+{
     let command = bare_command(
         alloc,
         "pack",
@@ -153,7 +190,9 @@ fn pack_command<'a>(alloc: Global) -> Result<Command<'a>, AllocError> {
 }
 
 /// The command `replay` and its arguments.
-pub fn replay_command<'a>(alloc: Global) -> Result<Command<'a>, AllocError> {
+pub fn replay_command<'a>(alloc: Global) -> Result<Command<'a>, AllocError>
+    ensures { IfOk result (IsLeaf replay_shape) }
+{
     let command = bare_command(
         alloc,
         "replay",
@@ -168,19 +207,57 @@ pub fn replay_command<'a>(alloc: Global) -> Result<Command<'a>, AllocError> {
     with_argument(command, option(alloc, "order", "first", order))
 }
 
-/// The commands and the help.
-pub fn program<'a>(alloc: Global) -> Result<Command<'a>, AllocError> {
-    let program = Command::new(alloc, "mcaudit")
+/// The program and its help, with no commands yet.
+fn bare_program<'a>(alloc: Global) -> Command<'a>
+    ensures { IsLeaf program_shape result }
+{
+    Command::new(alloc, "mcaudit")
         .about("Audits the multicast forwarding state of a domain of Linux routers")
         .override_usage("mcaudit <command>")
         .after_help(EXAMPLES)
         .subcommand_required(true)
         .arg_required_else_help(true)
-        .disable_help_subcommand(true);
-    let program = with_command(Ok(program), audit_command(alloc));
+        .disable_help_subcommand(true)
+}
+
+/// The program with the commands but `audit`.
+fn with_commands<'a>(
+    alloc: Global,
+    program: Result<Command<'a>, AllocError>,
+) -> Result<Command<'a>, AllocError>
+    ensures { IfOk program.entry (IsLeaf program_shape) → IfOk result (IsCommand commands) }
+{
     let program = with_command(program, Ok(check_command(alloc)));
     let program = with_command(program, Ok(make_command(alloc)));
     let program = with_command(program, pack_command(alloc));
     let program = with_command(program, replay_command(alloc));
     with_command(program, wants_command(alloc))
+}
+
+/// The program with all commands, which explains what is wrong.
+pub fn program<'a>(alloc: Global) -> Result<Command<'a>, AllocError> {
+    let program = with_command(Ok(bare_program(alloc)), audit_command(alloc));
+    with_commands(alloc, program)
+}
+
+/// The program with the commands whose words clap reads.
+pub fn clap_program<'a>(alloc: Global) -> Result<Command<'a>, AllocError>
+    ensures { IfOk result (IsCommand commands) }
+{
+    with_commands(alloc, Ok(bare_program(alloc)))
+}
+
+/// The command of this name, if there is one.
+pub fn command_named<'a>(alloc: Global, name: &str) -> Option<Result<Command<'a>, AllocError>>
+    ensures { is_some result ≡ is_command name.now }
+{
+    match name {
+        "audit" => Some(audit_command(alloc)),
+        "check" => Some(Ok(check_command(alloc))),
+        "make" => Some(Ok(make_command(alloc))),
+        "pack" => Some(pack_command(alloc)),
+        "replay" => Some(replay_command(alloc)),
+        "wants" => Some(wants_command(alloc)),
+        _ => None,
+    }
 }

@@ -3,6 +3,7 @@
 ghost use Rattle.std.specs.Prelude.{◌≡◌};
 ghost use Rattle.mc_words.specs.declared.fault.WordsFault.TheVariants.{Memory};
 
+use crate::command::{audit_command, program};
 use clap::Command;
 use clap::error::ErrorKind;
 use std::alloc::{AllocError, Global};
@@ -29,6 +30,9 @@ impl From<AllocError> for WordsFault {
 
 /// A refusal of the words, with the text that explains it.
 pub fn refusal(alloc: Global, error: &clap::Error) -> WordsFault {
+    if error.kind() == ErrorKind::OutOfMemory {
+        return WordsFault::Memory;
+    }
     let explained = error
         .to_string(alloc)
         .and_then(|text| text.trim_end().to_string(alloc));
@@ -56,5 +60,20 @@ pub fn wrong_words(
     match explained(command, rule) {
         Ok(error) => refusal(alloc, &error),
         Err(_) => WordsFault::Memory,
+    }
+}
+
+/// The rule of the folder that is to be audited.
+pub const FOLDER_RULE: &str = "<folder> doesn't begin with -; ./-x is the folder -x";
+
+/// A refusal of the program's words, as clap explains it for the program with all commands. Of what no
+/// task has, clap takes only `-` for a folder to be audited.
+pub fn explained_refusal<'a>(alloc: Global, words: &'a [&'a str]) -> WordsFault {
+    let Ok(program) = program(alloc) else {
+        return WordsFault::Memory;
+    };
+    match program.try_get_matches_from(words) {
+        Ok(_) => wrong_words(alloc, audit_command(alloc), FOLDER_RULE),
+        Err(error) => refusal(alloc, &error),
     }
 }

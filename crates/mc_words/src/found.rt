@@ -3,7 +3,7 @@
 ghost use Rattle.std.specs.Prelude.{◌≡◌};
 ghost use Rattle.clap.specs.Matches.{found_of};
 ghost use Rattle.clap.specs.Walk.{rows_of};
-ghost use Rattle.mc_words.specs.Found.{IsFlag, word_of};
+ghost use Rattle.mc_words.specs.Commands.{IsFlag, word_of};
 
 use clap::ArgMatches;
 

@@ -3,6 +3,7 @@
 
 mod audit_words;
 mod command;
+mod draft;
 mod fault;
 mod found;
 mod task;

@@ -1,25 +1,28 @@
 //! What the program's words ask for.
 
 ghost use Rattle.std.specs.Prelude.{◌≡◌, ◌≤◌, ◌↔◌, ℕ, Bool, IsTrue, IfErr, IfOk, IfSome, Ok, Some};
-ghost use Rattle.std.specs.Prelude.{codes, map};
+ghost use Rattle.std.specs.Prelude.{codes, drop, is_some, map, true};
+ghost use Rattle.clap.specs.Simple.{subcommand_rows_of};
 ghost use Rattle.clap.specs.Matches.{found_of};
+ghost use Rattle.clap.specs.Values.{kind_of};
 ghost use Rattle.clap.specs.Walk.{rows_of};
+ghost use Rattle.clap.specs.declared.error.kind.ErrorKind.TheVariants.{OutOfMemory};
 ghost use Rattle.mc_text.specs.Addr.{IsForwardedGroup, IsSource, dotted};
 ghost use Rattle.mc_text.specs.Number.{IsDecimal};
-ghost use Rattle.mc_words.specs.Found.{CanBeAudited};
-ghost use Rattle.mc_words.specs.Task.{AreReplayWords, AreWords, AskForVersion, IsAllowed};
-ghost use Rattle.mc_words.specs.Task.{IsAskedFor, IsTaskOf, order_word};
+ghost use Rattle.mc_words.specs.Task.{AreReplayWords, AreWords, AskForHelp, AskForVersion, IsAllowed};
+ghost use Rattle.mc_words.specs.Task.{IsAskedFor, IsAuditFor, IsClapTask, IsFirst, IsHelp, IsNamed};
+ghost use Rattle.mc_words.specs.Task.{IsTaskOf, is_topic, order_word};
 ghost use Rattle.mc_words.specs.declared.task.Task.{Task};
 ghost use Rattle.mc_words.specs.declared.fault.WordsFault.TheVariants.{Memory};
 
 use crate::audit_words::{AuditWords, audit_words_of};
-use crate::command::{program, replay_command, wants_command};
-use crate::fault::{WordsFault, refusal, wrong_words};
+use crate::command::{clap_program, command_named, program, replay_command, wants_command};
+use crate::fault::{WordsFault, explained_refusal, wrong_words};
 use crate::found::{is_set, word_of};
-use clap::ArgMatches;
 use clap::error::ErrorKind;
+use clap::{ArgMatches, Command};
 use mc_text::{Addr, decimal};
-use std::alloc::Global;
+use std::alloc::{AllocError, Global};
 
 /// What the words ask for.
 #[derive(Debug, Drop, PartialEq, Eq)]
@@ -55,6 +58,8 @@ pub enum Task<'a> {
     /// Which flows of the domain of a folder's files have a certificate, and what a packet meets of
     /// each other one.
     Audit(AuditWords<'a>),
+    /// The help of the program or of one of its commands, which is this text.
+    Help(String),
     /// The version of the program.
     Version,
 }
@@ -113,6 +118,11 @@ fn is_last(word: &str) -> Option<bool>
     }
 }
 
+/// A refusal of the words after `replay`, with the rule that they break.
+fn replay_refusal(alloc: Global, rule: &str) -> WordsFault {
+    wrong_words(alloc, replay_command(alloc), rule)
+}
+
 /// The task of the words after `replay`.
 fn replay_task<'a>(
     alloc: Global,
@@ -127,13 +137,13 @@ fn replay_task<'a>(
         → result ≡ Ok (Task.Replay f t last) }
 {
     let Some(flow) = number_of(flow, 4_096) else {
-        return Err(wrong_words(alloc, replay_command(alloc), FLOW_RULE));
+        return Err(replay_refusal(alloc, FLOW_RULE));
     };
     let Some(ttl) = number_of(ttl, 255) else {
-        return Err(wrong_words(alloc, replay_command(alloc), TTL_RULE));
+        return Err(replay_refusal(alloc, TTL_RULE));
     };
     let Some(last) = is_last(order) else {
-        return Err(wrong_words(alloc, replay_command(alloc), ORDER_RULE));
+        return Err(replay_refusal(alloc, ORDER_RULE));
     };
     let flow = flow as u32;
     let ttl = ttl as u8;
@@ -155,16 +165,6 @@ fn wants_task<'a>(alloc: Global, group: &'a str, source: &'a str) -> Result<Task
         return Err(wrong_words(alloc, wants_command(alloc), SOURCE_RULE));
     };
     Ok(Task::Wants { group, source })
-}
-
-/// The task of the words after `audit`.
-fn audit_task<'a>(alloc: Global, matches: &ArgMatches<'a>) -> Result<Task<'a>, WordsFault>
-    ensures allowed { IfOk result IsAllowed }
-    ensures found { IfOk result (IsTaskOf (codes "audit") (rows_of (found_of matches.now))) }
-    ensures only { CanBeAudited (rows_of (found_of matches.now))
-        → IfErr result (λ fault. fault ≡ Memory) }
-{
-    Ok(Task::Audit(audit_words_of(alloc, matches)?))
 }
 
 /// The task of the words after `pack`.
@@ -191,7 +191,6 @@ fn named_task<'a>(
         → IfErr result (λ fault. fault ≡ Memory) }
 {
     match command {
-        "audit" => audit_task(alloc, words),
         "check" => Ok(Task::Check),
         "make" => Ok(Task::Make),
         "pack" => Ok(pack_task(words)),
@@ -214,8 +213,8 @@ fn no_command(alloc: Global) -> WordsFault {
 /// The task of the command that is found, and of the words after it.
 fn task_of<'a>(alloc: Global, matches: &ArgMatches<'a>) -> Result<Task<'a>, WordsFault>
     ensures allowed { IfOk result IsAllowed }
-    ensures found { IfOk result (IsAskedFor matches.now) }
-    ensures only { (task : Task) → IsAllowed task → IsAskedFor matches.now task
+    ensures found { IfOk result (IsNamed (subcommand_rows_of matches.now)) }
+    ensures only { (task : Task) → IsAllowed task → IsNamed (subcommand_rows_of matches.now) task
         → IfErr result (λ fault. fault ≡ Memory) }
 {
     match matches.subcommand() {
@@ -224,22 +223,107 @@ fn task_of<'a>(alloc: Global, matches: &ArgMatches<'a>) -> Result<Task<'a>, Word
     }
 }
 
+/// A refusal of words in which clap finds an error, as the program with all commands explains it.
+fn clap_refusal<'a>(alloc: Global, words: &'a [&'a str], error: &clap::Error) -> WordsFault
+    ensures { kind_of error.now ≡ OutOfMemory → result ≡ Memory }
+{
+    match error.kind() {
+        ErrorKind::OutOfMemory => WordsFault::Memory,
+        _ => explained_refusal(alloc, words),
+    }
+}
+
+/// The task of words that clap reads.
+fn clap_task<'a>(alloc: Global, words: &'a [&'a str]) -> Result<Task<'a>, WordsFault>
+    ensures allowed { IfOk result IsAllowed }
+    ensures found { IfOk result (IsClapTask (map (λ word. word.now) words.now)) }
+    ensures only { (task : Task) → IsAllowed task
+        → IsClapTask (map (λ word. word.now) words.now) task
+        → IfErr result (λ fault. fault ≡ Memory) }
+{
+    match clap_program(alloc)?.try_get_matches_from(words) {
+        Ok(matches) => task_of(alloc, &matches),
+        Err(error) => Err(clap_refusal(alloc, words, &error)),
+    }
+}
+
+/// The words from a place on.
+fn words_from<'a>(words: &'a [&'a str], place: usize) -> &'a [&'a str]
+    ensures { map (λ word. word.now) result.now ≡ drop place (map (λ word. word.now) words.now) }
+{
+    if words.len() < place {
+        return &[];
+    }
+    words.split_at(place).1
+}
+
+/// The task of the words after `audit`.
+fn audit_task<'a>(alloc: Global, words: &'a [&'a str]) -> Result<Task<'a>, WordsFault>
+    ensures allowed { IfOk result IsAllowed }
+    ensures found { IfOk result (IsAuditFor (drop 2 (map (λ word. word.now) words.now))) }
+    ensures only { (task : Task) → IsAuditFor (drop 2 (map (λ word. word.now) words.now)) task
+        → IfErr result (λ fault. fault ≡ Memory) }
+{
+    Ok(Task::Audit(audit_words_of(alloc, words_from(words, 2), words)?))
+}
+
+const HELP_RULE: &str =
+    "help takes no word or a command's name: audit, check, make, pack, replay or wants";
+
+/// The command whose help the words behind `help` ask for: the program, or the one that they name.
+fn topic_of<'a>(alloc: Global, words: &[&str]) -> Option<Result<Command<'a>, AllocError>>
+    ensures { is_some result ≡ is_topic (map (λ word. word.now) words.now) }
+{
+    match words.len() {
+        0 => Some(program(alloc)),
+        1 => command_named(alloc, words[0]),
+        _ => None,
+    }
+}
+
+/// The text of a command's help.
+fn help_text(command: Result<Command<'_>, AllocError>) -> Result<String, AllocError> {
+    let mut command = command?;
+    command.render_help()
+}
+
+/// The task of the words after `help`.
+fn help_task<'a>(alloc: Global, words: &'a [&'a str]) -> Result<Task<'a>, WordsFault>
+    ensures allowed { IfOk result IsAllowed }
+    ensures found { IfOk result (λ task. IsHelp task
+        × (is_topic (drop 2 (map (λ word. word.now) words.now)) ≡ true)) }
+    ensures only { is_topic (drop 2 (map (λ word. word.now) words.now)) ≡ true
+        → IfErr result (λ fault. fault ≡ Memory) }
+{
+    match topic_of(alloc, words_from(words, 2)) {
+        Some(command) => Ok(Task::Help(help_text(command)?)),
+        None => Err(wrong_words(alloc, program(alloc), HELP_RULE)),
+    }
+}
+
+/// Whether this is the first word behind the program's name.
+fn is_first(word: &str, words: &[&str]) -> bool
+    ensures { IsTrue result ↔ IsFirst word.now (map (λ word. word.now) words.now) }
+{
+    match words.get(1) {
+        Some(first) => *first == word,
+        None => false,
+    }
+}
+
 /// Whether the words ask for the version, by the one behind the program's own name.
 fn ask_for_version(words: &[&str]) -> bool
     ensures { IsTrue result ↔ AskForVersion (map (λ word. word.now) words.now) }
 {
-    match words.get(1) {
-        Some(word) => *word == "--version" || *word == "-V",
-        None => false,
-    }
+    is_first("--version", words) || is_first("-V", words)
 }
 
 /// The task that the program's words ask for. The first word is the program's own name.
 ///
 /// # Errors
 ///
-/// `Wrong`, with the text that tells how the program is used, where the words give no task or ask for
-/// help, and `Memory` where memory runs out.
+/// `Wrong`, with the text that tells how the program is used, where the words give no task, and `Memory`
+/// where memory runs out.
 pub fn command_of<'a>(alloc: Global, words: &'a [&'a str]) -> Result<Task<'a>, WordsFault>
     // A task is given only with a group that routers forward and an address that a host may send
     // from, with a flow's number from 1 to 4,096 and a time to live from 1 to 255, and with a folder
@@ -249,13 +333,22 @@ pub fn command_of<'a>(alloc: Global, words: &'a [&'a str]) -> Result<Task<'a>, W
     // The version is asked for by `--version` or `-V` as the first word behind the name, whatever
     // stands behind it, and by nothing else.
     ensures version { (result ≡ Ok Task.Version) ↔ AskForVersion (map (λ word. word.now) words.now) }
+    // The words ask for the task that is given: behind `audit` by a definition of their own, else as
+    // clap finds the command and its values in them.
+    ensures found { IfOk result (IsAskedFor (map (λ word. word.now) words.now)) }
+    // A task that the words ask for is given, unless memory runs out.
+    ensures only { (task : Task) → IsAllowed task
+        → IsAskedFor (map (λ word. word.now) words.now) task
+        → IfErr result (λ fault. fault ≡ Memory) }
 {
     if ask_for_version(words) {
         return Ok(Task::Version);
     }
-    match program(alloc)?.try_get_matches_from(words) {
-        Ok(matches) => task_of(alloc, &matches),
-        Err(error) if error.kind() == ErrorKind::OutOfMemory => Err(WordsFault::Memory),
-        Err(error) => Err(refusal(alloc, &error)),
+    if is_first("help", words) {
+        return help_task(alloc, words);
     }
+    if is_first("audit", words) {
+        return audit_task(alloc, words);
+    }
+    clap_task(alloc, words)
 }

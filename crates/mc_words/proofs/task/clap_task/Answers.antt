@@ -1,0 +1,24 @@
+use Rattle.std.proofs.Common.{map}
+use Rattle.std.proofs.lemmas.Result.{IfOk-weaker}
+use Rattle.clap.specs.declared.parser.matches.ArgMatches.{ArgMatches}
+use Rattle.mc_words.proofs.ClapLemmas.{found_subcommand, refused, taken}
+use Rattle.mc_words.proofs.task.clap_task.Goals as goal
+
+pub returns-in-Ok-clause-found : goal.returns-in-Ok-clause-found
+returns-in-Ok-clause-found c =
+    let words = map (λ word. word.now) c.args.words.now in
+    let program = c.in_ok-clap_program in
+    let found = found_subcommand program.field-0 words c.in-Ok.matches program.ensures c.in-Ok.ensures.matches in
+    IfOk-weaker c.task_of.result _ _
+    (λ task named. (
+      taken program.field-0 words c.in-Ok.matches program.ensures c.in-Ok.ensures.kinds,
+      (rw (← found) named),
+    ))
+    c.task_of.ensures.found
+
+pub returns-in-Err-clause-only : goal.returns-in-Err-clause-only
+returns-in-Err-clause-only c = λ task allowed asked.
+    let words = map (λ word. word.now) c.args.words.now in
+    let program = c.in_ok-clap_program in
+    c.clap_refusal.ensures
+    (refused ArgMatches program.field-0 words c.in-Err.error program.ensures c.in-Err.ensures.kinds asked.0)

@@ -1,0 +1,28 @@
+use Rattle.std.proofs.Common.{List, ℕ, map, sym, ◌∙◌}
+use Rattle.std.proofs.lemmas.Bool.{false≢true}
+use Rattle.std.proofs.lemmas.Result.{IfOk-weaker}
+use Rattle.mc_words.specs.Task.{AskForVersion}
+use Rattle.mc_words.proofs.FirstWordLemmas.{audit_asks, help_asks, help_is_asked, no_version}
+use Rattle.mc_words.proofs.task.command_of.Goals as goal
+
+pub returns-then-is_first : goal.returns-then-is_first
+returns-then-is_first c =
+    let words : List (List ℕ) = map (λ word. word.now) c.args.words.now in
+    let first = c.is_first.ensures.0 c.if-is_first.true in
+    let other : AskForVersion words → ⊥ =
+    λ asked. false≢true (sym c.if-ask_for_version.false ∙ c.ask_for_version.ensures.1 asked) in
+    let found = c.help_task.ensures.found in
+    record {
+      allowed = c.help_task.ensures.allowed;
+      version = (λ is. absurd (no_version c.help_task.result _ (λ help. help.0) found is), λ asked. absurd (other asked));
+      found = IfOk-weaker c.help_task.result _ _ (help_is_asked words first) found;
+      only = λ task allowed asked. c.help_task.ensures.only (help_asks words first other task asked);
+    }
+
+pub returns-then-is_first-2-clause-only : goal.returns-then-is_first-2-clause-only
+returns-then-is_first-2-clause-only c =
+    let words : List (List ℕ) = map (λ word. word.now) c.args.words.now in
+    let first = c.is_first-2.ensures.0 c.if-is_first-2.true in
+    let other : AskForVersion words → ⊥ =
+    λ asked. false≢true (sym c.if-ask_for_version.false ∙ c.ask_for_version.ensures.1 asked) in
+    λ task allowed asked. c.audit_task.ensures.only task (audit_asks words first other task asked)

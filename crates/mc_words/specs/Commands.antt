@@ -1,0 +1,95 @@
+-- The commands whose words clap reads, which are all but `audit`, and what it finds in words.
+use Rattle.std.specs.Prelude.{◌≡◌, List, ℕ, Bool, true, false, [], ◌∷◌, Some, None, Option, codes}
+use Rattle.std.specs.Prelude.{unwrap_or}
+use Rattle.std.specs.List.{list_any}
+use Rattle.std.specs.Str.{bytes_eq}
+use Rattle.clap.specs.Faults.{fault_of}
+use Rattle.clap.specs.Simple.{App, Shape, app_of, new_rule, new_shape, subcommand_of}
+use Rattle.clap.specs.Walk.{Row, Rule, first_of, one_of}
+use Rattle.clap.specs.declared.builder.action.ArgAction.TheVariants.{SetTrue}
+use Rattle.clap.specs.declared.builder.command.Command.{Command}
+use Rattle.clap.specs.declared.builder.command.Command.TheViews.{out-Command}
+
+-- `<name>`, which has to be there
+abbrev pub required_rule : List ℕ → Rule
+required_rule name = record (new_rule name) { required = true }
+
+-- `--name`, once or not at all
+abbrev pub flag_rule : List ℕ → Rule
+flag_rule name = record (new_rule name) { long = Some name; action = Some SetTrue }
+
+-- `--name` and its value, once or not at all, where this value stands for none
+abbrev pub option_rule : List ℕ → List ℕ → Rule
+option_rule name value = record (new_rule name) { long = Some name; defaults = value ∷ [] }
+
+abbrev pub command_shape : List ℕ → List Rule → Shape
+command_shape name rules = record (new_shape name) { rules = rules }
+
+abbrev pub check_shape : Shape
+check_shape = command_shape (codes "check") []
+
+abbrev pub make_shape : Shape
+make_shape = command_shape (codes "make") []
+
+abbrev pub pack_shape : Shape
+pack_shape = command_shape (codes "pack")
+    (required_rule (codes "folder") ∷ flag_rule (codes "certificate") ∷ [])
+
+abbrev pub replay_shape : Shape
+replay_shape = command_shape (codes "replay")
+    (required_rule (codes "flow") ∷ required_rule (codes "ttl")
+    ∷ option_rule (codes "order") (codes "first") ∷ [])
+
+abbrev pub wants_shape : Shape
+wants_shape = command_shape (codes "wants")
+    (required_rule (codes "group") ∷ required_rule (codes "source") ∷ [])
+
+-- the program, of which a command has to be named
+abbrev pub program_shape : Shape
+program_shape = record (new_shape (codes "mcaudit")) {
+  subcommand_required = true;
+  arg_required_else_help = true;
+  disable_help_subcommand = true;
+}
+
+-- the program with its commands but `audit`
+abbrev pub commands : App
+commands = record {
+  top = record program_shape { is_leaf = false };
+  subs = check_shape ∷ make_shape ∷ pack_shape ∷ replay_shape ∷ wants_shape ∷ [];
+}
+
+-- the names of all commands
+abbrev pub command_names : List (List ℕ)
+command_names = codes "audit" ∷ codes "check" ∷ codes "make" ∷ codes "pack" ∷ codes "replay"
+    ∷ codes "wants" ∷ []
+
+abbrev pub is_command : List ℕ → Bool
+is_command name = list_any (λ command. bytes_eq name command) command_names
+
+-- the command is this one, and has no argument that is global
+pub record IsCommand (app : App) (command : Command) : Type 0 where
+  pub same : app_of command ≡ app
+  pub local : (out-Command command).has_globals ≡ false
+
+-- the command has this shape, and none below it
+abbrev pub IsLeaf : Shape → Command → Type 0
+IsLeaf shape = IsCommand (record { top = shape; subs = [] })
+
+-- clap finds no fault in the program's words
+abbrev pub AreTaken : List (List ℕ) → Type 0
+AreTaken words = fault_of commands words ≡ []
+
+-- the command that clap finds in the words, and what it finds behind it
+abbrev pub found_in : List (List ℕ) → Option (List ℕ × List Row)
+found_in = subcommand_of commands
+
+-- the argument's word, which is empty where there is none
+abbrev pub word_of : List Row → List ℕ → List ℕ
+word_of rows name = unwrap_or (first_of name rows) []
+
+-- the flag is set where it is found as set, and not where it is found as not set or isn't found
+pub record IsFlag (rows : List Row) (name : List ℕ) (flag : Bool) : Type 0 where
+  pub set : one_of name rows ≡ Some (codes "true") → flag ≡ true
+  pub unset : one_of name rows ≡ Some (codes "false") → flag ≡ false
+  pub absent : one_of name rows ≡ None → flag ≡ false

@@ -1,6 +1,7 @@
 mod BundleStand
 mod ComingLemmas
 mod Counted
+mod FaultLemmas
 mod FeedLemmas
 mod FilesFeedLemmas
 mod FilesLemmas
@@ -14,8 +15,10 @@ mod MeansLemmas
 mod NotesLemmas
 mod NothingLemmas
 mod OneInput
+pub mod PartLemmas
 mod ReadLemmas
 mod ReadingLemmas
+mod RefusedLemmas
 mod ServedLemmas
 mod TakenLemmas
 mod TurnLemmas

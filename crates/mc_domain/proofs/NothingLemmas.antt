@@ -49,7 +49,7 @@ some_is : (x y : TablesValue) → Some x ≡ Some y → x ≡ y
 some_is x y e = cc
 
 module _ (source : ℕ → Slot → Result PartText SourceFault) where
-  first-of : (n : ℕ) (own : RouterRow) (rs : List RouterRow) (ts : List TablesValue)
+  pub first-of : (n : ℕ) (own : RouterRow) (rs : List RouterRow) (ts : List TablesValue)
       → all_tables Input source n (own ∷ rs) ≡ Ok ts
       → (t : TablesValue) × (others : List TablesValue)
       × (router_tables Input source n own.name own.order ≡ Ok t)
@@ -88,6 +88,7 @@ module _ (source : ℕ → Slot → Result PartText SourceFault) where
 
   contents_tables : (t : TopologyValue) (v : InputValue) → contents Input source t ≡ Ok v
       → (v.topology ≡ t) × (all_tables Input source 1 t.routers ≡ Ok v.tables)
+      × (all_reports Input source (lans_number t) t.lans ≡ Ok v.reports)
   unfolding contents
   contents_tables t v e =
       let make : List TablesValue → List (List Record) → InputValue = λ tables reports.
@@ -101,6 +102,7 @@ module _ (source : ℕ → Slot → Result PartText SourceFault) where
       ok_is {E = SourceFault} (make tables.0 reports.0) v reports.2 in (
         sym (ap (λ (v : InputValue). v.topology) whole),
         tables.1 ∙ ap (λ (v : InputValue). Ok v.tables) whole,
+        reports.1 ∙ ap (λ (v : InputValue). Ok v.reports) whole,
       )
 
   pub read_topology : (v : InputValue) → reading Input source (λ t. Ok tt) ≡ Ok v
@@ -111,7 +113,7 @@ module _ (source : ℕ → Slot → Result PartText SourceFault) where
       (λ t. contents Input source t) v e in
       topology.1 ∙ ap Ok (sym (contents_tables topology.0 v topology.2).0)
 
-  read_tables : (v : InputValue) → reading Input source (λ t. Ok tt) ≡ Ok v
+  pub read_tables : (v : InputValue) → reading Input source (λ t. Ok tt) ≡ Ok v
       → all_tables Input source 1 v.topology.routers ≡ Ok v.tables
   unfolding reading
   read_tables v e =
@@ -120,6 +122,16 @@ module _ (source : ℕ → Slot → Result PartText SourceFault) where
       let both = contents_tables topology.0 v topology.2 in
       subst (λ (t : TopologyValue). all_tables Input source 1 t.routers ≡ Ok v.tables) (sym both.0)
       both.1
+
+  pub read_reports : (v : InputValue) → reading Input source (λ t. Ok tt) ≡ Ok v
+      → all_reports Input source (lans_number v.topology) v.topology.lans ≡ Ok v.reports
+  unfolding reading
+  read_reports v e =
+      let topology = bind_ok (told_by Input (source 0 topology_slot) topology_of)
+      (λ t. contents Input source t) v e in
+      let all = contents_tables topology.0 v topology.2 in
+      subst (λ (t : TopologyValue). all_reports Input source (lans_number t) t.lans ≡ Ok v.reports)
+      (sym all.0) all.2
 
 -- ---- a router that is left out
 
@@ -149,27 +161,24 @@ router-of None name e = absurd cc
 router-of (Some r) name e = (r, refl, cc)
 
 module _ (names : List (List ℕ)) (files : List FileText) (d : DomainValue) (router : ℕ)
-    (name : List ℕ) (means : FilesMeanListed (left_out_files names files) d)
-    (named : Contains names name)
-    (own : option_map (λ r. r.name) (slice_get d.topology.routers router) ≡ Some name) where
+    (row : RouterRow) (means : FilesMeanListed (left_out_files names files) d)
+    (here : slice_get d.topology.routers router ≡ Some row) (is : is_named names row.name ≡ true) where
   none_told : (t : TablesValue) → slice_get means.whole.tables router ≡ Some t → no_tables ≡ t
-  none_told t here =
+  none_told t there =
       let input = means.means.input in
       let whole = means.means.assembled in
       let source = part_filed (left_out_files names files) in
-      let row = router-of (slice_get d.topology.routers router) name own in
       let at = ap (λ (t : TopologyValue). slice_get t.routers router)
-      (sym whole.topology ∙ means.same.topology) ∙ row.1 in
-      let own_tables = tables-at source 1 input.topology.routers input.tables router row.0 t
+      (sym whole.topology ∙ means.same.topology) ∙ here in
+      let own_tables = tables-at source 1 input.topology.routers input.tables router row t
       (read_tables source input (files_again (left_out_files names files) input means.means.stands)) at
-      (ap (λ (ts : List TablesValue). slice_get ts router) (sym whole.tables) ∙ here) in
-      let is = subst (λ (n : List ℕ). is_named names n ≡ true) (sym row.2) (is_named_of names name named) in
+      (ap (λ (ts : List TablesValue). slice_get ts router) (sym whole.tables) ∙ there) in
       ok_is {E = SourceFault} no_tables t
-      (sym (bare_read (left_out_files names files) own_tables.0 row.0.name row.0.order
-      (named_vif names files row.0.name is) (named_cache names files row.0.name is)) ∙ own_tables.1)
+      (sym (bare_read (left_out_files names files) own_tables.0 row.name row.order
+      (named_vif names files row.name is) (named_cache names files row.name is)) ∙ own_tables.1)
 
-  pub has_nothing : HasNothing d router
-  has_nothing =
+  pub has_nothing_at : HasNothing d router
+  has_nothing_at =
       let whole = means.whole in
       let vifs : (vif : ℕ) → vif_of d.tables router vif ≡ None = λ vif.
       sym (means.same.vifs router vif) ∙ no_vif (slice_get whole.tables router) none_told vif in
@@ -180,3 +189,12 @@ module _ (names : List (List ℕ)) (files : List FileText) (d : DomainValue) (ro
             sym (ap (λ (net : Net). net.row router) (means.same.nets flow))
             ∙ no_row (slice_get whole.tables router) none_told (slice_get whole.topology.flows flow);
       }
+
+pub has_nothing : (names : List (List ℕ)) (files : List FileText) (d : DomainValue) (router : ℕ)
+    (name : List ℕ) → FilesMeanListed (left_out_files names files) d → Contains names name
+    → option_map (λ r. r.name) (slice_get d.topology.routers router) ≡ Some name
+    → HasNothing d router
+has_nothing names files d router name means named own =
+    let row = router-of (slice_get d.topology.routers router) name own in
+    has_nothing_at names files d router row.0 means row.1
+    (subst (λ (n : List ℕ). is_named names n ≡ true) (sym row.2) (is_named_of names name named))

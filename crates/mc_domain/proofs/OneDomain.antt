@@ -8,7 +8,7 @@ use Rattle.mc_igmp.specs.Wants.{Wants}
 use Rattle.mc_layout.specs.Files.{FileText}
 use Rattle.mc_topology.specs.Topology.{TopologyValue}
 use Rattle.mc_forward.specs.Assembling.{IsAssembled}
-use Rattle.mc_forward.specs.Domains.{DomainValue, IsDomain, wants_of}
+use Rattle.mc_forward.specs.Domains.{DomainValue, IsDomain, TablesValue, wants_of}
 use Rattle.mc_forward.proofs.EachLemmas.{some-at}
 use Rattle.mc_domain.specs.Input.{InputValue, PartsStand}
 use Rattle.mc_domain.specs.Meaning.{MeansDomain, MeansFiles}
@@ -41,10 +41,12 @@ wants_is d lan flow row b at here =
     ap (λ (bs : List Bool). slice_index_or bs flow false) (get_or_from_slice_get d.wants lan row [] at)
     ∙ get_or_from_slice_get row flow b false here
 
-wants_same : (v : InputValue) (d e : DomainValue) → IsDomain d → IsDomain e
-    → length v.reports ≡ length v.topology.lans → IsAssembled v.topology v.tables v.reports d
-    → IsAssembled v.topology v.tables v.reports e → d.wants ≡ e.wants
-wants_same v d e ok_d ok_e count is_d is_e =
+-- whatever the routers' tables are
+pub wants_same : (v : InputValue) (others : List TablesValue) (d e : DomainValue) → IsDomain d
+    → IsDomain e → length v.reports ≡ length v.topology.lans
+    → IsAssembled v.topology v.tables v.reports d → IsAssembled v.topology others v.reports e
+    → d.wants ≡ e.wants
+wants_same v others d e ok_d ok_e count is_d is_e =
     let lans_d : length d.wants ≡ length v.topology.lans =
     ok_d.lans ∙ ap (λ (t : TopologyValue). length t.lans) is_d.topology in
     let lans_e : length e.wants ≡ length v.topology.lans =
@@ -72,7 +74,7 @@ domain_same : (v : InputValue) (d e : DomainValue) → IsDomain d → IsDomain e
 domain_same v d e ok_d ok_e count is_d is_e =
     let topology : d.topology ≡ e.topology = is_d.topology ∙ sym is_e.topology in
     let tables : d.tables ≡ e.tables = is_d.tables ∙ sym is_e.tables in
-    let wants : d.wants ≡ e.wants = wants_same v d e ok_d ok_e count is_d is_e in
+    let wants : d.wants ≡ e.wants = wants_same v v.tables d e ok_d ok_e count is_d is_e in
     λ i. record { topology = topology i; tables = tables i; wants = wants i }
 
 -- the domains of two inputs that are the same

@@ -8,7 +8,7 @@ use Rattle.mc_igmp.specs.declared.record.Record.{Record}
 use Rattle.mc_igmp.specs.ReportList.{IsReportList}
 use Rattle.mc_topology.specs.Rows.{RouterRow}
 use Rattle.mc_topology.specs.Topology.{TopologyValue}
-use Rattle.mc_topology.specs.Stands.{TopologyStands}
+use Rattle.mc_topology.specs.Stands.{BoundedTopology}
 use Rattle.mc_layout.specs.Layout.{part_name, topology_slot, vif_slot, cache_slot, reports_slot}
 use Rattle.mc_layout.specs.Layout.{certificate_slot}
 use Rattle.mc_forward.specs.Domains.{TablesValue}
@@ -61,7 +61,7 @@ pub record PartsStand (parts : List PartText) (input : InputValue)
   pub of_lans : List PartText
   pub last : List PartText
   pub in_order : parts ≡ (record { name = part_name topology_slot; bytes = topology }) ∷ of_routers
-  pub topology_stands : TopologyStands topology input.topology
+  pub topology_stands : BoundedTopology topology input.topology
   pub tables : TellTables input.topology.routers of_routers input.tables of_lans
   pub reports : TellReports input.topology.lans of_lans input.reports last
   pub certificate_told : TellCertificate last certificate

@@ -1,10 +1,13 @@
 -- Routers that are left out of a domain: their files are read as those of kernels that show no vif
 -- and no row, whatever stands in the folder.
-use Rattle.std.specs.Prelude.{◌≡◌, ℕ, ◌+◌, min, Bool, false, IsTrue, List, [], ◌∷◌, ◌++◌, codes}
-use Rattle.std.specs.Prelude.{flat_map, None, Result, Ok, Err, if◌then◌else◌}
-use Rattle.std.specs.List.{AllByRecursion}
+use Rattle.std.specs.Prelude.{◌≡◌, ℕ, ◌+◌, min, Bool, true, false, IsTrue, List, [], ◌∷◌, ◌++◌, codes}
+use Rattle.std.specs.Prelude.{flat_map, Option, None, Some, Result, Ok, Err, if◌then◌else◌}
+use Rattle.std.specs.Prelude.{slice_get}
+use Rattle.std.specs.List.{AllByRecursion, list_any}
+use Rattle.std.specs.Str.{bytes_eq}
 use Rattle.mc_text.specs.Steps.{◌>>=◌, refused_as}
 use Rattle.mc_topology.specs.Lookup.{has_router}
+use Rattle.mc_topology.specs.Rows.{RouterRow}
 use Rattle.mc_topology.specs.Topology.{TopologyValue}
 use Rattle.mc_layout.specs.Files.{FileText}
 use Rattle.mc_layout.specs.Layout.{cache_slot, file_name, topology_slot, vif_slot}
@@ -13,7 +16,7 @@ use Rattle.mc_forward.specs.Domains.{DomainValue, placed_of, row_of, vif_of}
 use Rattle.mc_domain.specs.FilesReading.{files_of, part_filed}
 use Rattle.mc_domain.specs.Input.{InputValue}
 use Rattle.mc_domain.specs.PartsReading.{told_by, topology_of}
-use Rattle.mc_domain.specs.SourceFault.{IsSilent, is_read}
+use Rattle.mc_domain.specs.SourceFault.{IsSilent, is_of_files, is_read}
 use Rattle.mc_domain.specs.declared.source_fault.SourceFault.TheVariants.{Input}
 use Rattle.mc_domain.specs.declared.without_fault.WithoutFault.{WithoutFault}
 use Rattle.mc_domain.specs.declared.without_fault.WithoutFault.TheVariants.{Source, NoSuchRouter}
@@ -53,6 +56,14 @@ each_named t n (name ∷ names) =
     if has_router name t.routers then each_named t (n + 1) names
     else Err (NoSuchRouter (min n 4294967295))
 
+-- whether the router with this number has one of the names
+abbrev pub has_name_among : (names : List (List ℕ)) → Option RouterRow → Bool
+has_name_among names None = false
+has_name_among names (Some r) = list_any (λ name. bytes_eq name r.name) names
+
+abbrev pub is_left_out : TopologyValue → (names : List (List ℕ)) → (router : ℕ) → Bool
+is_left_out t names router = has_name_among names (slice_get t.routers router)
+
 -- ---- the whole
 
 -- The input of a folder's files, with the routers of these names left out, or the first reason why
@@ -72,6 +83,11 @@ IsSilentWithout (NoSuchRouter n) = ⊥
 abbrev pub is_read_without : WithoutFault → Bool
 is_read_without (Source fault) = is_read fault
 is_read_without (NoSuchRouter n) = false
+
+-- files can have it, of which routers are left out
+abbrev pub is_of_files_without : WithoutFault → Bool
+is_of_files_without (Source fault) = is_of_files fault
+is_of_files_without (NoSuchRouter n) = true
 
 -- ---- what is known of a router that is left out
 

@@ -4,6 +4,7 @@ pub mod InputView
 pub mod Kept
 pub mod PartsInTurn
 pub mod PartsReading
+pub mod RefusedFiles
 pub mod SourceFault
 pub mod FilesInput
 pub mod FilesReading

@@ -8,7 +8,7 @@ use Rattle.mc_layout.specs.Files as Files
 use Rattle.mc_layout.specs.Files.{FileText}
 use Rattle.mc_layout.specs.declared.fault.FileFault.{FileFault}
 use Rattle.mc_layout.specs.declared.fault.FileFault.TheVariants as file
-use Rattle.mc_domain.specs.declared.fault.InputFault.TheVariants.{Bundle, Memory}
+use Rattle.mc_domain.specs.declared.fault.InputFault.TheVariants.{Bundle, Memory, Parts}
 use Rattle.mc_domain.specs.declared.source_fault.SourceFault.{SourceFault}
 use Rattle.mc_domain.specs.declared.source_fault.SourceFault.TheVariants.{Input, Read}
 
@@ -41,3 +41,11 @@ GivesOf = Files.GivesOf IsSilent
 abbrev pub is_read : SourceFault → Bool
 is_read Read = true
 is_read fault = false
+
+-- A folder's files can have it: it is no fault of a bundle's framing, but that something is too large
+-- for a part, and none of the parts' names.
+abbrev pub is_of_files : SourceFault → Bool
+is_of_files (Input (Bundle bundle.TooLarge)) = true
+is_of_files (Input (Bundle fault)) = false
+is_of_files (Input (Parts place)) = false
+is_of_files fault = true

@@ -1,7 +1,7 @@
 //! The domain that a bundle or a folder's files mean, put together of what they tell.
 
 ghost use Rattle.std.specs.Prelude.{◌≡◌, ◌<◌, ℕ, Err, IfErr, IfOk, IfSome, List, MatchResult, Option};
-ghost use Rattle.std.specs.Prelude.{Ok, Some, is_some, length, map};
+ghost use Rattle.std.specs.Prelude.{Ok, Some, is_some, length, map, true};
 ghost use Rattle.mc_text.specs.Bundle.{max_input};
 ghost use Rattle.mc_text.specs.Device.{counted};
 ghost use Rattle.mc_text.specs.PartsToCome.{GoesOn};
@@ -16,12 +16,12 @@ ghost use Rattle.mc_domain.specs.InputReading.{input_of};
 ghost use Rattle.mc_domain.specs.InputView.{text_seen};
 ghost use Rattle.mc_domain.specs.Kept.{IsDomainOf, GivesKeptOf};
 ghost use Rattle.mc_domain.specs.LeftOut.{AreRouters, IsSilentWithout, files_without, is_read_without};
-ghost use Rattle.mc_domain.specs.LeftOut.{left_out_files};
+ghost use Rattle.mc_domain.specs.LeftOut.{is_of_files_without, left_out_files};
 ghost use Rattle.mc_domain.specs.Meaning.{FilesMeanListed, MeansDomain, MeansFiles, MeansListed};
 ghost use Rattle.mc_domain.specs.NotesOfFiles.{AreNotesOf};
 ghost use Rattle.mc_domain.specs.PartsInTurn.{IsReadOf, Refuses, told_in};
 ghost use Rattle.mc_domain.specs.PartsReading.{contents};
-ghost use Rattle.mc_domain.specs.SourceFault.{IsSilent, is_read};
+ghost use Rattle.mc_domain.specs.SourceFault.{IsSilent, is_of_files, is_read};
 ghost use Rattle.mc_domain.specs.declared.source_fault.SourceFault.TheVariants.{Input as refused};
 
 use crate::bundle::contents_in;
@@ -181,6 +181,7 @@ fn rest_through<F: PieceSource>(
     ensures notes { (told : List FileText) → F.told files.old ≡ Some told → IfOk result (λ read.
         AreNotesOf all (left_out_files (map (λ n. n.now) without.now) told)
         read.domain.topology read.notes.items) }
+    ensures faults { IfErr result (λ fault. is_of_files fault ≡ true) }
     ensures failures { F.failed files.new ≡ counted is_read result (F.failed files.old) }
 {
     let listed = contents_of_files(alloc, files, buffer, &topology, without, all)?;
@@ -212,6 +213,7 @@ fn files_through<F: PieceSource>(
         read.domain.topology read.notes.items) }
     ensures fault { (told : List FileText) → F.told files.old ≡ Some told → IfErr result (λ fault.
         ¬ IsSilentWithout fault → files_without (map (λ n. n.now) without.now) told ≡ Err fault) }
+    ensures faults { IfErr result (λ fault. is_of_files_without fault ≡ true) }
     ensures failures { F.failed files.new ≡ counted is_read_without result (F.failed files.old) }
 {
     let topology = topology_of_files(alloc, files)?;
@@ -264,6 +266,8 @@ pub fn noted_domain_without<F: PieceSource>(
     // Which fault it is, unless the source fails or memory runs out.
     ensures fault { IfErr result (λ fault. IfSome (F.told files.old) (λ told.
         ¬ IsSilentWithout fault → files_without (map (λ n. n.now) without.now) told ≡ Err fault)) }
+    // It is none of a bundle's, but that something is too large for one.
+    ensures faults { IfErr result (λ fault. is_of_files_without fault ≡ true) }
     // A file is unread only where the source's failures rose in the call.
     ensures failures { F.failed files.new ≡ counted is_read_without result (F.failed files.old) }
 {

@@ -1,11 +1,11 @@
 //! What is kept of what one file of a folder tells, as the part that it makes.
 
-ghost use Rattle.std.specs.Prelude.{◌≡◌, ◌<◌, ℕ, List, IfOk, IsTrue, length};
+ghost use Rattle.std.specs.Prelude.{◌≡◌, ◌<◌, ℕ, List, IfErr, IfOk, IsTrue, length, true};
 ghost use Rattle.mc_text.specs.Device.{counted};
 ghost use Rattle.mc_topology.specs.Names.{is_name};
 ghost use Rattle.mc_forward.specs.Assembling.{AreChannelsWanted};
 ghost use Rattle.mc_layout.specs.Layout.{cache_slot, reports_slot, topology_slot, vif_slot};
-ghost use Rattle.mc_domain.specs.SourceFault.{GivesOf, is_read};
+ghost use Rattle.mc_domain.specs.SourceFault.{GivesOf, is_of_files, is_read};
 ghost use Rattle.mc_domain.specs.FilesReading.{part_filed};
 ghost use Rattle.mc_domain.specs.Kept.{AreSamePairs, GivesKeptOf};
 ghost use Rattle.mc_domain.specs.PartsReading.{noted_of as told_noted, reports_of as told_reports, told_by};
@@ -33,6 +33,7 @@ pub(crate) fn topology_in<F: FileSource>(
     ensures kept { F.told files.new ≡ F.told files.old }
     ensures topology { (n : ℕ) → GivesOf (F.told files.old) (λ topology. topology) result
         (λ told. told_by Input (part_filed told n topology_slot) told_topology) }
+    ensures faults { IfErr result (λ fault. is_of_files fault ≡ true) }
     ensures failures { F.failed files.new ≡ counted is_read result (F.failed files.old) }
 {
     let part = part_of_file(alloc, files, &Slot::topology())?;
@@ -53,6 +54,7 @@ pub(crate) fn vifs_in<F: PieceSource>(
     ensures kept { F.told files.new ≡ F.told files.old }
     ensures vifs { (n : ℕ) → GivesKeptOf (F.told files.old) (λ kept vifs. kept ≡ vifs) result
         (λ told. told_by Input (part_filed told n (vif_slot router.now)) told_vifs) }
+    ensures faults { IfErr result (λ fault. is_of_files fault ≡ true) }
     ensures failures { F.failed files.new ≡ counted is_read result (F.failed files.old) }
 {
     let mut reader = VifReader::new(alloc);
@@ -80,6 +82,7 @@ pub(crate) fn cache_in<F: PieceSource>(
     ensures cache { (n : ℕ) (pairs : List (ℕ × ℕ)) → AreSamePairs listed.now pairs →
         GivesKeptOf (F.told files.old) (λ kept noted. kept ≡ noted) result (λ told.
         told_by Input (part_filed told n (cache_slot router.now)) (told_noted all order pairs)) }
+    ensures faults { IfErr result (λ fault. is_of_files fault ≡ true) }
     ensures failures { F.failed files.new ≡ counted is_read result (F.failed files.old) }
 {
     let mut reader = NotedReader::new(alloc, order, listed.clone()?, all);
@@ -104,6 +107,7 @@ pub(crate) fn wanted_in<F: PieceSource>(
         (λ wanted records. AreChannelsWanted channels.now records wanted) result
         (λ told. told_by Input (part_filed told n (reports_slot lan.now)) told_reports) }
     ensures count { IfOk result (λ wanted. length wanted ≡ length channels.now) }
+    ensures faults { IfErr result (λ fault. is_of_files fault ≡ true) }
     ensures failures { F.failed files.new ≡ counted is_read result (F.failed files.old) }
 {
     let mut reader = ListReader::new(alloc);

@@ -2,7 +2,7 @@
 //! before the next one is asked for, its text is let go, and of a table the rows of listed flows are
 //! kept, with what is noted of all. Of routers that are left out no file is asked for.
 
-ghost use Rattle.std.specs.Prelude.{◌≡◌, ◌<◌, ℕ, List, IfOk, IsTrue, Some, length, map};
+ghost use Rattle.std.specs.Prelude.{◌≡◌, ◌<◌, ℕ, List, IfErr, IfOk, IsTrue, Some, length, map, true};
 ghost use Rattle.mc_text.specs.Device.{counted};
 ghost use Rattle.mc_topology.specs.Names.{is_name};
 ghost use Rattle.mc_topology.specs.Rows.{RouterRow};
@@ -10,7 +10,7 @@ ghost use Rattle.mc_topology.specs.declared.flow.Flow.{Flow};
 ghost use Rattle.mc_forward.specs.Assembling.{AreAnswers};
 ghost use Rattle.mc_forward.specs.ListedTables.{AreListed, AreListedTables};
 ghost use Rattle.mc_layout.specs.Files.{FileText};
-ghost use Rattle.mc_domain.specs.SourceFault.{is_read};
+ghost use Rattle.mc_domain.specs.SourceFault.{is_of_files, is_read};
 ghost use Rattle.mc_domain.specs.FilesReading.{part_filed};
 ghost use Rattle.mc_domain.specs.Kept.{AreFlowPairs, AreWantedBy, IsListedOf, GivesKeptOf};
 ghost use Rattle.mc_domain.specs.LeftOut.{left_out_files};
@@ -62,6 +62,7 @@ pub(crate) fn tables_of<F: PieceSource>(
     ensures notes { (flows : List Flow) (told : List FileText) → AreFlowPairs flows listed.now →
         F.told files.old ≡ Some told → IfOk result (λ read. (r : RouterRow) →
         r.name ≡ router.now → r.order ≡ order → AreNotes all told flows r read.1) }
+    ensures faults { IfErr result (λ fault. is_of_files fault ≡ true) }
     ensures failures { F.failed files.new ≡ counted is_read result (F.failed files.old) }
 {
     let vifs = vifs_in(alloc, files, buffer, router)?;
@@ -94,6 +95,7 @@ fn own_tables<F: PieceSource>(
         F.told files.old ≡ Some told → IfOk result (λ read. (r : RouterRow) →
         r.name ≡ router.now → r.order ≡ order →
         AreNotes all (left_out_files (map (λ n. n.now) without.now) told) flows r read.1) }
+    ensures faults { IfErr result (λ fault. is_of_files fault ≡ true) }
     ensures failures { F.failed files.new ≡ counted is_read result (F.failed files.old) }
 {
     if is_left_out(without, router) {
@@ -123,6 +125,7 @@ fn tables_in<F: PieceSource>(
         IfOk result (λ read. AreNotesOf all (left_out_files (map (λ n. n.now) without.now) told)
         topology.now read.1.items) }
     ensures count { IfOk result (λ read. length read.0.items ≡ length topology.now.routers) }
+    ensures faults { IfErr result (λ fault. is_of_files fault ≡ true) }
     ensures failures { F.failed files.new ≡ counted is_read result (F.failed files.old) }
 {
     let listed = noted_flows(alloc, topology)?;
@@ -153,6 +156,7 @@ fn wants_in<F: PieceSource>(
         (λ wants reports. AreWantedBy topology.now reports wants.items) result
         (λ told. all_reports Input (part_filed told) (lans_number topology.now) topology.now.lans) }
     ensures answers { IfOk result (λ wants. AreAnswers topology.now wants.items) }
+    ensures faults { IfErr result (λ fault. is_of_files fault ≡ true) }
     ensures failures { F.failed files.new ≡ counted is_read result (F.failed files.old) }
 {
     let channels = FlowChannels::of(alloc, topology)?;
@@ -188,6 +192,7 @@ pub(crate) fn contents_in<F: PieceSource>(
     ensures count { IfOk result (λ listed.
         length listed.tables.items ≡ length topology.now.routers) }
     ensures answers { IfOk result (λ listed. AreAnswers topology.now listed.wants.items) }
+    ensures faults { IfErr result (λ fault. is_of_files fault ≡ true) }
     ensures failures { F.failed files.new ≡ counted is_read result (F.failed files.old) }
 {
     let tables = tables_in(alloc, files, buffer, topology, without, all)?;

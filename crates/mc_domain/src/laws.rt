@@ -7,11 +7,12 @@ ghost use Rattle.mc_tables.specs.Notes.{NotesText};
 ghost use Rattle.mc_topology.specs.Topology.{TopologyValue};
 ghost use Rattle.mc_layout.specs.Files.{FileText};
 ghost use Rattle.mc_layout.specs.Packing.{IsPacked};
-ghost use Rattle.mc_forward.specs.Domains.{DomainValue};
+ghost use Rattle.mc_theory.specs.LeftOut.{LeavesOut};
+ghost use Rattle.mc_forward.specs.Domains.{DomainValue, net_of};
 ghost use Rattle.mc_domain.specs.FilesInput.{FilesStand};
 ghost use Rattle.mc_domain.specs.Input.{InputValue, InputStands};
-ghost use Rattle.mc_domain.specs.LeftOut.{HasNothing, left_out_files};
-ghost use Rattle.mc_domain.specs.Meaning.{FilesMeanListed};
+ghost use Rattle.mc_domain.specs.LeftOut.{HasNothing, is_left_out, left_out_files};
+ghost use Rattle.mc_domain.specs.Meaning.{FilesMeanListed, MeansFiles};
 ghost use Rattle.mc_domain.specs.NotesOfFiles.{AreNotesOf};
 
 /// The text of a bundle stands for one input at most, and one text of a certificate, where each has
@@ -52,4 +53,12 @@ pub fn left_out_routers_have_nothing()
         (name : List ℕ) → FilesMeanListed (left_out_files names files) d → Contains names name
         → option_map (λ r. r.name) (slice_get d.topology.routers router) ≡ Some name
         → HasNothing d router }
+{}
+
+/// The domain that files mean with routers left out is, flow by flow, the one that they mean without
+/// leaving any out, but for those routers: what the others and the hosts have is the same.
+pub fn routers_left_out_are_left_out_of_each_flow()
+    ensures { (names : List (List ℕ)) (files : List FileText) (part whole : DomainValue)
+        → MeansFiles (left_out_files names files) part → MeansFiles files whole → (flow : ℕ)
+        → LeavesOut (is_left_out whole.topology names) (net_of part flow) (net_of whole flow) }
 {}

@@ -1,6 +1,7 @@
 //! Routers that are left out: which they are, and the tables that are read in place of theirs.
 
-ghost use Rattle.std.specs.Prelude.{◌≡◌, ◌<◌, ℕ, false, List, Ok, IfErr, IfOk, IsTrue, length, map};
+ghost use Rattle.std.specs.Prelude.{◌≡◌, ◌<◌, ℕ, false, true, List, Ok, IfErr, IfOk, IsTrue};
+ghost use Rattle.std.specs.Prelude.{length, map};
 ghost use Rattle.std.specs.List.{list_any};
 ghost use Rattle.std.specs.Str.{bytes_eq};
 ghost use Rattle.mc_topology.specs.Names.{is_name};
@@ -10,7 +11,8 @@ ghost use Rattle.mc_forward.specs.Domains.{TablesValue};
 ghost use Rattle.mc_forward.specs.ListedTables.{AreListedTables};
 ghost use Rattle.mc_domain.specs.FilesReading.{part_filed};
 ghost use Rattle.mc_domain.specs.Kept.{AreFlowPairs};
-ghost use Rattle.mc_domain.specs.LeftOut.{bare_files, each_named, is_read_without};
+ghost use Rattle.mc_domain.specs.LeftOut.{bare_files, each_named, is_of_files_without};
+ghost use Rattle.mc_domain.specs.LeftOut.{is_read_without};
 ghost use Rattle.mc_domain.specs.NotesOfFiles.{AreNotes};
 ghost use Rattle.mc_domain.specs.PartsReading.{router_tables};
 ghost use Rattle.mc_domain.specs.declared.source_fault.SourceFault.TheVariants.{Input};
@@ -43,6 +45,7 @@ pub fn is_left_out(without: &[&str], router: &str) -> bool
 pub(crate) fn check_names(topology: &Topology, without: &[&str]) -> Result<(), WithoutFault>
     ensures names { result ≡ each_named topology.now 1 (map (λ n. n.now) without.now) }
     ensures fault { IfErr result (λ fault. is_read_without fault ≡ false) }
+    ensures faults { IfErr result (λ fault. is_of_files_without fault ≡ true) }
 {
     for place in 0..without.len() {
         if topology.router_no(without[place]).is_none() {

@@ -25,7 +25,8 @@ pub use each_file::{Refusal, RefusedFile, refused_files};
 pub use fault::InputFault;
 pub use laws::{
     files_stand_for_one_input, left_out_routers_have_nothing, notes_are_determined,
-    packed_files_stand_for_their_input, texts_stand_for_one_input,
+    packed_files_stand_for_their_input, routers_left_out_are_left_out_of_each_flow,
+    texts_stand_for_one_input,
 };
 pub use left_out::is_left_out;
 pub use source_fault::SourceFault;

@@ -11,7 +11,7 @@ returns-clause-told g c = λ text told.
     let fed = c.in_ok-name.ensures.part text told in
     let part = fed.1 in
     let told = c.wanted_told.ensures.wanted (read_list part.bytes) (λ loud.
-    sym (c.new-reader.ensures.reads part.bytes) ∙ fed.4.3 ∙ sym c.finish.ensures) in (
+    sym (c.new-reader.ensures.reads part.bytes) ∙ fed.4.3 ∙ sym c.finish.ensures.ends) in (
       fed.0,
       part,
       fed.2,

@@ -56,3 +56,9 @@ returns-clause-routers g c =
     (sym c.in_ok-rest_through.ensures.topology)
     (are_routers c.in_ok-topology.topology 1 (map (λ n. n.now) c.args.without.now)
     c.in_ok-check_names.field-0 (sym c.in_ok-check_names.ensures.names))
+
+pub returns-in_err-check_names-clause-faults : goal.returns-in_err-check_names-clause-faults
+returns-in_err-check_names-clause-faults g c =
+    let p = err_from_is_err_and c.from_residual-in_err-check_names.result
+    c.from_residual-in_err-check_names.ensures.1 in
+    rw (p.1 ∙ ap (λ f. Err f) p.2) c.in_err-check_names.ensures.faults

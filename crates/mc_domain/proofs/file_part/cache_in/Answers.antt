@@ -1,4 +1,4 @@
-use Rattle.std.proofs.Common.{◌≡◌, ◌∙◌, ℕ, List, ap, Err, Ok, subst, sym}
+use Rattle.std.proofs.Common.{◌≡◌, ◌∙◌, ℕ, List, ap, Err, Ok, subst, sym, refl}
 use Rattle.std.proofs.lemmas.Result.{err_from_is_err_and}
 use Rattle.mc_text.specs.Steps.{refused_as}
 use Rattle.mc_tables.specs.NotedReading.{noted_in}
@@ -8,6 +8,7 @@ use Rattle.mc_domain.specs.PartsReading.{noted_of}
 use Rattle.mc_domain.specs.declared.fault.InputFault.TheVariants.{Cache as RefusedCache}
 use Rattle.mc_domain.proofs.FilesLemmas.{kept_read, kept_refused, part_refused}
 use Rattle.mc_domain.proofs.NotesLemmas.{noted_alike}
+use Rattle.mc_domain.proofs.FaultLemmas.{file_fault, kept_fault}
 use Rattle.mc_domain.proofs.file_part.cache_in.Goals as goal
 
 pub returns-in_err-name-clause-cache : goal.returns-in_err-name-clause-cache
@@ -47,3 +48,17 @@ returns-clause-cache g c = λ n pairs same told is.
     (noted_of c.args.all c.args.order pairs) part.0 c.cache.ensures part.1 c.in_ok-cache_told.field-0
     (subst (λ m. IsToldOf (λ kept noted. kept ≡ noted) (Ok c.in_ok-cache_told.field-0)
     (refused_as (RefusedCache m) (noted_in c.args.all c.args.order pairs part.0.bytes))) (sym part.2) own)
+
+pub returns-in_err-name-clause-faults : goal.returns-in_err-name-clause-faults
+returns-in_err-name-clause-faults g c =
+    let p = err_from_is_err_and c.from_residual-in_err-name.result
+    c.from_residual-in_err-name.ensures.1 in
+    rw (p.1 ∙ ap (λ f. Err f) p.2) (file_fault c.in_err-name.field-0.0)
+
+pub returns-in_err-cache_told-clause-faults : goal.returns-in_err-cache_told-clause-faults
+returns-in_err-cache_told-clause-faults g c =
+    let p = err_from_is_err_and c.from_residual-in_err-cache_told.result
+    c.from_residual-in_err-cache_told.ensures.1 in
+    rw (p.1 ∙ ap (λ f. Err f) p.2) (kept_fault (λ kept noted. kept ≡ noted)
+    c.in_err-cache_told.field-0.0 (RefusedCache c.in_ok-name.name) c.finish.result (λ e. refl)
+    (c.in_err-cache_told.ensures c.finish.result (λ loud. refl)))

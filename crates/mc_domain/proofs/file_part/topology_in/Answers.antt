@@ -1,9 +1,12 @@
-use Rattle.std.proofs.Common.{◌∙◌, ap, Err}
+use Rattle.std.proofs.Common.{◌∙◌, ap, Err, refl}
 use Rattle.std.proofs.lemmas.Result.{err_from_is_err_and}
 use Rattle.mc_text.specs.BundleView.{part_text}
 use Rattle.mc_layout.specs.Layout.{topology_slot}
 use Rattle.mc_domain.specs.PartsReading.{topology_of}
 use Rattle.mc_domain.proofs.FilesLemmas.{part_refused, told_refused, told_read}
+use Rattle.mc_topology.specs.Reading.{reading_of}
+use Rattle.mc_domain.specs.declared.fault.InputFault.TheVariants.{Topology as RefusedTopology}
+use Rattle.mc_domain.proofs.FaultLemmas.{file_fault, read_fault}
 use Rattle.mc_domain.proofs.file_part.topology_in.Goals as goal
 
 pub returns-in_err-part-clause-topology : goal.returns-in_err-part-clause-topology
@@ -27,3 +30,15 @@ returns-clause-topology g c =
     λ n told is. told_read told n topology_slot c.topology.result topology_of
     c.in_ok-part.part (part_text c.as_part.result) c.in_ok-topology_of.field-0 c.topology.ensures
     (c.in_ok-part.ensures.part told is) c.as_part.ensures c.in_ok-topology_of.ensures
+
+pub returns-in_err-part-clause-faults : goal.returns-in_err-part-clause-faults
+returns-in_err-part-clause-faults g c =
+    let p = err_from_is_err_and c.from_residual.result c.from_residual.ensures.1 in
+    rw (p.1 ∙ ap (λ f. Err f) p.2) (file_fault c.in_err-part.field-0.0)
+
+pub returns-in_err-topology_of-clause-faults : goal.returns-in_err-topology_of-clause-faults
+returns-in_err-topology_of-clause-faults g c =
+    let p = err_from_is_err_and c.from_residual-in_err-topology_of.result
+    c.from_residual-in_err-topology_of.ensures.1 in
+    rw (p.1 ∙ ap (λ f. Err f) p.2) (read_fault c.in_err-topology_of.field-0.0 RefusedTopology
+    (reading_of (part_text c.as_part.result).bytes) (λ e. refl) c.in_err-topology_of.ensures)

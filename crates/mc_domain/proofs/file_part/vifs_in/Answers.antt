@@ -1,4 +1,4 @@
-use Rattle.std.proofs.Common.{◌≡◌, ◌∙◌, ap, Err, Ok, subst, sym}
+use Rattle.std.proofs.Common.{◌≡◌, ◌∙◌, ap, Err, Ok, subst, sym, refl}
 use Rattle.std.proofs.lemmas.Result.{err_from_is_err_and}
 use Rattle.mc_text.specs.Steps.{refused_as}
 use Rattle.mc_tables.specs.VifReading.{vifs_in}
@@ -7,6 +7,7 @@ use Rattle.mc_domain.specs.PartsInTurn.{IsToldOf}
 use Rattle.mc_domain.specs.PartsReading.{vifs_of}
 use Rattle.mc_domain.specs.declared.fault.InputFault.TheVariants.{Vif as RefusedVif}
 use Rattle.mc_domain.proofs.FilesLemmas.{kept_read, kept_refused, part_refused}
+use Rattle.mc_domain.proofs.FaultLemmas.{file_fault, kept_fault}
 use Rattle.mc_domain.proofs.file_part.vifs_in.Goals as goal
 
 pub returns-in_err-name-clause-vifs : goal.returns-in_err-name-clause-vifs
@@ -40,3 +41,17 @@ returns-clause-vifs g c = λ n told is.
     part.0 c.vifs.ensures part.1 c.in_ok-vifs_told.field-0
     (subst (λ m. IsToldOf (λ kept vifs. kept ≡ vifs) (Ok c.in_ok-vifs_told.field-0)
     (refused_as (RefusedVif m) (vifs_in part.0.bytes))) (sym part.2) own)
+
+pub returns-in_err-name-clause-faults : goal.returns-in_err-name-clause-faults
+returns-in_err-name-clause-faults g c =
+    let p = err_from_is_err_and c.from_residual.result
+    c.from_residual.ensures.1 in
+    rw (p.1 ∙ ap (λ f. Err f) p.2) (file_fault c.in_err-name.field-0.0)
+
+pub returns-in_err-vifs_told-clause-faults : goal.returns-in_err-vifs_told-clause-faults
+returns-in_err-vifs_told-clause-faults g c =
+    let p = err_from_is_err_and c.from_residual-in_err-vifs_told.result
+    c.from_residual-in_err-vifs_told.ensures.1 in
+    rw (p.1 ∙ ap (λ f. Err f) p.2) (kept_fault (λ kept vifs. kept ≡ vifs)
+    c.in_err-vifs_told.field-0.0 (RefusedVif c.in_ok-name.name) c.finish.result (λ e. refl)
+    (c.in_err-vifs_told.ensures c.finish.result (λ loud. refl)))

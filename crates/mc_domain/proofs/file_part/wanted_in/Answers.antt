@@ -1,4 +1,4 @@
-use Rattle.std.proofs.Common.{◌∙◌, ap, Err, Ok, subst, sym}
+use Rattle.std.proofs.Common.{◌∙◌, ap, Err, Ok, subst, sym, refl}
 use Rattle.std.proofs.lemmas.Result.{err_from_is_err_and}
 use Rattle.mc_text.specs.Steps.{refused_as}
 use Rattle.mc_igmp.specs.ReadingList.{read_list}
@@ -8,6 +8,7 @@ use Rattle.mc_domain.specs.PartsInTurn.{IsToldOf}
 use Rattle.mc_domain.specs.PartsReading.{reports_of}
 use Rattle.mc_domain.specs.declared.fault.InputFault.TheVariants.{Reports as RefusedReports}
 use Rattle.mc_domain.proofs.FilesLemmas.{kept_read, kept_refused, part_refused}
+use Rattle.mc_domain.proofs.FaultLemmas.{file_fault, kept_fault}
 use Rattle.mc_domain.proofs.file_part.wanted_in.Goals as goal
 
 pub returns-in_err-name-clause-wanted : goal.returns-in_err-name-clause-wanted
@@ -25,7 +26,7 @@ returns-in_err-wanted_told-clause-wanted g c =
     let part = c.in_ok-name.ensures.part told is in
     let fault = c.in_err-wanted_told.field-0.0 in
     let own = c.in_err-wanted_told.ensures.wanted (read_list part.0.bytes) (λ loud.
-    sym (c.new-reader.ensures.reads part.0.bytes) ∙ part.4 ∙ sym c.finish.ensures) in
+    sym (c.new-reader.ensures.reads part.0.bytes) ∙ part.4 ∙ sym c.finish.ensures.ends) in
     kept_refused (λ wanted records. AreChannelsWanted c.args.channels.now records wanted) told n
     (reports_slot c.args.lan.now) c.reports.result reports_of part.0 c.reports.ensures part.1 fault
     (subst (λ m. IsToldOf (λ wanted records. AreChannelsWanted c.args.channels.now records wanted)
@@ -35,10 +36,25 @@ pub returns-clause-wanted : goal.returns-clause-wanted
 returns-clause-wanted g c = λ n told is.
     let part = c.in_ok-name.ensures.part told is in
     let own = c.in_ok-wanted_told.ensures.wanted (read_list part.0.bytes) (λ loud.
-    sym (c.new-reader.ensures.reads part.0.bytes) ∙ part.4 ∙ sym c.finish.ensures) in
+    sym (c.new-reader.ensures.reads part.0.bytes) ∙ part.4 ∙ sym c.finish.ensures.ends) in
     kept_read (λ wanted records. AreChannelsWanted c.args.channels.now records wanted) told n
     (reports_slot c.args.lan.now) c.reports.result reports_of part.0 c.reports.ensures part.1
     c.in_ok-wanted_told.field-0
     (subst (λ m. IsToldOf (λ wanted records. AreChannelsWanted c.args.channels.now records wanted)
     (Ok c.in_ok-wanted_told.field-0) (refused_as (RefusedReports m) (read_list part.0.bytes)))
     (sym part.2) own)
+
+pub returns-in_err-name-clause-faults : goal.returns-in_err-name-clause-faults
+returns-in_err-name-clause-faults g c =
+    let p = err_from_is_err_and c.from_residual.result
+    c.from_residual.ensures.1 in
+    rw (p.1 ∙ ap (λ f. Err f) p.2) (file_fault c.in_err-name.field-0.0)
+
+pub returns-in_err-wanted_told-clause-faults : goal.returns-in_err-wanted_told-clause-faults
+returns-in_err-wanted_told-clause-faults g c =
+    let p = err_from_is_err_and c.from_residual-in_err-wanted_told.result
+    c.from_residual-in_err-wanted_told.ensures.1 in
+    rw (p.1 ∙ ap (λ f. Err f) p.2) (kept_fault
+    (λ wanted records. AreChannelsWanted c.args.channels.now records wanted)
+    c.in_err-wanted_told.field-0.0 (RefusedReports c.in_ok-name.name) c.finish.result (λ e. refl)
+    (c.in_err-wanted_told.ensures.wanted c.finish.result (λ loud. refl)))

@@ -1,0 +1,143 @@
+-- Which files of a folder are refused, each judged by itself.
+use Rattle.std.specs.Prelude.{◌≡◌, ℕ, ◌+◌, max, min, Bool, false, List, [], ◌∷◌, ◌++◌, filter, flat_map, map}
+use Rattle.std.specs.Prelude.{◌≢◌, is_some, Option, Some, None, Result, Ok, Err, ◌⊎◌, ⊤}
+use Rattle.std.specs.Prelude.{if◌then◌else◌, string_bytes}
+use Rattle.std.specs.List.{AllByRecursion, list_any}
+use Rattle.std.specs.Result.{result_err}
+use Rattle.std.specs.Str.{bytes_eq}
+use Rattle.mc_text.specs.Bundle.{PartText}
+use Rattle.mc_topology.specs.Rows.{RouterRow}
+use Rattle.mc_topology.specs.Topology.{TopologyValue}
+use Rattle.mc_layout.specs.Files.{FileText, file_named}
+use Rattle.mc_layout.specs.Layout.{Slot, cache_slot, file_name, reports_slot, topology_slot, vif_slot}
+use Rattle.mc_forward.specs.ListedTables.{Pairwise}
+use Rattle.mc_domain.specs.FilesReading.{part_filed}
+use Rattle.mc_domain.specs.PartsReading.{cache_of, reports_of, told_by, topology_of, vifs_of}
+use Rattle.mc_domain.specs.SourceFault.{is_read}
+use Rattle.mc_domain.specs.declared.each_file.RefusedFile.{RefusedFile}
+use Rattle.mc_domain.specs.declared.each_file.Refusal.{Refusal}
+use Rattle.mc_domain.specs.declared.each_file.Refusal.TheVariants.{Unread, Fault}
+use Rattle.mc_domain.specs.declared.fault.InputFault.{InputFault}
+use Rattle.mc_domain.specs.declared.fault.InputFault.TheVariants.{Memory}
+use Rattle.mc_domain.specs.declared.source_fault.SourceFault.{SourceFault}
+use Rattle.mc_domain.specs.declared.source_fault.SourceFault.TheVariants.{Input, Read}
+
+-- a file by its name, and its first fault, where it has one: `Read` where there is no such file
+pub record JudgedFile : Type 0 where
+  pub name : List ℕ
+  pub fault : Option SourceFault
+
+-- ---- what each file has by itself
+
+-- the first fault of the file of a slot
+abbrev pub fault_of : {X : Type 0} → List FileText → Slot → (PartText → Result X InputFault)
+    → Option SourceFault
+fault_of files slot read = result_err (told_by Input (part_filed files 0 slot) read)
+
+abbrev pub judged_file : {X : Type 0} → List FileText → Slot → (PartText → Result X InputFault)
+    → JudgedFile
+judged_file files slot read = record { name = file_name slot; fault = fault_of files slot read }
+
+-- a router's two tables; of one that is left out none
+abbrev pub judged_tables : (names : List (List ℕ)) → List FileText → RouterRow → List JudgedFile
+judged_tables names files r =
+    if list_any (λ name. bytes_eq name r.name) names then []
+    else judged_file files (vif_slot r.name) vifs_of
+    ∷ judged_file files (cache_slot r.name) (cache_of r.order) ∷ []
+
+-- the reports of a LAN
+abbrev pub judged_reports : List FileText → (lan : List ℕ) → JudgedFile
+judged_reports files lan = judged_file files (reports_slot lan) reports_of
+
+-- all files that a topology names, or of one that is refused it alone
+abbrev pub judged_by : (names : List (List ℕ)) → List FileText → Result TopologyValue SourceFault
+    → List JudgedFile
+judged_by names files (Err fault) =
+    (record { name = file_name topology_slot; fault = Some fault }) ∷ []
+judged_by names files (Ok t) =
+    flat_map (judged_tables names files) t.routers ++ map (judged_reports files) t.lans
+
+-- the files of a folder, in the order of a domain's slots
+abbrev pub judged_files : (names : List (List ℕ)) → List FileText → List JudgedFile
+judged_files names files =
+    judged_by names files (told_by Input (part_filed files 0 topology_slot) topology_of)
+
+-- those that have a fault
+abbrev pub refused_in : List JudgedFile → List JudgedFile
+refused_in files = filter (λ file. is_some file.fault) files
+
+-- The files of a folder that are refused, where the routers of these names are left out. A name that
+-- no router has leaves nothing out.
+abbrev pub refused_of : (names : List (List ℕ)) → List FileText → List JudgedFile
+refused_of names files = refused_in (judged_files names files)
+
+-- ---- what a source gives of them
+
+-- A file's fault as a source gives the file: its own, or that the source can't read it.
+abbrev pub IsGivenFault : (given own : Option SourceFault) → Type 0
+IsGivenFault (Some Read) own = ⊤
+IsGivenFault (Some (Input fault)) own = own ≡ Some (Input fault)
+IsGivenFault None own = own ≡ None
+
+-- the same, unless memory ran out
+abbrev pub GivesFault : (given own : Option SourceFault) → Type 0
+GivesFault given own = given ≢ Some (Input Memory) → IsGivenFault given own
+
+pub record IsGiven (own given : JudgedFile) : Type 0 where
+  pub name : given.name ≡ own.name
+  pub fault : IsGivenFault given.fault own.fault
+
+abbrev pub unread_topology : JudgedFile
+unread_topology = record { name = file_name topology_slot; fault = Some Read }
+
+-- The files as a source gives them, each for itself. A topology that it can't read names no other.
+abbrev pub AreGiven : (names : List (List ℕ)) → List FileText → (given : List JudgedFile) → Type 0
+AreGiven names files given =
+    (given ≡ unread_topology ∷ []) ⊎ Pairwise IsGiven (judged_files names files) given
+
+-- these are listed: of the files as a source gives them those that have a fault
+abbrev pub AreRefused : (names : List (List ℕ)) → List FileText → (listed : List JudgedFile) → Type 0
+AreRefused names files listed =
+    (given : List JudgedFile) × AreGiven names files given × (listed ≡ refused_in given)
+
+-- the files that are listed as those that can't be read aren't there
+abbrev pub AreMissing : List FileText → (listed : List JudgedFile) → Type 0
+AreMissing files listed =
+    AllByRecursion (λ file. file.fault ≡ Some Read → file_named files file.name ≡ None) listed
+
+-- ---- what is listed
+
+abbrev pub fault_in : Refusal → SourceFault
+fault_in (Unread unread) = Read
+fault_in (Fault fault) = Input fault
+
+-- a file that is listed, by its name and its fault
+abbrev pub seen : RefusedFile → JudgedFile
+seen file = record { name = string_bytes file.name; fault = Some (fault_in file.refusal) }
+
+-- whether a file can't be read
+abbrev pub is_unread : Option SourceFault → Bool
+is_unread None = false
+is_unread (Some fault) = is_read fault
+
+-- how many calls of a source failed, once these more did: it counts up to the greatest u64
+abbrev pub failures_with : (more before : ℕ) → ℕ
+failures_with more before = max before (min (before + more) 18446744073709551615)
+
+-- how many calls of a source fail at a file that is found so
+abbrev pub fault_count : Option SourceFault → ℕ
+fault_count fault = if is_unread fault then 1 else 0
+
+-- how many of the files can't be read
+abbrev pub unread_count : List JudgedFile → ℕ
+unread_count [] = 0
+unread_count (file ∷ files) = fault_count file.fault + unread_count files
+
+-- What was judged of files, with what a source gives of them: the list has become longer by those
+-- that have a fault, and the source failed at those that can't be read.
+pub record Judges (told : Option (List FileText)) (files : List FileText → List JudgedFile)
+    (old new : List JudgedFile) (before after : ℕ) : Type 0 where
+  pub given : List JudgedFile
+  pub listed : new ≡ old ++ refused_in given
+  pub failures : after ≡ failures_with (unread_count given) before
+  pub each : (known : List FileText) → told ≡ Some known → Pairwise IsGiven (files known) given

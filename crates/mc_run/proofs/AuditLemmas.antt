@@ -4,7 +4,8 @@ use Rattle.std.proofs.Common.{length}
 use Rattle.std.proofs.Common.{Option, Some, None, Result, Ok, Err, refl, sym, ap, subst, ◌∙◌, arith}
 use Rattle.std.proofs.Common.{append_assoc}
 use Rattle.std.specs.Prelude.{◌&&◌, ◌==◌, ◌↔◌, ◌⊎◌, IfErr, IfOk, IfSome, IsTrue, flat_map, map}
-use Rattle.std.specs.Prelude.{slice_get, take}
+use Rattle.std.specs.Prelude.{Vec, slice_get, take}
+use Rattle.std.specs.declared.alloc.Global.{Global}
 use Rattle.std.specs.String.{string_bytes}
 use Rattle.std.proofs.lemmas.Bool.{false≢true, ne_eqb}
 use Rattle.std.proofs.lemmas.List.{length-map}
@@ -16,6 +17,7 @@ use Rattle.mc_forward.specs.Domains.{DomainValue, net_of}
 use Rattle.mc_forward.specs.ListedTables.{DomainFacts, facts}
 use Rattle.mc_forward.proofs.EachLemmas.{some-at}
 use Rattle.mc_cert.specs.Certificate.{Tree, tree_at}
+use Rattle.mc_cert.specs.declared.reached.Reached.{Reached}
 use Rattle.mc_explain.specs.WantedText.{wanting}
 use Rattle.mc_maker.specs.Examined.{IfCertified, is_certified}
 use Rattle.mc_maker.specs.declared.examination.Examined.{Examined}
@@ -125,7 +127,7 @@ lines_all [] = refl
 lines_all (a ∷ answers) = ap (λ more. a.lines ++ more) (lines_all answers)
 
 -- what stands before the lines, they, what stands behind them, and last whether all is well
-lines_spelled : (v : NotedValue) (o : AuditOptions) (all : Bool) (written : List ℕ)
+pub lines_spelled : (v : NotedValue) (o : AuditOptions) (all : Bool) (written : List ℕ)
     (a : IsAudited v o all written)
     → written ≡ begin_lines o (facts v.domain) (left_out v)
     ++ (flat_map (λ ls. ls) (map (λ b. b.lines) a.answers)
@@ -139,7 +141,7 @@ lines_spelled v o all written a =
     ∙ ap (λ b. begin ++ (flat_map (λ ls. ls) (map (λ c. c.lines) a.answers) ++ end b)) (sym a.answer)
 
 -- what holds of each flow's answer holds of the lines at its place
-told_each : (P : ℕ → Flow → List ℕ → Type 0) (v : NotedValue) (o : AuditOptions)
+pub told_each : (P : ℕ → Flow → List ℕ → Type 0) (v : NotedValue) (o : AuditOptions)
     (answers : List FlowAnswer) → AreAnswers v o answers
     → ((told : List Tree) (flow : ℕ) (a : FlowAnswer) (is : IsAnswer v o told flow a)
     → P flow is.listed a.lines)
@@ -218,6 +220,22 @@ audit_right v o all written a =
 
 -- ---- what each flow's lines say
 
+pub certified_so : (v : NotedValue) (o : AuditOptions) (told : List Tree) (flow : ℕ) (f : Flow)
+    (entries : Vec Reached Global) (e : Explanation) (wanted lines : List ℕ)
+    → IsChecked v.domain flow (Certified entries) → wanted ≡ wanting (facts v.domain) flow
+    → lines ≡ answer_lines o (is_whole v) (facts v.domain) v.notes told flow f (Certified entries) e
+    wanted
+    → SaysYesOf v o flow f lines
+certified_so v o told flow f entries e wanted lines checked wants is = record {
+  list = entries.items;
+  told = told;
+  right = checked.examined.right.0 refl;
+  accepted = checked.examined.accepted;
+  headline = checked.headline;
+  spelled = is ∙ ap (λ (w : List ℕ).
+      right_told o (is_whole v) v.domain.topology told flow f entries.items w) wants;
+}
+
 line_so : (v : NotedValue) (o : AuditOptions) (told : List Tree) (flow : ℕ) (f : Flow) (x : Examined)
     (flown : Flown) (e : Explanation) (wanted lines : List ℕ) → IsFlown v.domain flow flown
     → IsChecked v.domain flow x → IsExplanation v.domain v.notes (left_out v) (is_whole v) flow flown e
@@ -225,15 +243,7 @@ line_so : (v : NotedValue) (o : AuditOptions) (told : List Tree) (flow : ℕ) (f
     → lines ≡ answer_lines o (is_whole v) (facts v.domain) v.notes told flow f x e wanted
     → SaysYesOf v o flow f lines ⊎ SaysWhatIsFound v o flow f lines
 line_so v o told flow f (Certified entries) flown e wanted lines flies checked explained wants is =
-    inl (record {
-      list = entries.items;
-      told = told;
-      right = checked.examined.right.0 refl;
-      accepted = checked.examined.accepted;
-      headline = checked.headline;
-      spelled = is ∙ ap (λ (w : List ℕ).
-          right_told o (is_whole v) v.domain.topology told flow f entries.items w) wants;
-    })
+    inl (certified_so v o told flow f entries e wanted lines checked wants is)
 line_so v o told flow f (Found ttl travel) flown e wanted lines flies checked explained wants is =
     inr (record {
       ttl = ttl;

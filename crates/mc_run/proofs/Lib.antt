@@ -2,9 +2,11 @@ pub mod AuditAll
 pub mod AuditFlows
 pub mod AuditLemmas
 pub mod AuditLines
+mod AuditSaid
 pub mod CertifiedLemmas
 pub mod CheckLemmas
 pub mod EndsLemmas
+mod FaultLemmas
 mod LookLemmas
 pub mod MakeLemmas
 pub mod MissedLemmas
@@ -18,4 +20,5 @@ pub mod SameLemmas
 pub mod TextLemmas
 pub mod VerdictLines
 pub mod WantsLemmas
+mod WholeLemmas
 pub mod YesLines

@@ -10,6 +10,7 @@ use Rattle.mc_run.specs.declared.fault.RunFault.{RunFault}
 use Rattle.mc_run.specs.declared.fault.RunFault.TheVariants.{Write}
 use Rattle.mc_text.specs.Device.{counted}
 use Rattle.mc_run.specs.Failures.{is_read, is_write}
+use Rattle.mc_run.specs.Faults.{IsFaultOfPack}
 use Rattle.mc_run.specs.PackingRun.{AnswersPack, IsOfDevices, of_packing}
 
 -- what a run answers that gives this fault of packing
@@ -39,6 +40,17 @@ pub answer_told : (told : Option (List FileText)) (certified : Bool) (f : PackFa
 answer_told None certified f r e is = tt
 answer_told (Some files) certified f r e is =
     rw (told_is f r e) (fault_answer certified files f is)
+
+pack_fault : (f : PackFault) → IsFaultOfPack (of_packing f)
+pack_fault (packing.Topology f) = tt
+pack_fault packing.TooLarge = tt
+pack_fault packing.Read = tt
+pack_fault packing.Write = tt
+pack_fault packing.Memory = tt
+
+pub faults_told : (f : PackFault) (r : Result (Unit {0}) RunFault) → IsTold f r
+    → IfErr r IsFaultOfPack
+faults_told f r e = rw (told_is f r e) (pack_fault f)
 
 fault_only : (f : PackFault) → SaysNothing f → IsOfDevices (of_packing f)
 fault_only (packing.Topology f) none = absurd none

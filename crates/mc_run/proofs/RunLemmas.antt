@@ -175,6 +175,14 @@ answered (Some x) Says Refuses (Err cause) (Ok answer) old new silent says refus
 answered (Some x) Says Refuses (Err cause) (Err fault) old new silent says refused is =
     subst (Refuses x) (sym is.0) refused
 
+-- its fault is that of what was to be said, or the output's,
+pub faults_written : (P : RunFault → Type 0) (s : Result Said RunFault) (r : Result Bool RunFault)
+    (old new : Option (List ℕ)) → P Write → IfErr s P → IsSaid s r old new → IfErr r P
+faults_written P (Ok said) (Ok answer) old new write own is = tt
+faults_written P (Ok said) (Err fault) old new write own is = subst P (sym is.0) write
+faults_written P (Err cause) (Ok answer) old new write own is = absurd is
+faults_written P (Err cause) (Err fault) old new write own is = subst P (sym is.0) own
+
 -- and what follows of the answer,
 pub answer_so : {X : Type 0} (told : Option X) (Says : X → Bool → List ℕ → Type 0)
     (So : X → Bool → Type 0) (s : Result Said RunFault) (r : Result Bool RunFault)

@@ -1,14 +1,16 @@
 -- What `mcaudit audit` answers and writes, and what its yes is worth.
-use Rattle.std.specs.Prelude.{◌≡◌, ◌==◌, ◌&&◌, ◌⊎◌, ℕ, Bool, true, false, List, [], ◌++◌, codes}
+use Rattle.std.specs.Prelude.{◌≡◌, ◌≤◌, ◌==◌, ◌&&◌, ◌⊎◌, ℕ, Bool, true, false, List, [], ◌++◌, codes}
 use Rattle.std.specs.Prelude.{flat_map, fold, length, slice_get, take, Option, Some, Result, Ok}
 use Rattle.mc_layout.specs.Files.{FileText}
 use Rattle.mc_tables.specs.Notes.{NotesText}
 use Rattle.mc_topology.specs.declared.flow.Flow.{Flow}
 use Rattle.mc_theory.specs.Certificates.{IsAccepted, IsRight}
 use Rattle.mc_theory.specs.Headline.{HeadlineHolds}
-use Rattle.mc_forward.specs.Domains.{DomainValue, net_of}
+use Rattle.mc_theory.specs.LeftOut.{IsUnclean}
+use Rattle.mc_forward.specs.Domains.{DomainValue, net_of, ttl_of}
 use Rattle.mc_forward.specs.ListedTables.{facts}
 use Rattle.mc_cert.specs.Certificate.{Tree}
+use Rattle.mc_replay.specs.FindingValues.{finding_value}
 use Rattle.mc_replay.specs.declared.travel.Travel.{Travel}
 use Rattle.mc_maker.specs.Examined.{FindsFault, IfCertified, IsTravelOfFirst, IsTtlOfFault}
 use Rattle.mc_maker.specs.Flown.{IsFlown, examined_by}
@@ -207,6 +209,43 @@ abbrev pub SaysOfEach : AuditOptions → (names : List (List ℕ)) → List File
     → Type 0
 SaysOfEach o names files all written =
     OfDomain (MeansNoted o names) (λ v. TellsOfEach v o all written) files
+
+-- ---- what is found with routers left out
+
+-- The lines say what is found of the flow at a TTL from its own to 255. Where that is a second copy on
+-- a LAN, or one that leaves, the flow isn't right either in the domain that these files mean with no
+-- router left out, if they mean one.
+pub record IsFoundInWhole (v : NotedValue) (o : AuditOptions) (files : List FileText) (flow : ℕ)
+    (f : Flow) (lines : List ℕ) : Type 0 where
+  pub ttl : ℕ
+  pub travel : Travel
+  pub explanation : Explanation
+  pub least : ttl_of v.domain flow ≤ ttl
+  pub greatest : ttl ≤ 255
+  pub runs : IsTravelOfFirst v.domain flow ttl travel
+  pub spelled : lines ≡ wrong_told o (facts v.domain) v.notes flow f ttl travel explanation
+  pub wrong : IsUnclean (finding_value travel.finding) → (whole : DomainValue)
+      → MeansFiles files whole → ¬ IsRight (net_of whole flow)
+
+-- This is written of the domain: for each flow in order lines that say yes to it, or that.
+pub record FindsInWhole (v : NotedValue) (o : AuditOptions) (files : List FileText) (all : Bool)
+    (written : List ℕ) : Type 0 where
+  pub begin : List ℕ
+  pub lines : List (List ℕ)
+  pub end : List ℕ
+  pub count : length lines ≡ length v.domain.topology.flows
+  pub each : (flow : ℕ) (f : Flow) (ls : List ℕ) → slice_get v.domain.topology.flows flow ≡ Some f
+      → slice_get lines flow ≡ Some ls
+      → SaysYesOf v o flow f ls ⊎ IsFoundInWhole v o files flow f ls
+  pub spelled : written ≡ begin ++ (flat_map (λ ls. ls) lines ++ (end ++ verdict_told o.json all))
+
+-- the files mean a domain, without these routers, of which that is written
+abbrev pub AreFoundInWhole : AuditOptions → (names : List (List ℕ)) → List FileText → Bool
+    → List ℕ → Type 0
+AreFoundInWhole o names files all written =
+    OfDomain (MeansNoted o names) (λ v. FindsInWhole v o files all written) files
+
+-- ---- the headline
 
 -- Each of the domain's flows has a list for which the headline holds.
 pub record KeepsByLists (d : DomainValue) : Type 0 where

@@ -7,12 +7,15 @@ pub mod AuditText
 pub mod AuditTold
 pub mod CheckRun
 pub mod Failures
+pub mod Faults
 pub mod InputMeaning
 pub mod MakeRun
 pub mod PackingRun
 pub mod ReplayRun
 pub mod RunFault
 pub mod Said
+pub mod Task
+pub mod TaskRuns
 pub mod VerdictText
 pub mod WantsRun
 pub use Rattle.mc_text.specs.Addr
@@ -50,4 +53,5 @@ pub use Rattle.mc_replay.specs.Travels
 pub use Rattle.mc_replay.specs.TravelText
 pub use Rattle.mc_cert.specs.CertificateText
 pub use Rattle.mc_maker.specs.Examined
+pub use Rattle.mc_words.specs.Task as AllowedTask
 pub mod WantsSoFar

@@ -6,11 +6,13 @@ ghost use Rattle.std.specs.Prelude.{length, map};
 ghost use Rattle.std.specs.String.{string_bytes};
 ghost use Rattle.mc_cert.specs.Certificate.{Tree};
 ghost use Rattle.mc_run.specs.AuditPieces.{AreFlowsPushed, IsReady, noted, said_of, yes_of};
-ghost use Rattle.mc_run.specs.AuditRun.{AuditSaysYes, HasUnwanted, HeadlineOf, IsAudited, IsAuditText};
+ghost use Rattle.mc_run.specs.AuditRun.{AreFoundInWhole, AuditSaysYes, HasUnwanted, HeadlineOf};
+ghost use Rattle.mc_run.specs.AuditRun.{IsAudited, IsAuditText};
 ghost use Rattle.mc_run.specs.AuditRun.{MeansNoted, SaysOfEach, SaysWhichAreRight};
 ghost use Rattle.mc_domain.specs.Meaning.{OfDomain};
 ghost use Rattle.mc_text.specs.Device.{counted};
 ghost use Rattle.mc_run.specs.Failures.{is_read, is_write};
+ghost use Rattle.mc_run.specs.Faults.{IsFaultOfAudit};
 ghost use Rattle.mc_run.specs.InputMeaning.{AreRefusedWithout};
 ghost use Rattle.mc_run.specs.Said.{Answers, Writes, WritesPart};
 
@@ -130,6 +132,7 @@ fn audit_of<F: PieceSource>(
     ensures refused { IfErr result (λ fault. IfSome (F.told files.old) (λ files.
         AreRefusedWithout (map (λ name. name.now) without.now) files fault)) }
     ensures no_write { IfErr result (λ fault. is_write fault ≡ false) }
+    ensures faults { IfErr result IsFaultOfAudit }
     ensures failures { F.failed files.new ≡ counted is_read result (F.failed files.old) }
 {
     let read = noted_domain_without(alloc, files, without, options.unlisted)?;
@@ -192,7 +195,15 @@ pub fn run_audit<F: PieceSource, W: Output>(
     ensures each_in_part { result ≡ Err RunFault.Write → IfSome (F.told files.old) (λ told.
         WritesPart (SaysOfEach options (map (λ name. name.now) without.now)) told
         (W.took output.old) (W.took output.new)) }
+    // What is found of a flow with routers left out, if it is a second copy on a LAN or a copy that
+    // leaves, is so whatever these have: it isn't right in the domain that the files mean with them.
+    ensures left_out { IfOk (yes_of result) (λ all. IfSome (F.told files.old) (λ told.
+        Writes (AreFoundInWhole options (map (λ name. name.now) without.now)) told all
+        (W.took output.old) (W.took output.new))) }
     ensures unwritten { IfErr result (λ fault. fault ≢ RunFault.Write → output.new ≡ output.old) }
+    // No other fault is answered than one of a folder's files or of the names to be left out, or that
+    // a device failed or memory ran out.
+    ensures faults { IfErr result IsFaultOfAudit }
     // Read and Write come only where the device's failures rose in the call.
     ensures read_failures { F.failed files.new ≡ counted is_read result (F.failed files.old) }
     ensures write_failures { W.failed output.new ≡ counted is_write result (W.failed output.old) }

@@ -15,6 +15,7 @@ ghost use Rattle.mc_run.specs.CheckRun.{HeadlineOf, IsTextOfVerdicts, IsVerdictT
 ghost use Rattle.mc_run.specs.CheckRun.{KeepsHeadline, SaysYes};
 ghost use Rattle.mc_text.specs.Device.{counted};
 ghost use Rattle.mc_run.specs.Failures.{IsNoDeviceFault, is_read, is_write};
+ghost use Rattle.mc_run.specs.Faults.{IsFaultOfCheck};
 ghost use Rattle.mc_run.specs.Said.{Answers, Writes, WritesPart};
 
 use crate::fault::RunFault;
@@ -46,6 +47,7 @@ fn with_certificate(alloc: Global, read: DomainRead) -> Result<Certified, RunFau
         MeansListed text (text_seen read.certificate) read.domain →
         IfErr result (IsRefusedFor true text) }
     ensures no_device { IfErr result IsNoDeviceFault }
+    ensures faults { IfErr result IsFaultOfCheck }
 {
     let DomainRead {
         domain,
@@ -73,6 +75,7 @@ fn read_certified<R: Input>(alloc: Global, input: &mut R) -> Result<Certified, R
         IfSome (R.told input.old) (λ text. IsRefusedFor true text fault)) }
     ensures consumed { ConsumesUpTo max_input (R.told input.old) (R.told input.new) }
     ensures no_write { IfErr result (λ fault. is_write fault ≡ false) }
+    ensures faults { IfErr result IsFaultOfCheck }
     ensures failures { R.failed input.new ≡ counted is_read result (R.failed input.old) }
 {
     let read = domain_in(alloc, input, true)?;
@@ -105,6 +108,7 @@ fn verdicts_on<R: Input>(alloc: Global, input: &mut R) -> Result<Said, RunFault>
         IfSome (R.told input.old) (λ text. IsRefusedFor true text fault)) }
     ensures consumed { ConsumesUpTo max_input (R.told input.old) (R.told input.new) }
     ensures no_write { IfErr result (λ fault. is_write fault ≡ false) }
+    ensures faults { IfErr result IsFaultOfCheck }
     ensures failures { R.failed input.new ≡ counted is_read result (R.failed input.old) }
 {
     let read = read_certified(alloc, input)?;
@@ -139,6 +143,9 @@ pub fn run_check<R: Input, W: Output>(
     ensures part { result ≡ Err RunFault.Write → IfSome (R.told input.old) (λ text.
         WritesPart IsVerdictText text (W.took output.old) (W.took output.new)) }
     ensures unwritten { IfErr result (λ fault. fault ≢ RunFault.Write → output.new ≡ output.old) }
+    // No other fault is answered than one of a bundle with a certificate, or that a device failed or
+    // memory ran out.
+    ensures faults { IfErr result IsFaultOfCheck }
     // Read and Write come only where the device's failures rose in the call.
     ensures read_failures { R.failed input.new ≡ counted is_read result (R.failed input.old) }
     ensures write_failures { W.failed output.new ≡ counted is_write result (W.failed output.old) }

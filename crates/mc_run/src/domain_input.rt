@@ -7,6 +7,7 @@ ghost use Rattle.mc_text.specs.Device.{counted};
 ghost use Rattle.mc_domain.specs.Meaning.{MeansListed};
 ghost use Rattle.mc_run.specs.InputMeaning.{IsRefusedFor};
 ghost use Rattle.mc_run.specs.Failures.{is_read, is_write};
+ghost use Rattle.mc_run.specs.Faults.{IsFaultOfMake};
 
 use crate::fault::RunFault;
 use mc_domain::domain_in;
@@ -25,6 +26,7 @@ pub(crate) fn read_domain<R: Input>(alloc: Global, input: &mut R) -> Result<Doma
         IfSome (R.told input.old) (λ text. IsRefusedFor false text fault)) }
     ensures consumed { ConsumesUpTo max_input (R.told input.old) (R.told input.new) }
     ensures no_write { IfErr result (λ fault. is_write fault ≡ false) }
+    ensures faults { IfErr result IsFaultOfMake }
     ensures failures { R.failed input.new ≡ counted is_read result (R.failed input.old) }
 {
     let read = domain_in(alloc, input, false)?;

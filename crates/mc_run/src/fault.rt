@@ -46,19 +46,19 @@ pub enum RunFault {
     /// (8) The topology lists no flow with this number, counted from 1.
     #[error("refused: flow: {0}")]
     NoSuchFlow(u32),
-    /// (9) No router of the topology has the name at this place, counted from 1, among those of the
+    /// (9) The input failed.
+    #[error("failed: read")]
+    Read,
+    /// (10) The output failed, or took no byte of a text that has one.
+    #[error("failed: write")]
+    Write,
+    /// (11) Memory ran out.
+    #[error("no memory")]
+    Memory,
+    /// (12) No router of the topology has the name at this place, counted from 1, among those of the
     /// routers to be left out.
     #[error("refused: without: {0}")]
     NoSuchRouter(u32),
-    /// (10) The input failed.
-    #[error("failed: read")]
-    Read,
-    /// (11) The output failed, or took no byte of a text that has one.
-    #[error("failed: write")]
-    Write,
-    /// (12) Memory ran out.
-    #[error("no memory")]
-    Memory,
 }
 
 /// A bundle is refused. Want of memory is the run's own.

@@ -10,6 +10,7 @@ ghost use Rattle.mc_cert.specs.CertificateText.{certificate_text as text_of_cert
 ghost use Rattle.mc_run.specs.InputMeaning.{IsRefusedFor};
 ghost use Rattle.mc_text.specs.Device.{counted};
 ghost use Rattle.mc_run.specs.Failures.{is_read, is_write};
+ghost use Rattle.mc_run.specs.Faults.{IsFaultOfMake};
 ghost use Rattle.mc_run.specs.MakeRun.{AreMade, IsMadeText, IsTextOfMade, SaysAllRight};
 ghost use Rattle.mc_run.specs.Said.{Answers, Writes, WritesPart};
 
@@ -91,6 +92,7 @@ fn made_of<R: Input>(alloc: Global, input: &mut R) -> Result<Said, RunFault>
         IfSome (R.told input.old) (λ text. IsRefusedFor false text fault)) }
     ensures consumed { ConsumesUpTo max_input (R.told input.old) (R.told input.new) }
     ensures no_write { IfErr result (λ fault. is_write fault ≡ false) }
+    ensures faults { IfErr result IsFaultOfMake }
     ensures failures { R.failed input.new ≡ counted is_read result (R.failed input.old) }
 {
     let domain = read_domain(alloc, input)?;
@@ -131,6 +133,9 @@ pub fn run_make<R: Input, W: Output>(
     ensures part { result ≡ Err RunFault.Write → IfSome (R.told input.old) (λ text.
         WritesPart IsMadeText text (W.took output.old) (W.took output.new)) }
     ensures unwritten { IfErr result (λ fault. fault ≢ RunFault.Write → output.new ≡ output.old) }
+    // No other fault is answered than one of a bundle without a certificate, or that a device failed
+    // or memory ran out.
+    ensures faults { IfErr result IsFaultOfMake }
     // Read and Write come only where the device's failures rose in the call.
     ensures read_failures { R.failed input.new ≡ counted is_read result (R.failed input.old) }
     ensures write_failures { W.failed output.new ≡ counted is_write result (W.failed output.old) }

@@ -7,6 +7,7 @@ ghost use Rattle.mc_layout.specs.Packing.{IsPacked};
 ghost use Rattle.mc_layout.specs.PackRun.{WritesPacked, WritesPartOfPacked};
 ghost use Rattle.mc_text.specs.Device.{counted};
 ghost use Rattle.mc_run.specs.Failures.{is_read, is_write};
+ghost use Rattle.mc_run.specs.Faults.{IsFaultOfPack};
 ghost use Rattle.mc_run.specs.PackingRun.{AnswersPack, IsOfDevices};
 
 use crate::fault::RunFault;
@@ -39,6 +40,9 @@ pub fn run_pack<F: FileSource, W: Output>(
     ensures part { result ≡ Err RunFault.Write → IfSome (F.told files.old) (λ told.
         WritesPartOfPacked certificate told (W.took output.old) (W.took output.new)) }
     ensures unwritten { IfErr result (λ fault. fault ≢ RunFault.Write → output.new ≡ output.old) }
+    // No other fault is answered than the topology's, that something is too large for a bundle, or
+    // that a device failed or memory ran out.
+    ensures faults { IfErr result IsFaultOfPack }
     // Read and Write come only where the device's failures rose in the call.
     ensures read_failures { F.failed files.new ≡ counted is_read result (F.failed files.old) }
     ensures write_failures { W.failed output.new ≡ counted is_write result (W.failed output.old) }

@@ -7,6 +7,7 @@ ghost use Rattle.mc_text.specs.Bundle.{max_input};
 ghost use Rattle.mc_text.specs.ReadFault.{ConsumesUpTo};
 ghost use Rattle.mc_text.specs.Device.{counted};
 ghost use Rattle.mc_run.specs.Failures.{is_read, is_write};
+ghost use Rattle.mc_run.specs.Faults.{IsFaultOfReplay};
 ghost use Rattle.mc_run.specs.ReplayRun.{HasNoTravel, IsReplayRefused, IsTextOfTravel};
 ghost use Rattle.mc_run.specs.ReplayRun.{IsTravelText};
 ghost use Rattle.mc_run.specs.Said.{Answers, Writes, WritesPart};
@@ -45,6 +46,7 @@ fn travel_of<P: Picker>(
     ensures text { IfOk result (λ said. IsTextOfTravel domain.now flow ttl (P.choices picker.old)
         said.yes (string_bytes said.text)) }
     ensures none { IfErr result (HasNoTravel domain.now flow) }
+    ensures faults { IfErr result (IsFaultOfReplay flow) }
 {
     let place = place_of(domain, flow)?;
     let travel = replay(alloc, domain, place, ttl, picker)?;
@@ -71,6 +73,7 @@ fn travel_in<P: Picker, R: Input>(
         IfSome (R.told input.old) (λ text. IsReplayRefused flow text fault)) }
     ensures consumed { ConsumesUpTo max_input (R.told input.old) (R.told input.new) }
     ensures no_write { IfErr result (λ fault. is_write fault ≡ false) }
+    ensures faults { IfErr result (IsFaultOfReplay flow) }
     ensures failures { R.failed input.new ≡ counted is_read result (R.failed input.old) }
 {
     let domain = read_domain(alloc, input)?;
@@ -108,6 +111,9 @@ pub fn run_replay<P: Picker, R: Input, W: Output>(
         WritesPart (IsTravelText flow ttl (P.choices picker.old)) text
         (W.took output.old) (W.took output.new)) }
     ensures unwritten { IfErr result (λ fault. fault ≢ RunFault.Write → output.new ≡ output.old) }
+    // No other fault is answered than one of a bundle without a certificate, that it lists no flow
+    // with this number, or that a device failed or memory ran out.
+    ensures faults { IfErr result (IsFaultOfReplay flow) }
     // Read and Write come only where the device's failures rose in the call.
     ensures read_failures { R.failed input.new ≡ counted is_read result (R.failed input.old) }
     ensures write_failures { W.failed output.new ≡ counted is_write result (W.failed output.old) }

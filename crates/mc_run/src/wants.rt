@@ -7,6 +7,7 @@ ghost use Rattle.mc_text.specs.Lines.{max_text};
 ghost use Rattle.mc_text.specs.ReadFault.{ConsumesUpTo};
 ghost use Rattle.mc_text.specs.Device.{counted};
 ghost use Rattle.mc_run.specs.Failures.{is_read, is_write};
+ghost use Rattle.mc_run.specs.Faults.{IsFaultOfWants};
 ghost use Rattle.mc_run.specs.WantsRun.{answer_line, Answers, WritesPart};
 ghost use Rattle.mc_run.specs.WantsSoFar.{Looks, LooksThrough};
 
@@ -82,6 +83,7 @@ fn wanted_in<R: Input>(
     ensures answer { IfSome (R.told input.old) (λ text. Answers text group source result) }
     ensures consumed { ConsumesUpTo (max_text + 1) (R.told input.old) (R.told input.new) }
     ensures kind { IfErr result (λ fault. fault ≢ RunFault.Write) }
+    ensures faults { IfErr result IsFaultOfWants }
     ensures failures { R.failed input.new ≡ counted is_read result (R.failed input.old) }
 {
     let Ok(mut buffer) = Vec::from_elem(alloc, 0u8, PIECE) else {
@@ -125,6 +127,8 @@ pub fn run_wants<R: Input, W: Output>(
     ensures part { result ≡ Err RunFault.Write
         → WritesPart (R.told input.old) group source (W.took output.old) (W.took output.new) }
     ensures unwritten { IfErr result (λ fault. fault ≢ RunFault.Write → output.new ≡ output.old) }
+    // No other fault is answered than the list's, or that a device failed or memory ran out.
+    ensures faults { IfErr result IsFaultOfWants }
     // Read and Write come only where the device's failures rose in the call.
     ensures read_failures { R.failed input.new ≡ counted is_read result (R.failed input.old) }
     ensures write_failures { W.failed output.new ≡ counted is_write result (W.failed output.old) }

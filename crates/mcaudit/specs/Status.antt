@@ -1,5 +1,5 @@
--- The exit status that tells why the program gives no answer.
-use Rattle.std.specs.Prelude.{ℕ}
+-- The exit status that tells the program's answer, or why it gives none.
+use Rattle.std.specs.Prelude.{ℕ, Bool, true, false, Result, Ok, Err}
 use Rattle.mc_words.specs.declared.fault.WordsFault.TheVariants as words
 use Rattle.mc_run.specs.declared.fault.RunFault.TheVariants as run
 use Rattle.mcaudit.specs.declared.failure.Failure.{Failure}
@@ -25,3 +25,9 @@ status_of (Run run.Memory) = 4
 status_of (Words words.Memory) = 4
 -- the words are wrong
 status_of (Words (words.Wrong text)) = 5
+
+-- 0 for yes and nothing else, 1 for no, and the failure's status where there is no answer
+abbrev pub status_of_answer : Result Bool Failure → ℕ
+status_of_answer (Ok true) = 0
+status_of_answer (Ok false) = 1
+status_of_answer (Err failure) = status_of failure

@@ -3,6 +3,8 @@ use Rattle.std.specs.String.{string_bytes}
 use Rattle.mc_run.specs.AuditRun.{HasUnwanted, IsAudited}
 use Rattle.mc_run.proofs.AuditAll.{noted_same}
 use Rattle.mc_run.proofs.SameLemmas.{same_audited, same_unwanted}
+use Rattle.std.proofs.lemmas.Result.{err_from_is_err_and}
+use Rattle.mc_run.proofs.FaultLemmas.{without_fault}
 use Rattle.mc_run.proofs.audit.audit_of.Goals as goal
 
 pub returns-in-Ok-clause-text : goal.returns-in-Ok-clause-text
@@ -27,3 +29,8 @@ returns-in-Ok-clause-unwanted g c =
     c.in_ok-read.read.domain notes (λ whole same. same_unwanted same notes names o unwanted)
     c.in_ok-read.ensures.means c.in_ok-read.ensures.routers c.in_ok-read.ensures.notes
     c.in-Ok.ensures.unwanted
+
+pub returns-in_err-read-clause-faults : goal.returns-in_err-read-clause-faults
+returns-in_err-read-clause-faults g c =
+    let p = err_from_is_err_and c.from_residual.result c.from_residual.ensures.1 in
+    rw (p.1, p.2) (without_fault c.in_err-read.field-0.0 c.in_err-read.ensures.faults)

@@ -36,3 +36,8 @@ returns-in-Err-clause-refused g c = by (g.R.Input.told c.args.input.now)
     by : (told : Option (List ℕ)) → IfSome told (λ text. IsRefusedFor true text Memory)
     by None = tt
     by (Some text) = tt
+
+pub returns-in_err-read-clause-faults : goal.returns-in_err-read-clause-faults
+returns-in_err-read-clause-faults g c =
+    let p = err_from_is_err_and c.from_residual.result c.from_residual.ensures.1 in
+    rw (p.1, p.2) c.in_err-read.ensures.faults

@@ -4,6 +4,7 @@ use Rattle.mc_cert.proofs.Belongs.{text_belongs}
 use Rattle.mc_cert.specs.Certificate.{BelongsTo}
 use Rattle.mc_domain.specs.InputView.{text_seen}
 use Rattle.mc_run.proofs.CheckLemmas.{certificate_refused, certified}
+use Rattle.mc_run.proofs.FaultLemmas.{certificate_fault}
 use Rattle.mc_run.proofs.check.with_certificate.Goals as goal
 
 pub returns-in_err-certificate-clause-refused : goal.returns-in_err-certificate-clause-refused
@@ -26,3 +27,8 @@ returns-clause-belongs c =
     let belongs = text_belongs c.topology.result.now c.deref.result.now
     c.in_ok-certificate.certificate c.in_ok-certificate.ensures.found in
     subst (λ t. BelongsTo t c.in_ok-certificate.certificate) c.topology.ensures.topology belongs
+
+pub returns-in_err-certificate-clause-faults : goal.returns-in_err-certificate-clause-faults
+returns-in_err-certificate-clause-faults c =
+    let p = err_from_is_err_and c.from_residual.result c.from_residual.ensures.1 in
+    rw (p.1, p.2) (certificate_fault c.in_err-certificate.field-0.0 c.in_err-certificate.field-0.0.kind)

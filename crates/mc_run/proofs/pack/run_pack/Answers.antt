@@ -30,3 +30,7 @@ pub returns-in_err-pack-clause-part : goal.returns-in_err-pack-clause-part
 returns-in_err-pack-clause-part g c =
     packing.part_told c.in_err-pack.field-0.0 c.from_residual.result _ c.from_residual.ensures.1
     c.in_err-pack.ensures.part
+
+pub returns-in_err-pack-clause-faults : goal.returns-in_err-pack-clause-faults
+returns-in_err-pack-clause-faults g c =
+    packing.faults_told c.in_err-pack.field-0.0 c.from_residual.result c.from_residual.ensures.1

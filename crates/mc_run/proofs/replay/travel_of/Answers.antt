@@ -1,6 +1,7 @@
 use Rattle.std.proofs.Common.{inl, inr, refl}
 use Rattle.std.proofs.lemmas.Result.{err_from_is_err_and}
 use Rattle.mc_run.proofs.ReplayLemmas.{travel_made}
+use Rattle.mc_run.proofs.FaultLemmas.{travel_fault}
 use Rattle.mc_run.proofs.replay.travel_of.Goals as goal
 
 pub returns-in_err-place-clause-none : goal.returns-in_err-place-clause-none
@@ -26,3 +27,9 @@ returns-clause-text g c =
     c.topology-topology.result.now c.flow.result.now c.in_ok-travel.travel _ _
     c.in_ok-place.ensures.counted c.topology-topology.ensures.topology c.flow.ensures.flow
     c.in_ok-travel.ensures.run c.is_clean-clean.ensures c.in_ok-text.ensures
+
+pub returns-in_err-place-clause-faults : goal.returns-in_err-place-clause-faults
+returns-in_err-place-clause-faults g c =
+    let p = err_from_is_err_and c.from_residual.result c.from_residual.ensures.1 in
+    rw (p.1, p.2) (travel_fault c.args.domain.now c.args.flow c.in_err-place.field-0.0
+    (inl (c.in_err-place.ensures.fault, c.in_err-place.ensures.none)))

@@ -2,6 +2,7 @@ use Rattle.std.proofs.Common.{sym}
 use Rattle.std.proofs.lemmas.Result.{err_from_is_err_and}
 use Rattle.mc_run.proofs.LookLemmas.{looked_answer, looked_refused, failed_run}
 use Rattle.mc_run.proofs.LookLemmas.{not_written, of_list_kind-own}
+use Rattle.mc_run.proofs.FaultLemmas.{input_fault, list_fault}
 use Rattle.mc_run.proofs.wants.wanted_in.Goals as goal
 
 pub returns-in_err-wanted-clause-answer : goal.returns-in_err-wanted-clause-answer
@@ -23,7 +24,7 @@ returns-in_err-last-clause-answer g c =
     (g.R.Input.told c.look_through.new.input) c.new-reader.result c.look_through.new.reader
     c.args.group c.args.source c.in_ok-wanted.wanted c.in_err-last.field-0.0
     c.new-reader.ensures.reads c.in_ok-wanted.ensures.looks c.in_ok-wanted.ensures.end
-    (sym c.in_err-last.ensures))
+    (sym c.in_err-last.ensures.ends))
 
 pub returns-in_err-last-clause-kind : goal.returns-in_err-last-clause-kind
 returns-in_err-last-clause-kind g c =
@@ -44,4 +45,15 @@ returns-clause-answer g c =
     c.new-reader.result c.look_through.new.reader c.args.group c.args.source
     c.in_ok-wanted.wanted c.is_wanted-wanted_by_last.result c.in_ok-last.last
     c.new-reader.ensures.reads c.in_ok-wanted.ensures.looks c.in_ok-wanted.ensures.end
-    (sym c.in_ok-last.ensures) (rw c.records.ensures at c.is_wanted-wanted_by_last.ensures)
+    (sym c.in_ok-last.ensures.ends) (rw c.records.ensures at c.is_wanted-wanted_by_last.ensures)
+
+pub returns-in_err-wanted-clause-faults : goal.returns-in_err-wanted-clause-faults
+returns-in_err-wanted-clause-faults g c =
+    let p = err_from_is_err_and c.from_residual.result c.from_residual.ensures.1 in
+    rw (p.1, p.2) (input_fault c.in_err-wanted.field-0.0 c.in_err-wanted.ensures.kind)
+
+pub returns-in_err-last-clause-faults : goal.returns-in_err-last-clause-faults
+returns-in_err-last-clause-faults g c =
+    let p = err_from_is_err_and c.from_residual-in_err-last.result
+    c.from_residual-in_err-last.ensures.1 in
+    rw (p.1, p.2) (list_fault c.in_err-last.field-0.0 c.in_err-last.field-0.0.kind)

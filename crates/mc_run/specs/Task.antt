@@ -1,0 +1,57 @@
+-- Which task it is, and what it reads.
+use Rattle.std.specs.Prelude.{ℕ, Bool, true, false, List, ⊤}
+use Rattle.std.specs.String.{string_bytes}
+use Rattle.mc_words.specs.declared.audit_words.AuditWords.{AuditWords}
+use Rattle.mc_words.specs.declared.task.Task.{Task}
+use Rattle.mc_words.specs.declared.task.Task.TheVariants.{Wants, Check, Make, Replay, Pack, Audit}
+use Rattle.mc_words.specs.declared.task.Task.TheVariants.{Help, Version}
+
+-- ---- the fact holds of the arguments of a task of this kind
+
+abbrev pub IfWants : Task → ((group source : ℕ) → Type 0) → Type 0
+IfWants (Wants group source) P = P group source
+IfWants _ P = ⊤
+
+abbrev pub IfCheck : Task → Type 0 → Type 0
+IfCheck Check P = P
+IfCheck _ P = ⊤
+
+abbrev pub IfMake : Task → Type 0 → Type 0
+IfMake Make P = P
+IfMake _ P = ⊤
+
+abbrev pub IfReplay : Task → ((flow ttl : ℕ) (last : Bool) → Type 0) → Type 0
+IfReplay (Replay flow ttl last) P = P flow ttl last
+IfReplay _ P = ⊤
+
+abbrev pub IfPack : Task → ((certificate : Bool) → Type 0) → Type 0
+IfPack (Pack folder certificate) P = P certificate
+IfPack _ P = ⊤
+
+abbrev pub IfAudit : Task → (AuditWords → Type 0) → Type 0
+IfAudit (Audit words) P = P words
+IfAudit _ P = ⊤
+
+abbrev pub IfHelp : Task → ((text : List ℕ) → Type 0) → Type 0
+IfHelp (Help text) P = P (string_bytes text)
+IfHelp _ P = ⊤
+
+abbrev pub IfVersion : Task → Type 0 → Type 0
+IfVersion Version P = P
+IfVersion _ P = ⊤
+
+-- ---- what it reads
+
+-- it reads the input
+abbrev pub reads_input : Task → Bool
+reads_input (Wants group source) = true
+reads_input Check = true
+reads_input Make = true
+reads_input (Replay flow ttl last) = true
+reads_input _ = false
+
+-- it reads the files of a folder
+abbrev pub reads_files : Task → Bool
+reads_files (Pack folder certificate) = true
+reads_files (Audit words) = true
+reads_files _ = false

@@ -1,0 +1,113 @@
+//! The tasks that read the files of a folder: each runs its own run, with its own arguments.
+
+ghost use Rattle.std.specs.Prelude.{◌≡◌, ◌≢◌, ◌<◌, IfErr};
+ghost use Rattle.mc_text.specs.Device.{counted};
+ghost use Rattle.mc_run.specs.Failures.{is_read, is_write};
+ghost use Rattle.mc_run.specs.TaskRuns.{IsAnswered, IsAuditRun, IsPackRun, enough_of, is_enough};
+ghost use Rattle.mc_run.specs.TaskRuns.{names_of, options_of};
+
+use crate::audit::run_audit;
+use crate::audit_options::AuditOptions;
+use crate::audit_said::AuditAnswer;
+use crate::fault::RunFault;
+use crate::pack::run_pack;
+use mc_layout::PieceSource;
+use mc_text::Output;
+use mc_words::{AuditOptions as WordsOptions, AuditWords};
+use std::alloc::Global;
+
+/// `mcaudit pack`, which answers yes where the bundle is written.
+pub(crate) fn pack_task<F: PieceSource, W: Output>(
+    alloc: Global,
+    certificate: bool,
+    files: &mut F,
+    output: &mut W,
+) -> Result<bool, RunFault>
+    requires reads { F.failed files.old < u64.MAX }
+    requires writes { W.failed output.old < u64.MAX }
+    ensures files_same { F.names files.new ≡ F.names files.old }
+    ensures output_same { W.names output.new ≡ W.names output.old }
+    ensures run { IsPackRun certificate (F.told files.old) result
+        (W.took output.old) (W.took output.new) }
+    ensures unwritten { IfErr result (λ fault. fault ≢ RunFault.Write → output.new ≡ output.old) }
+    ensures read_failures { F.failed files.new ≡ counted is_read result (F.failed files.old) }
+    ensures write_failures { W.failed output.new ≡ counted is_write result (W.failed output.old) }
+{
+    match run_pack(alloc, files, certificate, output) {
+        Ok(()) => Ok(true),
+        Err(fault) => Err(fault),
+    }
+}
+
+/// What the words ask an audit to judge and to show.
+fn options_of(words: &WordsOptions) -> AuditOptions
+    ensures { result ≡ options_of words.now }
+{
+    AuditOptions {
+        travels: words.travels,
+        faults: words.faults,
+        unlisted: words.unlisted,
+        strict: words.strict,
+        json: words.json,
+    }
+}
+
+/// Whether an audit's answer is enough: it is yes and, where it has to be strict, no flow is wanted by
+/// nobody.
+fn is_enough(answer: AuditAnswer, strict: bool) -> bool
+    ensures { result ≡ is_enough strict answer }
+{
+    answer.yes && (answer.unwanted == 0 || !strict)
+}
+
+/// An audit's answer, as whether it is enough.
+fn enough_of(audited: Result<AuditAnswer, RunFault>, strict: bool) -> Result<bool, RunFault>
+    ensures { result ≡ enough_of strict audited }
+{
+    match audited {
+        Ok(answer) => Ok(is_enough(answer, strict)),
+        Err(fault) => Err(fault),
+    }
+}
+
+/// `mcaudit audit`, without whether its answer is enough.
+fn audit_as_asked<F: PieceSource, W: Output>(
+    alloc: Global,
+    words: &AuditWords<'_>,
+    files: &mut F,
+    output: &mut W,
+) -> Result<AuditAnswer, RunFault>
+    requires reads { F.failed files.old < u64.MAX }
+    requires writes { W.failed output.old < u64.MAX }
+    ensures files_same { F.names files.new ≡ F.names files.old }
+    ensures output_same { W.names output.new ≡ W.names output.old }
+    ensures answered { IsAnswered (options_of words.now.options) (names_of words.now)
+        (F.told files.old) result (W.took output.old) (W.took output.new) }
+    ensures unwritten { IfErr result (λ fault. fault ≢ RunFault.Write → output.new ≡ output.old) }
+    ensures read_failures { F.failed files.new ≡ counted is_read result (F.failed files.old) }
+    ensures write_failures { W.failed output.new ≡ counted is_write result (W.failed output.old) }
+{
+    let options = options_of(&words.options);
+    run_audit(alloc, files, options, &words.without, output)
+}
+
+/// `mcaudit audit`, which answers whether the audit's answer is enough.
+pub(crate) fn audit_task<F: PieceSource, W: Output>(
+    alloc: Global,
+    words: &AuditWords<'_>,
+    files: &mut F,
+    output: &mut W,
+) -> Result<bool, RunFault>
+    requires reads { F.failed files.old < u64.MAX }
+    requires writes { W.failed output.old < u64.MAX }
+    ensures files_same { F.names files.new ≡ F.names files.old }
+    ensures output_same { W.names output.new ≡ W.names output.old }
+    ensures run { IsAuditRun words.now (F.told files.old) result
+        (W.took output.old) (W.took output.new) }
+    ensures unwritten { IfErr result (λ fault. fault ≢ RunFault.Write → output.new ≡ output.old) }
+    ensures read_failures { F.failed files.new ≡ counted is_read result (F.failed files.old) }
+    ensures write_failures { W.failed output.new ≡ counted is_write result (W.failed output.old) }
+{
+    let audited = audit_as_asked(alloc, words, files, output);
+    enough_of(audited, words.options.strict)
+}

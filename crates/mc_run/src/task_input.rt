@@ -1,0 +1,101 @@
+//! The tasks that read an input: each runs its own run, with its own arguments.
+
+ghost use Rattle.std.specs.Prelude.{◌≡◌, ◌≢◌, ◌<◌, IfErr};
+ghost use Rattle.mc_text.specs.Device.{counted};
+ghost use Rattle.mc_run.specs.Failures.{is_read, is_write};
+ghost use Rattle.mc_run.specs.TaskRuns.{IsCheckRun, IsMakeRun, IsReplayRun, IsWantsRun};
+
+use crate::check::run_check;
+use crate::fault::RunFault;
+use crate::make::run_make;
+use crate::replay::run_replay;
+use crate::wants::run_wants;
+use mc_replay::{First, Last};
+use mc_text::{Addr, Input, Output};
+use std::alloc::Global;
+
+/// `mcaudit wants`.
+pub(crate) fn wants_task<R: Input, W: Output>(
+    alloc: Global,
+    group: Addr,
+    source: Addr,
+    input: &mut R,
+    output: &mut W,
+) -> Result<bool, RunFault>
+    requires reads { R.failed input.old < u64.MAX }
+    requires writes { W.failed output.old < u64.MAX }
+    ensures input_same { R.names input.new ≡ R.names input.old }
+    ensures output_same { W.names output.new ≡ W.names output.old }
+    ensures run { IsWantsRun group source (R.told input.old) (R.told input.new) result
+        (W.took output.old) (W.took output.new) }
+    ensures unwritten { IfErr result (λ fault. fault ≢ RunFault.Write → output.new ≡ output.old) }
+    ensures read_failures { R.failed input.new ≡ counted is_read result (R.failed input.old) }
+    ensures write_failures { W.failed output.new ≡ counted is_write result (W.failed output.old) }
+{
+    run_wants(alloc, group, source, input, output)
+}
+
+/// `mcaudit check`.
+pub(crate) fn check_task<R: Input, W: Output>(
+    alloc: Global,
+    input: &mut R,
+    output: &mut W,
+) -> Result<bool, RunFault>
+    requires reads { R.failed input.old < u64.MAX }
+    requires writes { W.failed output.old < u64.MAX }
+    ensures input_same { R.names input.new ≡ R.names input.old }
+    ensures output_same { W.names output.new ≡ W.names output.old }
+    ensures run { IsCheckRun (R.told input.old) (R.told input.new) result
+        (W.took output.old) (W.took output.new) }
+    ensures unwritten { IfErr result (λ fault. fault ≢ RunFault.Write → output.new ≡ output.old) }
+    ensures read_failures { R.failed input.new ≡ counted is_read result (R.failed input.old) }
+    ensures write_failures { W.failed output.new ≡ counted is_write result (W.failed output.old) }
+{
+    run_check(alloc, input, output)
+}
+
+/// `mcaudit make`.
+pub(crate) fn make_task<R: Input, W: Output>(
+    alloc: Global,
+    input: &mut R,
+    output: &mut W,
+) -> Result<bool, RunFault>
+    requires reads { R.failed input.old < u64.MAX }
+    requires writes { W.failed output.old < u64.MAX }
+    ensures input_same { R.names input.new ≡ R.names input.old }
+    ensures output_same { W.names output.new ≡ W.names output.old }
+    ensures run { IsMakeRun (R.told input.old) (R.told input.new) result
+        (W.took output.old) (W.took output.new) }
+    ensures unwritten { IfErr result (λ fault. fault ≢ RunFault.Write → output.new ≡ output.old) }
+    ensures read_failures { R.failed input.new ≡ counted is_read result (R.failed input.old) }
+    ensures write_failures { W.failed output.new ≡ counted is_write result (W.failed output.old) }
+{
+    run_make(alloc, input, output)
+}
+
+/// `mcaudit replay`, where the last of the waiting copies is always handled next, or the first.
+pub(crate) fn replay_task<R: Input, W: Output>(
+    alloc: Global,
+    flow: u32,
+    ttl: u8,
+    last: bool,
+    input: &mut R,
+    output: &mut W,
+) -> Result<bool, RunFault>
+    requires ttl { 0 < ttl }
+    requires reads { R.failed input.old < u64.MAX }
+    requires writes { W.failed output.old < u64.MAX }
+    ensures input_same { R.names input.new ≡ R.names input.old }
+    ensures output_same { W.names output.new ≡ W.names output.old }
+    ensures run { IsReplayRun flow ttl last (R.told input.old) (R.told input.new) result
+        (W.took output.old) (W.took output.new) }
+    ensures unwritten { IfErr result (λ fault. fault ≢ RunFault.Write → output.new ≡ output.old) }
+    ensures read_failures { R.failed input.new ≡ counted is_read result (R.failed input.old) }
+    ensures write_failures { W.failed output.new ≡ counted is_write result (W.failed output.old) }
+{
+    if last {
+        run_replay(alloc, flow, ttl, &mut Last, input, output)
+    } else {
+        run_replay(alloc, flow, ttl, &mut First, input, output)
+    }
+}

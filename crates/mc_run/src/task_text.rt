@@ -1,0 +1,26 @@
+//! The tasks that read nothing, and write a text.
+
+ghost use Rattle.std.specs.Prelude.{◌≡◌, ◌≢◌, ◌<◌, IfErr};
+ghost use Rattle.mc_text.specs.Device.{counted};
+ghost use Rattle.mc_run.specs.Failures.{is_write};
+ghost use Rattle.mc_run.specs.TaskRuns.{IsTextRun};
+
+use crate::fault::RunFault;
+use mc_text::{Output, write_all};
+
+/// The program's name and its version, which is that of the file VERSION, with a line feed.
+pub(crate) const VERSION_LINE: &str = "mcaudit 0.2.0\n";
+
+/// `mcaudit --version` and `mcaudit help`: writes the text, and answers yes.
+pub(crate) fn text_task<W: Output>(text: &str, output: &mut W) -> Result<bool, RunFault>
+    requires { W.failed output.old < u64.MAX }
+    ensures same { W.names output.new ≡ W.names output.old }
+    ensures run { IsTextRun text.now result (W.took output.old) (W.took output.new) }
+    ensures unwritten { IfErr result (λ fault. fault ≢ RunFault.Write → output.new ≡ output.old) }
+    ensures write_failures { W.failed output.new ≡ counted is_write result (W.failed output.old) }
+{
+    match write_all(output, text.as_bytes()) {
+        Ok(()) => Ok(true),
+        Err(_) => Err(RunFault::Write),
+    }
+}

@@ -1,0 +1,19 @@
+//! The folder that a task reads.
+
+ghost use Rattle.std.specs.Prelude.{◌≡◌, None, false};
+
+use mc_layout::Folder;
+use mc_words::Task;
+use std::rt::Files;
+
+/// The folder that the task reads. For a task that reads none it is the present directory, of which
+/// nothing is asked.
+pub(crate) fn folder_of<'a, R: Files>(rt: &'a R, task: &'a Task<'a>) -> Folder<'a, R>
+    ensures { result ≡ record { told = None; is_open = false; left = None; failed = 0 } }
+{
+    match task {
+        Task::Pack { folder, .. } => Folder::new(rt, folder),
+        Task::Audit(words) => Folder::new(rt, words.folder),
+        _ => Folder::new(rt, ""),
+    }
+}

@@ -5,6 +5,7 @@ name of a function of this file and its words. A function gets the table's text 
 """
 import re
 import sys
+import tomllib
 
 
 def repeated(_base, byte, size):
@@ -55,6 +56,19 @@ def trailing(_base, *counts):
     return [topology(b"", *counts)[0].replace(b"}", b",}")]
 
 
+def headed(_base, *counts):
+    """The same with each row under a header whose letters are all escaped: of topologies that are read it has the most
+    bytes that are compared."""
+    table = tomllib.loads(topology(b"", *counts)[0].decode())
+    lines = ["version = 1", f"lans = {table['lans']}"]
+    for name in ("router", "interface", "source", "flow"):
+        header = "".join(f"\\U{ord(letter):08x}" for letter in name)
+        for row in table[name]:
+            lines += [f'[["{header}"]]', *(f"{key} = {value!r}" for key, value in row.items())]
+            lines += ["order = 'big'"] * (name == "router")
+    return ["\n".join(lines + [""]).encode()]
+
+
 def dotted(_base, marks):
     """A topology with so many marks whose keys have 80 parts, as many as a key may have: of what was tried, and isn't
     refused for its marks, this takes the most memory, since each part is a table of its own."""
@@ -69,17 +83,22 @@ def dearest(_base):
     return [front + b"a" * (16777216 - len(front) - 4) + b'"""\n']
 
 
-def compared(_base, parts, beside):
-    """A topology of 131,072 marks with a header whose key has so many parts of 1,022 bytes, each with so many beside it
-    that differ in the end alone, and then pairs, for each of which the parts are looked up: of what was tried, and isn't
-    refused for its marks, 60 and 8 take the most time."""
-    lines, path, front = [], [], "a" * 1016
-    for _ in range(int(parts)):
-        lines += [f"[{'.'.join([*path, f'{front}{number:06}'])}]\n" for number in range(int(beside))]
-        path.append(f"{front}zzzzzz")
-    text = "".join(lines) + f"[{'.'.join(path)}]\n"
-    pairs = 131072 - text.count("[") - text.count(".")
-    return [(text + "".join(f"{number:x}=1\n" for number in range(pairs))).encode()]
+def below(_base, parts, size, pairs, *more):
+    """A topology with a header whose key has so many parts of so many bytes, and below it so many pairs, for each of which
+    the parts are looked up. More words: so many other headers stand before it, each of which differs from it in the end of
+    its last part alone, so that it is compared with many of them."""
+    front = ".".join(["a" * int(size)] * (int(parts) - 1) + ["a" * (int(size) - 6)])
+    beside = "".join(f"[{front}{number:06}]\n" for number in range(int(*more or "0")))
+    return [(beside + f"[{front}zzzzzz]\n" + "".join(f"{number:x}=1\n" for number in range(int(pairs)))).encode()]
+
+
+def under(_base, pairs, before, key, behind=""):
+    """A text with so many pairs below a header of 4,096 bytes, whose key is so many times a letter, or that between quotes.
+    Before the header and behind it stands what the words say, where `\\n` is a line feed and `\\x20` a space."""
+    before, behind = (word.encode().decode("unicode_escape").encode() for word in (before, behind))
+    quote, letter = key[:-1], key[-1].replace("_", " ") if len(key) > 1 else key
+    header = f"[{quote}{letter * (4094 - 2 * len(quote))}{quote}]".encode()
+    return [before + header + behind + b"\n" + "".join(f"{number:x}=1\n" for number in range(int(pairs))).encode()]
 
 
 def dots(base, before, count):
@@ -95,8 +114,38 @@ def named(_base, quotes, piece, count):
 
 
 def keyed(base, length):
-    """The table's topology with a key of so many letters at its end, which would be another one of the last table."""
+    """The table's topology with a key of so many letters at its end."""
     return [base + b"k" * int(length) + b" = 1\n"]
+
+
+def keyed_row(base, section, number, length):
+    """The table's topology with a key of so many letters in a row of a section: where the rows are inline, and where they
+    stand under headers."""
+    key = "k" * int(length)
+    rows = list(re.finditer(r"\{.*?\}", re.search(rf"^{section} = \[.*?\]$", base.decode(), re.M | re.S)[0]))
+    row = rows[int(number) - 1][0]
+    inline = base.decode().replace(row, row.replace("}", f", {key} = 1}}"))
+    table = tomllib.loads(base.decode())
+    lines = [f"version = {table.pop('version')}", f"lans = {table.pop('lans')}"]
+    for name, each in ((name, each) for name in table for each in enumerate(table[name], 1)):
+        lines += [f"[[{name}]]", *(f"{word} = {value!r}" for word, value in each[1].items())]
+        lines += [f"{key} = 1"] * ((name, each[0]) == (section, int(number)))
+    return [inline.encode(), "\n".join(lines + [""]).encode()]
+
+
+def with_lan(base, name, length):
+    """The table's topology with a LAN of so many letters, the first in its list or the last one."""
+    first, last = (f'"{"a" * int(length)}", ', "") if name == "first" else ("", f', "{"a" * int(length)}"')
+    return [re.sub(r"^lans = \[(.*)\]$", rf"lans = [{first}\1{last}]", base.decode(), 1, re.M).encode()]
+
+
+def zeros(base, key, count):
+    """The table's topology with so many zeros before a number, in each base, and as many with an underscore behind each."""
+    number = re.search(rf"\b{key} = (\d+)", base.decode())
+    for letter in "xob":
+        for zero in ("0", "0_"):
+            text = f"{key} = 0{letter}{zero * int(count)}{int(number[1]):{letter}}"
+            yield base.decode().replace(number[0], text).encode()
 
 
 def deepest(_base):

@@ -15,6 +15,7 @@
 #   stderr      its standard error (without it: empty); or stderr.has, of which it has each line's text
 #   memory      the most KiB of memory that it may take (without it: as much as there is)
 #   stack       the most KiB of stack that it may take (without it: as much as this shell has)
+#   seconds     the most seconds of processor time that it may take (without it: as many as it needs)
 #   status      its exit status (without it: 0)
 #
 # The last line counts the cases: N passed, M failed. The status is 0 if none failed and one was run.
@@ -68,10 +69,12 @@ run_case() {
     [ ! -f "$folder/memory" ] || limit=$(cat "$folder/memory")
     stack=$(ulimit -s)
     [ ! -f "$folder/stack" ] || stack=$(cat "$folder/stack")
+    seconds=unlimited
+    [ ! -f "$folder/seconds" ] || seconds=$(cat "$folder/seconds")
     if [ -f "$folder/stdin.pipe" ]; then
         sh "$folder/stdin.pipe" | "$program" "$@" > "$output" 2> "$scratch/stderr"
     else
-        (ulimit -v "$limit" && ulimit -s "$stack" && exec "$program" "$@") < "$input" > "$output" 2> "$scratch/stderr"
+        (ulimit -v "$limit" && ulimit -s "$stack" && ulimit -t "$seconds" && exec "$program" "$@") < "$input" > "$output" 2> "$scratch/stderr"
     fi
     status=$?
     wanted=0

@@ -24,6 +24,8 @@ these lines, up to an empty one:
   rows: made                a row is words by which a function of made.py makes its text, or many, each a row
   rows: domains             a row tells the files of FOLDER, in the words of domains.py
   rows: missing             a row names the file of the others that FOLDER lacks
+  rows: words               a row is the program's words behind those of the table, `''` an empty one, and a block's
+                            answer is the status and what the first line begins with, on whichever output
 
 Then come blocks, parted by an empty line and `## `. The first line of a block is its answer; lines of comment
 may follow; `@` begins a place of the text, and after it stand the texts that are put into that place, each
@@ -67,7 +69,7 @@ class Table:
     def __init__(self, name):
         head, _, blocks = text_of(f"{name}.table").decode().partition("\n\n")
         said = dict(line.split(": ", 1) for line in head.rstrip("\n").split("\n") if not line.startswith("#"))
-        self.words = said.pop("words")
+        self.words = said.pop("words", "")
         self.file, self.others = said.pop("file", None), said.pop("others", None)
         self.refused, self.read = said.pop("refused", ""), said.pop("read", "")
         self.to_bytes = unescaped if said.pop("escapes", "") == "yes" else str.encode
@@ -77,7 +79,7 @@ class Table:
         self.base = text_of(said.pop("text")) if "text" in said else b""
         is_own = "blocks" not in said
         self.blocks = blocks.rstrip("\n").split("\n\n## ") if is_own else Table(said.pop("blocks")).blocks
-        if said or self.rows_are not in ("texts", "made", "domains", "missing"):
+        if said or self.rows_are not in ("texts", "made", "domains", "missing", "words"):
             raise Wrong(f"an unknown line {min(said, default=self.rows_are)}")
 
     def rows(self):
@@ -89,6 +91,9 @@ class Table:
             _, at, place = rest.partition("@")
             if not answer or not bar:
                 raise Wrong(f"a block without rows: {block}")
+            if self.rows_are == "words":
+                yield from ((answer, f"{words} {row}", b"") for row in texts.split("\n|"))
+                continue
             for text in (text for row in texts.split("\n|") for text in self.texts_of(row)):
                 yield answer, words, self.before + (self.placed(self.to_bytes(place), text) if at else text)
 
@@ -144,7 +149,7 @@ def run(program, table, words, text):
     with tempfile.TemporaryDirectory() as folder:
         text = table.put_files(text, folder)
         for each in words.split("|"):
-            each = [program, *(folder if word == "FOLDER" else word for word in each.split())]
+            each = [program, *({"FOLDER": folder, "''": ""}.get(word, word) for word in each.split())]
             done = subprocess.run(each, input=text, capture_output=True, timeout=SECONDS, check=False)
             text = done.stdout
         return done.returncode, done.stdout.decode(), done.stderr.decode()
@@ -162,8 +167,10 @@ def is_refusal(error, line, of_files):
 
 def fault_of(program, table, answer, words, text):
     """What is wrong with the program's answer to a row, or nothing."""
-    line = table.line_of(answer)
     status, output, error = run(program, table, words, text)
+    if table.rows_are == "words":
+        return None if f"{status} {output or error}".startswith(answer) else f"{status} {output or error}"
+    line = table.line_of(answer)
     if status != status_of(line):
         return f"status {status}, not {status_of(line)}: {error or output}"
     if status in (2, 3):
@@ -181,11 +188,11 @@ def run_table(program, name, pool):
     try:
         table = Table(name)
         tried = [(row, pool.submit(fault_of, program, table, *row)) for row in table.rows()]
-        for (answer, _, text), found in tried:
+        for (answer, words, text), found in tried:
             fault = found.result()
             passed, failed = passed + (not fault), failed + bool(fault)
             if fault:
-                print(f"{name}, {answer}: {fault.strip()}\n  in {text[:2000]!r}")
+                print(f"{name}, {answer}: {fault.strip()}\n  in {text[:2000]!r} with {words}")
     except (Wrong, KeyError, ValueError, OSError, subprocess.TimeoutExpired) as wrong:
         failed += 1
         print(f"{name}: {wrong}")

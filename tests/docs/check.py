@@ -15,7 +15,8 @@ manual page) these are names of something, and each has to be there:
                                     that the crate has are that call's
   [text](path)                      a file, beside the document or below it
 
-And the program and each tool say the version that the file VERSION says, once in its source.
+And the program and each tool say the version that the file VERSION says, once in its source; and the refusals of
+each type have the numbers of fault_numbers.txt, so that none of them moves.
 
 It reads the sources alone, so it takes seconds. Each line that is printed is `FILE:LINE: NAME: what is wrong`. The last
 line counts the names, `N passed, M failed`, and the status is 0 if none failed and one was looked at.
@@ -37,7 +38,10 @@ OPTION = re.compile(r"--[a-z][a-z-]+")
 LINK = re.compile(r"\]\(([^)#:]+)(?:#[^)]*)?\)")
 CLAUSE = re.compile(r"^\s*(?:ensures|requires) ([a-z_]\w*) \{", re.M)
 HEAD = re.compile(r"^ *(?:pub(?:\([^)]*\))? )?fn (\w+)", re.M)
-VERSION = re.compile(r'^(?:version=|VERSION = "|const VERSION_LINE: &str = "mcaudit )([\w.-]+)', re.M)
+VERSION = re.compile(r'^(?:version=|VERSION = "|(?:pub\(crate\) )?const VERSION_LINE: &str = "mcaudit )([\w.-]+)', re.M)
+NUMBERED = re.compile(r"^pub enum (\w+)[^{]*\{\n(.*?)^\}", re.M | re.S)
+REFUSAL = re.compile(r"((?:^    ///.*\n)+)(?:^    #\[.*\n)*^    (\w+)", re.M)
+NUMBER = re.compile(r"^    /// \((\d+)\) ")
 # Words that documents show which stand in another program's texts, or in those of a network.
 ELSEWHERE = {"ip_mr_vif", "ip_mr_cache", "authorized_keys", "known_hosts", "pim_register", "no_memory"}
 
@@ -71,7 +75,7 @@ class Sources:
             if os.path.getsize(path) < 1_000_000:
                 self.options |= set(re.findall(r"--[a-z][a-z-]+", read(path)))
         command = read(os.path.join(TOP, "crates/mc_words/src/command.rt"))
-        self.commands = set(re.findall(r'bare_command\(\s*alloc,\s*"(\w+)"', command))
+        self.commands = {"help"} | set(re.findall(r'bare_command\(\s*alloc,\s*"(\w+)"', command))
         self.options |= {f"--{name}" for name in re.findall(r'(?:flag|option)\(alloc, "(\w+)"', command)}
         self.targets = set(re.findall(r"^([a-z-]+):", read(os.path.join(TOP, "Makefile")), re.M))
         self.tools = {os.path.basename(it) for it in glob.glob(os.path.join(TOP, "tools", "*"))}
@@ -168,17 +172,47 @@ def look_at(path, sources):
 def version_faults():
     """What the program and the tools say of their version that VERSION doesn't, and how many were looked at."""
     version = read(os.path.join(TOP, "VERSION")).strip()
-    paths = [os.path.join(TOP, "crates/mcaudit/src/version.rt"), *sorted(glob.glob(os.path.join(TOP, "tools/mcaudit-*")))]
+    paths = [os.path.join(TOP, "crates/mc_run/src/task_text.rt"), *sorted(glob.glob(os.path.join(TOP, "tools/mcaudit-*")))]
     found = [(os.path.relpath(path, TOP), VERSION.findall(read(path))) for path in paths]
     return [(path, said) for path, said in found if said != [version]], len(paths)
+
+
+def numbers_in_sources():
+    """The refusals of each type whose documentation numbers them, each with its number, or None where it has none."""
+    found = {}
+    for path in files_below("crates"):
+        for name, body in NUMBERED.findall(read(path)) if path.endswith(".rt") else ():
+            numbers = {refusal: NUMBER.match(said) for said, refusal in REFUSAL.findall(body)}
+            if any(numbers.values()):
+                found[name] = {refusal: number and int(number[1]) for refusal, number in numbers.items()}
+    return found
+
+
+def numbers_listed():
+    """What fault_numbers.txt says of each type."""
+    lines = read(os.path.join(TOP, "tests/docs/fault_numbers.txt")).splitlines()
+    parts = [line.partition(": ") for line in lines]
+    return {name: {word.split()[0]: int(word.split()[1]) for word in words.split(", ")} for name, _, words in parts}
+
+
+def number_faults():
+    """The refusals whose number isn't the one that is listed, and how many were looked at."""
+    here, listed = numbers_in_sources(), numbers_listed()
+    names = sorted({(kind, refusal) for kinds in (here, listed) for kind in kinds for refusal in kinds[kind]})
+    pairs = [(name, *(kinds.get(name[0], {}).get(name[1]) for kinds in (here, listed))) for name in names]
+    return [pair for pair in pairs if pair[1] is None or pair[1] != pair[2]], len(pairs)
 
 
 def main():
     sources = Sources()
     wrong, looked = version_faults()
-    failed = len(wrong)
+    moved, numbered = number_faults()
+    looked += numbered
+    failed = len(wrong) + len(moved)
     for path, said in wrong:
         print(f"{path}: says the version {', '.join(said) or 'nowhere'}, and VERSION another")
+    for name, here, listed in moved:
+        print(f"{'::'.join(name)}: has the number {here}, and fault_numbers.txt says {listed}")
     documents = [it for folder in ("", "docs") for it in sorted(glob.glob(os.path.join(TOP, folder, "*.md")))]
     documents.append("docs/mcaudit.1")
     for path in documents:

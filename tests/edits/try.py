@@ -21,7 +21,20 @@ that such a check says nothing of is tried alone, in a whole copy. Two lines mor
   fn: PATH       the function, where the edit changes text outside of bodies, as a definition (such an
                  edit is tried alone), or where the prover names the function otherwise than its
                  place does
-  clause: NAME   a clause of the contract: a goal that the prover names after it must be refused
+  clause: WHICH  the clause that the edit breaks. The edit then counts as refused only where a goal of
+                 this clause is not proved, and not by another goal, as that of a loop's invariant or of
+                 the range of a sum, which is of the proof and of no contract
+
+WHICH is one of these:
+
+  NAME           the clause `ensures NAME` of the function, or that of its trait: the goals whose names
+                 begin with `returns` and have `-clause-NAME`
+  returns        the one clause of the function, where it has no name: the goals whose names begin with
+                 `returns` and have no `-clause-`
+  requires-NAME  the clause `requires NAME` of a function that it calls: the goals whose names have
+                 `-requires` and behind it `-clause-NAME`
+  requires       the one `requires` of a function that it calls, where it has no name: the goals whose
+                 names have `-requires` and no `-clause-`
 
 The last line is 'N passed, M failed'. The status is 0 only if none failed and one was tried.
 """
@@ -109,6 +122,16 @@ def function_around(path, text, first, last):
     return around[-1] if around else None
 
 
+def clauses_of(folder, function):
+    """Returns the names of a function's clauses, but none that its trait has."""
+    for file in (it for it in files_of(folder) if it.startswith(f"{folder}/src/")):
+        text = text_of(file)
+        if found := standing(os.path.relpath(file, folder), text, function):
+            head, body = found
+            return re.findall(r"^ *ensures (\w+) {", text[head.start():body[0]], re.M)
+    return []
+
+
 def changed_functions(folder, texts):
     """Returns the functions that an edit changes, with None where it changes other text."""
     found = set()
@@ -191,8 +214,8 @@ def can_have_twins(folder, path, function):
 
 
 def standing(path, text, function):
-    """Returns the head of a function in a file's text, and where its body stands."""
-    return next((head, body) for name, head, body in functions_of(path, text) if name == function)
+    """Returns the head of a function in a file's text, and where its body stands, if it stands there."""
+    return next(((head, body) for name, head, body in functions_of(path, text) if name == function), None)
 
 
 def add_twin(folder, path, function, text, end):
@@ -235,6 +258,8 @@ class Edit:
             self.fault = "it changes a file outside of src/ and specs/"
         elif self.is_alone and "fn" not in said:
             self.fault = "it changes not one body alone: name the function in a line 'fn: PATH'"
+        elif self.clause == "returns" and (names := clauses_of(crate.folder, self.function.partition("::")[2])):
+            self.fault = f"its function has clauses with names: {', '.join(names)}"
 
     def tried(self):
         """Returns the prover's name for the function that a check tries it on."""
@@ -262,6 +287,7 @@ class Said:
         self.strange = {found[1] for found in map(ANY_ERROR.match, lines) if found}
         self.first_fault = next((it for it in lines if "error" in it), lines[-1])[:200]
         self.functions = dict(re.findall(r"^fn (\S+): (.*)", text, re.M))
+        self.notes = goals_of_notes(lines)
         # a long error goes on in the next line
         self.errors = [
             (found[1], found[2], found[3] + (after if after.startswith("  ") else ""))
@@ -269,18 +295,24 @@ class Said:
             if found
         ]
 
-    def refused_goals(self, function):
-        """Returns the goals of a function, or of a closure in it, that were not proved."""
-        goals = []
+    def refused_goals(self, function, clause=None):
+        """Returns the goals of a function, or of a closure in it, that were not proved.
+
+        Given a clause, returns only those of this clause, none of them in a closure."""
+        goals, has_gone = [], False
+        is_asked = (lambda name: name == function) if clause else (lambda name: is_within(name, function))
+        for path, goal, why in self.errors:
+            if is_asked("::".join([function.partition("::")[0], *path.split("/")[1:-1]])):
+                is_gone = GONE.search(re.sub(r"`[^`]*`", "``", why))
+                has_gone = has_gone or bool(is_gone)
+                goals += [] if is_gone else [goal]
         for name, said in self.functions.items():
-            if is_within(name, function):
+            if is_asked(name):
                 found = re.search(r"`search` did not prove ([^;]*)", said)
                 goals += re.findall(r"`([^`]*)`", found[1]) if found else []
-        for path, goal, why in self.errors:
-            name = "::".join([function.partition("::")[0], *path.split("/")[1:-1]])
-            if is_within(name, function) and not GONE.search(re.sub(r"`[^`]*`", "``", why)):
-                goals.append(goal)
-        return goals
+                # (where an answer names what is gone, another goal may be open for that alone)
+                goals += [] if has_gone else self.notes[name]
+        return [it for it in dict.fromkeys(goals) if not clause or is_of_clause(it, clause)]
 
     def has_stray_errors(self, edits):
         """Returns whether an error stands elsewhere than in the proofs of the functions that edits change."""
@@ -290,10 +322,7 @@ class Said:
 
     def refusal(self, edit):
         """Returns the goals that refuse an edit as it asks, in a few words, or nothing."""
-        goals = self.refused_goals(edit.tried())
-        if edit.clause:
-            goals = [it for it in goals if re.search(rf"clause-{edit.clause}(?!\w)", it)]
-        return ", ".join(dict.fromkeys(goals))[:150]
+        return ", ".join(self.refused_goals(edit.tried(), edit.clause))[:150]
 
     def why_not(self, edit):
         """Says why an edit that was tried alone is not refused."""
@@ -305,6 +334,32 @@ class Said:
         if any(it.startswith("no") for it in own):
             return "NO GOAL REFUSES IT, only a proof script that names what is gone"
         return f"THE CHECK SAYS NOTHING of {edit.function}"
+
+
+def goals_of_notes(lines):
+    """Returns the open goals that a check's notes say of each function; they stand before its line."""
+    found, goals = collections.defaultdict(list), []
+    for line in lines:
+        if note := re.match(r"note: .*: it is not proved .*\(`([^`]*)`\)", line):
+            goals.append(note[1])
+        elif function := re.match(r"fn (\S+): (.*)", line):
+            if not function[2].startswith("proved"):
+                found[function[1]] += goals
+            goals = []
+    return found
+
+
+def is_of_clause(goal, which):
+    """Returns whether a goal is one of the clause that an edit names by its line `clause:`."""
+    place, _, clause = goal.partition("-clause-")
+    words = place.split("-")
+    asks, _, name = which.partition("-")
+    if asks == "requires":
+        # (a condition of `prove!` and `unreachable!` is no clause of a function that is called)
+        is_of_kind = "requires" in words[1:] and words[0] not in ("prove", "unreachable")
+    else:
+        is_of_kind, name = words[0] == "returns", "" if which == "returns" else which
+    return is_of_kind and re.match(rf"{name}(?!\w)", clause) is not None and bool(name) == bool(clause)
 
 
 def is_within(name, function):
@@ -531,6 +586,41 @@ clause: ascending
 file: src/filter.rt
 old:         &self.sources
 new:         &self.sources[..0]
+== clause_without_name: refused (beside cut bodies)
+clause: returns
+file: src/filter.rt
+old:         self.mode
+new:         Mode::Include
+== bounds_and_no_clause: ANOTHER CLAUSE REFUSES IT
+clause: returns
+file: src/filter.rt
+old:         self.mode
+new:         [self.mode][self.sources.len()]
+== returns_beside_names: BAD EDIT: its function has clauses with names: value, ascending
+clause: returns
+file: src/filter.rt
+old:         &self.sources
+new:         &self.sources[..0]
+== requires_of_call: refused (beside cut bodies)
+clause: requires-others_ascending
+file: src/filter.rt
+old:                 take_away(&mut self.sources, &listed);
+new:                 listed.reverse(); take_away(&mut self.sources, &listed);
+== requires_of_another_name: ANOTHER CLAUSE REFUSES IT
+clause: requires-ascending
+file: src/filter.rt
+old:                 take_away(&mut self.sources, &listed);
+new:                 listed.reverse(); take_away(&mut self.sources, &listed);
+== requires_without_name: refused (beside cut bodies)
+clause: requires
+file: src/filter.rt
+old: is_listed(&self.sources, source);
+new: is_listed(&[source, source], source);
+== returns_and_no_requires: ANOTHER CLAUSE REFUSES IT
+clause: requires
+file: src/filter.rt
+old:         self.mode
+new:         Mode::Exclude
 == local_renamed: NO GOAL REFUSES IT
 file: src/addresses.rt
 old: for source in sources.iter() {

@@ -15,9 +15,10 @@ print_help() {
     "$program" "$@" --help 2>&1 | sed '/--help/d'
 }
 
-# The commands of the help on standard input, a line each: those below the line that the pattern fits.
+# The commands of the help on standard input, a line each: those below the line that the pattern fits, and
+# those of the program that have a line of their own.
 print_commands() {
-    sed -n "/$1/,/^\$/s/^  *\\([a-z][a-z]*\\)  .*/\\1/p" | sort
+    sed -n -e "/$1/,/^\$/s/^  *\\([a-z][a-z]*\\)  .*/\\1/p" -e 's/^mcaudit \([a-z][a-z]*\) .*/\1/p' | sort
 }
 
 commands=$(print_help | print_commands '^Commands:')

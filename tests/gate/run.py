@@ -266,7 +266,7 @@ def main():
             copy_file(root, homes, path)
         gate = Gate(room)
         gate.step("packages", "sh", "tests/packages.sh", "gate")
-        gate.step("each thing once", "sh", "tests/house/check.sh")
+        gate.step("each thing once", "sh", "tests/house/check.sh", f"{homes}/crates")
         if not gate.failed and prove(gate, homes):
             for path in edits:
                 copy_file(root, room, path)

@@ -1,7 +1,8 @@
 #!/bin/sh
 # Looks whether each thing of a domain, a run and a flow still stands once.
 #
-#   sh tests/house/check.sh      at the top of the repository
+#   sh tests/house/check.sh [FOLDER]     at the top of the repository; FOLDER is where the edits that must fail stand, as
+#                                        FOLDER/mc_run/must-fail, if not in crates
 #
 # It reads the sources alone, so it takes seconds. A line a rule says how often a thing stands, and how often it may; the
 # last line counts, `N passed, M failed`, and the status is 0 if none failed.
@@ -32,6 +33,21 @@ small() {
 	find "$@" -name '*.antt' ! -name Lib.antt -exec wc -l {} \; | awk -v most="$most" '$1 <= most { count++ } END { print count + 0 }'
 }
 
+# unnamed NAME..: how many edits of these crates name no clause that refuses them
+unnamed() {
+	for name; do
+		find "$edits/$name/must-fail" -name '*.edit' -exec grep -L '^clause: ' {} +
+	done | wc -l
+}
+
+# edited NAME..: how many edits these crates have
+edited() {
+	for name; do
+		find "$edits/$name/must-fail" -name '*.edit'
+	done | wc -l
+}
+
+edits=${1:-crates}
 specs=$(echo crates/*/specs) proofs=$(echo crates/*/proofs)
 # the code of the rooms, without what only tests them; the keys of a certificate and of an audit's answers are words of JSON
 sources=$(ls -d crates/*/src | grep -v /mc_tests_)
@@ -64,6 +80,14 @@ rule "a word with a LAN's name, and with a router and its vif" 2 "$(lines 'struc
 rule 'facts by the name IsKept' 0 "$(lines "${head}(record )?IsKept" $specs)"
 rule 'files of definitions of at most 15 lines' 5 "$(small 15 $specs)"
 rule 'lemmas and definitions that nothing leads to' 0 "$(python3 tests/house/uncited.py | wc -l)"
+
+# --- edits that must fail ---
+# (an edit that names a clause is refused by that clause alone, and not by a proof that no longer fits)
+told='mc_run mc_replay mc_forward mc_check mc_maker'
+others=$(cd "$edits" && ls -d */must-fail | sed 's|/must-fail||' | grep -vxF "$(echo $told | tr ' ' '\n')")
+rule 'of these five crates those without edits' 0 "$(for name in $told; do [ "$(edited "$name")" -gt 0 ] || echo "$name"; done | wc -l)"
+rule 'edits of the runs, the replayer, the checker and the maker that name no clause' 0 "$(unnamed $told)"
+rule 'edits of the other crates that name no clause' "$(($(edited $others) / 5))" "$(unnamed $others)"
 
 printf '%s passed, %s failed\n' "$passed" "$failed"
 [ "$failed" -eq 0 ] && [ "$passed" -gt 0 ]

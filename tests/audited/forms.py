@@ -19,10 +19,10 @@ import subprocess
 import sys
 import tempfile
 import tomllib
-from concurrent.futures import ThreadPoolExecutor
 
 sys.dont_write_bytecode = True
 import random_domains
+from tried import counts, try_all
 
 SECONDS = 60
 COUNT = 2000
@@ -259,20 +259,9 @@ def try_domain(program, number):
 
 def main():
     program = os.path.abspath(sys.argv[1])
-    count = (int(sys.argv[2]) if len(sys.argv) > 2 else COUNT) // FORMS
-    first = int(sys.argv[3]) if len(sys.argv) > 3 else 0
-    failed, kinds = 0, set()
-    with ThreadPoolExecutor(os.cpu_count()) as pool:
-        tried = [pool.submit(try_domain, program, number) for number in range(first, first + count)]
-        for wrong, found in (it.result() for it in tried):
-            kinds |= found
-            failed += len(wrong)
-            print(*wrong, sep="\n", end="\n" if wrong else "")
-    if not KINDS <= kinds:
-        failed += 1
-        print(f"no form has {', '.join(sorted(KINDS - kinds))}")
-    print(f"{count * FORMS - failed} passed, {failed} failed")
-    return 1 if failed or not count else 0
+    count, first = counts(COUNT)
+    numbers = range(first, first + count // FORMS)
+    return try_all([(try_domain, program, number) for number in numbers], len(numbers) * FORMS, KINDS, "form")
 
 
 if __name__ == "__main__":

@@ -16,12 +16,12 @@ import subprocess
 import sys
 import tempfile
 import tomllib
-from concurrent.futures import ThreadPoolExecutor
 
 sys.dont_write_bytecode = True
 import answers
 import faults
 import random_domains
+from tried import counts, try_all
 
 SECONDS = 60
 COUNT = 400
@@ -91,7 +91,8 @@ def sets_of_example(own):
 
 
 def try_folder(program, name, folder, sets, number):
-    """Returns what is wrong with the program's answers of a folder, or nothing, and what is found in its domain."""
+    """Returns what is wrong with the program's answers of a folder, in one text if anything is, and what is found in
+    its domain."""
     routers, wrong, kinds = routers_of(folder), [], set()
     for place, text in enumerate(sets):
         words = words_of(text, routers, number)
@@ -100,7 +101,7 @@ def try_folder(program, name, folder, sets, number):
         said, found = try_words(program, name, words)
         wrong += [said] if said else []
         kinds |= found
-    return "".join(wrong) or None, kinds
+    return ["".join(wrong)] if wrong else [], kinds
 
 
 def try_random(program, number):
@@ -117,29 +118,17 @@ def try_example(program, name):
             stands = file.read()
         worked_out = faults.answer_of(name, ending)
         if worked_out != stands:
-            return f"{name}.{ending}: stands\n{stands}answers.py\n{worked_out}", set()
+            return [f"{name}.{ending}: stands\n{stands}answers.py\n{worked_out}"], set()
     return try_folder(program, name, folder, sets_of_example(own), 0)
 
 
 def main():
     program = os.path.abspath(sys.argv[1])
-    count = int(sys.argv[2]) if len(sys.argv) > 2 else COUNT
-    first = int(sys.argv[3]) if len(sys.argv) > 3 else 0
+    count, first = counts(COUNT)
     examples = sorted(name for name in os.listdir(faults.FOLDER) if os.path.isdir(os.path.join(faults.FOLDER, name)))
-    failed, kinds = 0, set()
-    with ThreadPoolExecutor(os.cpu_count()) as pool:
-        tried = [pool.submit(try_example, program, name) for name in examples]
-        tried += [pool.submit(try_random, program, number) for number in range(first, first + count)]
-        for wrong, found in (it.result() for it in tried):
-            kinds |= found
-            if wrong:
-                failed += 1
-                print(wrong)
-    if not FINDINGS | LINES | BEHIND <= kinds:
-        failed += 1
-        print(f"no domain shows {', '.join(sorted((FINDINGS | LINES | BEHIND) - kinds))}")
-    print(f"{len(tried) - failed} passed, {failed} failed")
-    return 1 if failed or not examples else 0
+    tries = [(try_example, program, name) for name in examples]
+    tries += [(try_random, program, number) for number in range(first, first + count)]
+    return try_all(tries, len(tries) if examples else 0, FINDINGS | LINES | BEHIND, "domain")
 
 
 if __name__ == "__main__":

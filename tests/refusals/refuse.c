@@ -12,7 +12,8 @@
 //   READ_FAILS=n       the n-th read of another file than standard input fails
 //   FILE_PIECE=n       such a read gives at most n bytes
 //   FILE_CUT=n         each other file gives n bytes first, and then the rest
-//   COUNT=FILE         how many requests for memory, opened files and reads of them came is written there at the end
+//   COUNT=FILE         how many requests for memory, opened files and reads of them came is written there at the end,
+//                      and how many of these requests before the first write to standard output
 #define _GNU_SOURCE
 #include <dlfcn.h>
 #include <errno.h>
@@ -29,7 +30,8 @@ static void *(*real_calloc)(size_t, size_t);
 static int (*real_memalign)(void **, size_t, size_t);
 static long refused, refused_from, input_ends, input_piece, input_cut, output_ends, output_stops, output_piece;
 static long open_fails, read_fails, file_piece, file_cut;
-static long growths, opened, reads, given, taken;
+static long growths, opened, reads, given, taken, growths_before_output;
+static int has_written;
 static int is_ready, is_starting;
 
 // What is asked for while the real functions are looked up.
@@ -71,8 +73,9 @@ __attribute__((constructor)) static void begin(void) {
 
 __attribute__((destructor)) static void tell_count(void) {
     const char *path = getenv("COUNT");
-    char text[96];
-    int length = snprintf(text, sizeof text, "%ld %ld %ld\n", growths, opened, reads);
+    char text[128];
+    if (!has_written) growths_before_output = growths;
+    int length = snprintf(text, sizeof text, "%ld %ld %ld %ld\n", growths, opened, reads, growths_before_output);
     int file = path ? syscall(SYS_openat, AT_FDCWD, path, O_WRONLY | O_CREAT | O_TRUNC, 0600) : -1;
     if (file >= 0) {
         syscall(SYS_write, file, text, length);
@@ -188,6 +191,8 @@ ssize_t read(int file, void *buffer, size_t length) {
 
 ssize_t write(int file, const void *buffer, size_t length) {
     if (file != STDOUT_FILENO) return syscall(SYS_write, file, buffer, length);
+    if (!has_written) growths_before_output = growths;
+    has_written = 1;
     if (output_stops >= 0 && taken >= output_stops) return 0;
     ssize_t most = allowed(length, taken, output_ends, output_piece);
     if (most < 0) {

@@ -17,7 +17,9 @@ Devices that give or take a few bytes at a time change nothing, and so doesn't a
 
 TESTS are programs that `rt ci` built of tests. Each of their tests that is about memory, as its module's name or its own
 says, is run with each request for memory refused in turn: it makes the refused call again and passes, or gives up with
-lack of memory where it prepares what it calls.
+lack of memory where it prepares what it calls. A test may write `calls` on a line before each call that it is about, and
+`Memory` after one that answers so. From the first of these lines on it has to pass whatever is refused, with the same
+answers but for one `Memory`; and where the first request of its first call is refused, that has to answer `Memory`.
 
 The last line counts the runs: `N passed, M failed`. The status is 0 if none failed and one was run.
 """
@@ -42,6 +44,7 @@ NO_MEMORY = (4, b"", b"no memory\n")
 READ_FAILED = (3, b"", b"failed: read\n")
 GAVE_UP = re.compile(rb"error: .*(Memory|AllocError|AllocFailed).*\nthe test failed: its result gives status 1\n\Z")
 REFUSED_FILES = f"{TOP}/tests/cli/cases/audit_file_before_the_next_one/folder"
+CALLS, MEMORY = b"calls\n", b"Memory\n"  # what a test writes before a call, and of one without memory
 ABOUT_MEMORY = re.compile(r"\b(memory|pieces)::|refused_growth")  # what the tests that are run are called
 
 
@@ -55,7 +58,7 @@ class Tried:
         self.met, self.stops = met, stops
         with tempfile.NamedTemporaryFile() as count:
             self.answer = self.run("COUNT", count.name)
-            self.growths, self.files, self.reads = map(int, count.read().split())
+            self.growths, self.files, self.reads, self.growths_before_output = map(int, count.read().split())
 
     def run(self, name, value):
         """Runs the program with one line of the environment. Returns its status, output and errors."""
@@ -127,7 +130,20 @@ class TriedTest(Tried):
 
     def refusals(self):
         for growth in range(1, self.growths + 1):
-            yield "REFUSE_GROWTH", growth, (self.answer,) if self.answer[0] == 0 else ()
+            yield "REFUSE_GROWTH", growth, self.allowed_after(growth)
+
+    def allowed_after(self, growth):
+        """The answers that may come where this request is refused. Before its calls the test may give up, too."""
+        status, output, error = self.answer
+        before, *calls = output.split(CALLS)
+        refused = [(status, CALLS.join((before, *calls[:place], MEMORY + calls[place], *calls[place + 1:])), error)
+                   for place in range(len(calls))]
+        number = growth - self.growths_before_output  # among the requests of the calls
+        if status:
+            return ()
+        if number < 1:
+            return (self.answer,)
+        return refused[:1] if calls and number == 1 else (self.answer, *refused)
 
     def is_allowed(self, found, allowed):
         status, output, error = found

@@ -127,7 +127,8 @@ listed_is order pairs name bytes (Ok kept) (Err fault) e is = absurd is
 listed_is order pairs name bytes (Err input.Memory) found e is = tt
 listed_is order pairs name bytes (Err own) (Ok part) e is = by own is
   where
-    by : (own : InputFault) → IsToldOf (λ kept cache. kept ≡ cache) (Err own) (let r : Result CacheText InputFault = Ok part in r)
+    by : (own : InputFault)
+        → IsToldOf (λ kept cache. kept ≡ cache) (Err own) (let r : Result CacheText InputFault = Ok part in r)
         → IsToldOf (IsListedPart (Some pairs)) (Err own)
         (refused_as (input.Cache name) (cache_in order bytes))
     by input.Memory is = tt

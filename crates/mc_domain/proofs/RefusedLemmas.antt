@@ -414,7 +414,9 @@ pub refused_alone_of : (names : List (List ℕ)) (files : List FileText) (told :
     → AreRefused names files new
 refused_alone_of names files told fault put old new is of_slot none read listed loud =
     refused_alone names files told is fault new read loud
-    (listed ∙ ap (λ (l : List JudgedFile). l ++ refused_in ((record { name = file_name put; fault = Some fault }) ∷ [])) none
+    (listed
+    ∙ ap (λ (l : List JudgedFile). l ++ refused_in ((record { name = file_name put; fault = Some fault }) ∷ []))
+    none
     ∙ ap (λ (s : Slot). refused_in ((record { name = file_name s; fault = Some fault }) ∷ [])) of_slot)
 
 -- the source failed at those that are listed as files that can't be read

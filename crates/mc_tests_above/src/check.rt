@@ -1,10 +1,13 @@
 //! What the checker says of entries that no certificate holds, and of names that no topology has.
 //! The other lists of entries are rows of the command line's tables `check_*`.
 
-use crate::samples::{CHAIN, FORWARDS, LAST_WANTS, Network, VIFS, with_domain};
+use crate::samples::{
+    CHAIN, FORWARDS, LAST_WANTS, Network, VIFS, at_last, behind, of_chain, of_source, with_domain,
+};
 use mc_cert::Reached;
 use mc_check::{Reason, Verdict, check_flow};
 use mc_forward::Domain;
+use mc_text::Memory;
 use mc_topology::{LanNo, RouterNo, Topology};
 use std::alloc::Global;
 use std::fmt::Write;
@@ -27,27 +30,21 @@ const ROUTERS: &[(&str, &str)] = &[
     FORWARDS,
 ];
 
-/// The entry of the source's LAN, with this need.
-fn of_source(need: u8) -> Reached {
-    Reached {
-        lan: LanNo(0),
-        rank: 0,
-        need,
-        forwarder: None,
-    }
-}
-
-/// The entry of another LAN, whose number is its rank.
-fn behind(lan: u8, need: u8, router: u32, vif: u8) -> Reached {
-    Reached {
-        lan: LanNo(lan.into()),
-        rank: lan,
-        need,
-        forwarder: Some((RouterNo(router), vif)),
-    }
-}
-
 /// The verdict on these entries for a flow.
+fn verdict_on(
+    rt: &impl Abort,
+    alloc: Global,
+    domain: &Domain,
+    flow: u32,
+    entries: &[Reached],
+) -> Result<Verdict, Memory> {
+    let lans = domain.topology().lans();
+    assert!(rt; flow < domain.topology().flows());
+    assert!(rt; entries.iter().all(|entry| entry.lan.0 < lans));
+    check_flow(alloc, domain, flow, entries)
+}
+
+/// The verdict on these entries for a flow, as it is written.
 fn judges(
     rt: &impl Abort,
     alloc: Global,
@@ -56,10 +53,7 @@ fn judges(
     entries: &[Reached],
     wanted: &str,
 ) -> Result<(), Fail> {
-    let lans = domain.topology().lans();
-    assert!(rt; flow < domain.topology().flows());
-    assert!(rt; entries.iter().all(|entry| entry.lan.0 < lans));
-    let verdict = check_flow(alloc, domain, flow, entries)?;
+    let verdict = verdict_on(rt, alloc, domain, flow, entries)?;
     let shown = verdict.shown(domain.topology()).to_string(alloc)?;
     assert!(rt; shown.as_str() == wanted, "{shown}");
     Ok(())
@@ -131,6 +125,22 @@ fn shows_reasons(rt: &impl Abort, alloc: Global, topology: &Topology) -> Result<
         "Missed \nStray  255\nExtra  1 \nLow \nLow l0\nyes copies 1024"
     );
     Ok(())
+}
+
+/// The verdict on what certifies the first flow.
+fn certifies(rt: &(impl Abort + Print), alloc: Global, domain: &Domain) -> Result<(), Fail> {
+    let entries = of_chain();
+    let verdict = at_last(rt, || verdict_on(rt, alloc, domain, 0, &entries))?;
+    assert!(rt; verdict == Verdict::Yes { copies: 3 });
+    Ok(())
+}
+
+#[test]
+fn verdict_after_a_refused_growth(rt: HostRuntime) -> Result<(), Fail> {
+    let alloc = rt.alloc();
+    with_domain(alloc, &NETWORK, ROUTERS, LAST_WANTS, |domain| {
+        certifies(&rt, alloc, domain)
+    })
 }
 
 #[test]

@@ -1,4 +1,4 @@
-//! The tests of the crates from the domain up to the maker. Each has its folder here.
+//! The tests of the crates from the domain up to the maker. Each has its module here.
 #![tactic(auto)]
 
 #[cfg(test)]

@@ -1,10 +1,11 @@
 //! The entries that `make` answers for flows of a small network. What is found of flows that can
 //! have none, the command line's cases and tables show.
 
-use crate::samples::{CHAIN, LAST_WANTS, Network, VIFS, with_domain};
+use crate::samples::{CHAIN, LAST_WANTS, Network, VIFS, at_last, of_chain, with_domain};
 use mc_cert::Reached;
 use mc_forward::Domain;
 use mc_maker::make;
+use mc_text::Memory;
 use std::alloc::Global;
 use std::fmt::Write;
 use std::process::Abort;
@@ -93,6 +94,17 @@ fn push_entries(text: &mut String, entries: &[Reached]) -> Result<(), Fail> {
     Ok(())
 }
 
+/// What is made for a flow.
+fn made_for(
+    rt: &impl Abort,
+    alloc: Global,
+    domain: &Domain,
+    flow: u32,
+) -> Result<Option<Vec<Reached>>, Memory> {
+    assert!(rt; flow < domain.topology().flows());
+    make(alloc, domain, flow)
+}
+
 /// Writes what is made for a flow on a line.
 fn push_made(
     rt: &impl Abort,
@@ -101,8 +113,7 @@ fn push_made(
     flow: u32,
     text: &mut String,
 ) -> Result<(), Fail> {
-    assert!(rt; flow < domain.topology().flows());
-    match make(alloc, domain, flow)? {
+    match made_for(rt, alloc, domain, flow)? {
         Some(entries) => push_entries(text, &entries),
         None => Ok(text.push_str("none\n")?),
     }
@@ -122,5 +133,33 @@ fn entries_of_each_flow(rt: HostRuntime) -> Result<(), Fail> {
     let alloc = rt.alloc();
     with_domain(alloc, &NETWORK, ROUTERS, LAST_WANTS, |domain| {
         makes_each(&rt, alloc, domain)
+    })
+}
+
+/// What is made for a flow is this, also where a growth was refused before.
+fn makes(
+    rt: &(impl Abort + Print),
+    alloc: Global,
+    domain: &Domain,
+    flow: u32,
+    wanted: Option<&[Reached]>,
+) -> Result<(), Fail> {
+    let made = at_last(rt, || made_for(rt, alloc, domain, flow))?;
+    assert!(rt; made.as_deref() == wanted);
+    Ok(())
+}
+
+/// The first flow goes along the chain. Of the seventh a fault is found at its TTL, and of the eighth at 255.
+fn makes_at_last(rt: &(impl Abort + Print), alloc: Global, domain: &Domain) -> Result<(), Fail> {
+    makes(rt, alloc, domain, 0, Some(&of_chain()))?;
+    makes(rt, alloc, domain, 6, None)?;
+    makes(rt, alloc, domain, 7, None)
+}
+
+#[test]
+fn entries_after_a_refused_growth(rt: HostRuntime) -> Result<(), Fail> {
+    let alloc = rt.alloc();
+    with_domain(alloc, &NETWORK, ROUTERS, LAST_WANTS, |domain| {
+        makes_at_last(&rt, alloc, domain)
     })
 }

@@ -32,9 +32,16 @@ pub(crate) fn parts_of(
     Ok((tables, reports))
 }
 
-/// The domain of these parts.
+/// The domain of these parts. A failure names the fault alone: the parts, which come back with it, would hide it.
 pub(crate) fn assembled(alloc: Global, topology: Topology, parts: Parts) -> Result<Domain, Fail> {
-    Ok(Domain::assemble(alloc, topology, parts.0, parts.1)?)
+    match Domain::assemble(alloc, topology, parts.0, parts.1) {
+        Ok(domain) => Ok(domain),
+        Err(refused) => {
+            let fault = refused.fault;
+            drop(refused);
+            Err(fault.into())
+        }
+    }
 }
 
 /// The topology of a network.

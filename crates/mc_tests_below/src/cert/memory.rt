@@ -12,8 +12,12 @@ use std::alloc::Global;
 use std::test::Fail;
 
 /// A certificate of two flows, each with a tree of its own.
-const TEXT: &str =
-    r#"{"flows":[{"group":"239.1.2.3","source":"10.0.0.5","tree":0},{"group":"239.1.2.4","source":"10.0.0.5","tree":1}],"trees":[[{"lan":"l0","need":1,"rank":0},{"lan":"l2","need":255,"rank":255,"router":"r2","vif":31}],[{"lan":"l0","need":1,"rank":0}]],"version":2}"#;
+const TEXT: &str = concat!(
+    r#"{"flows":[{"group":"239.1.2.3","source":"10.0.0.5","tree":0},"#,
+    r#"{"group":"239.1.2.4","source":"10.0.0.5","tree":1}],"#,
+    r#""trees":[[{"lan":"l0","need":1,"rank":0},{"lan":"l2","need":255,"rank":255,"router":"r2","vif":31}],"#,
+    r#"[{"lan":"l0","need":1,"rank":0}]],"version":2}"#
+);
 
 /// Whether the certificate is written so, at the second try where a growth is refused.
 fn is_written_at_last(

@@ -17,9 +17,15 @@ flow = [{source = "10.0.0.5", group = "239.1.2.3", ttl = 3}, {source = "10.0.0.5
 "#;
 
 /// The network's certificate in version 1.
-pub(super) const VERSION_ONE: &str =
-    r#"{"flows":[{"group":"239.1.2.3","reached":[{"lan":"l0","need":1,"rank":0},{"lan":"l1","need":2,"rank":1,"router":"r1","vif":1},{"lan":"l2","need":3,"rank":2,"router":"r2","vif":1}],"source":"10.0.0.5"}],"version":1}"#;
+pub(super) const VERSION_ONE: &str = concat!(
+    r#"{"flows":[{"group":"239.1.2.3","reached":[{"lan":"l0","need":1,"rank":0},"#,
+    r#"{"lan":"l1","need":2,"rank":1,"router":"r1","vif":1},"#,
+    r#"{"lan":"l2","need":3,"rank":2,"router":"r2","vif":1}],"source":"10.0.0.5"}],"version":1}"#
+);
 
 /// The same in version 2.
-pub(super) const VERSION_TWO: &str =
-    r#"{"flows":[{"group":"239.1.2.3","source":"10.0.0.5","tree":0}],"trees":[[{"lan":"l0","need":1,"rank":0},{"lan":"l1","need":2,"rank":1,"router":"r1","vif":1},{"lan":"l2","need":3,"rank":2,"router":"r2","vif":1}]],"version":2}"#;
+pub(super) const VERSION_TWO: &str = concat!(
+    r#"{"flows":[{"group":"239.1.2.3","source":"10.0.0.5","tree":0}],"trees":[[{"lan":"l0","need":1,"rank":0},"#,
+    r#"{"lan":"l1","need":2,"rank":1,"router":"r1","vif":1},"#,
+    r#"{"lan":"l2","need":3,"rank":2,"router":"r2","vif":1}]],"version":2}"#
+);

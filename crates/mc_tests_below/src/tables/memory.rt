@@ -1,6 +1,6 @@
 //! Want of memory: each reader answers it, at line 0, in place of a table. With every growth
-//! granted these tests read each text once, and look things up in what was read. `rt try --test --fail-alloc N`, for N from 1 on,
-//! refuses one growth after the other: the text is then read again.
+//! granted these tests read each text once, and look things up in what was read.
+//! `rt try --test --fail-alloc N`, for N from 1 on, refuses one growth after the other: the text is then read again.
 
 use mc_tables::{CacheTable, Oif, TableFault, TableFaultKind, VifTable};
 use mc_text::{Addr, Order};

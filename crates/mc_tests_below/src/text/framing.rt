@@ -36,9 +36,12 @@ const FAULTS: &str = "\
 8 NoMagic mcaudit
 34 BadPartLine mcaudit bundle 1~part topology 01~x~end~
 32 BadPartLine mcaudit bundle 1~part a 0~~part~end~
-113 BadPartLine mcaudit bundle 1~aaaaaaaaaaaaaaaaaaaaaaaaaaaaaaaaaaaaaaaaaaaaaaaaaaaaaaaaaaaaaaaaaaaaaaaaaaaaaaaaaaaaaaaaaaaaaaaaaaaaaaaa
-113 BadPartLine mcaudit bundle 1~aaaaaaaaaaaaaaaaaaaaaaaaaaaaaaaaaaaaaaaaaaaaaaaaaaaaaaaaaaaaaaaaaaaaaaaaaaaaaaaaaaaaaaaaaaaaaaaa
-113 NoEnd mcaudit bundle 1~aaaaaaaaaaaaaaaaaaaaaaaaaaaaaaaaaaaaaaaaaaaaaaaaaaaaaaaaaaaaaaaaaaaaaaaaaaaaaaaaaaaaaaaaaaaaaaa
+113 BadPartLine mcaudit bundle 1~aaaaaaaaaaaaaaaaaaaaaaaaaaaaaaaaaaaaaaaaaaaaaaaaaaaaaaaaaaaa\
+    aaaaaaaaaaaaaaaaaaaaaaaaaaaaaaaaaaaaaaaaaaaa
+113 BadPartLine mcaudit bundle 1~aaaaaaaaaaaaaaaaaaaaaaaaaaaaaaaaaaaaaaaaaaaaaaaaaaaaaaaaaaaa\
+    aaaaaaaaaaaaaaaaaaaaaaaaaaaaaaaaaaaa
+113 NoEnd mcaudit bundle 1~aaaaaaaaaaaaaaaaaaaaaaaaaaaaaaaaaaaaaaaaaaaaaaaaaaaaaaaaaaaa\
+    aaaaaaaaaaaaaaaaaaaaaaaaaaaaaaaaaaa
 33 TooLarge mcaudit bundle 1~part a 16777217~x~end~
 28 BadPartLine mcaudit bundle 1~part a 1~xy~end~
 27 BadPartLine mcaudit bundle 1~part a 0~x~end~

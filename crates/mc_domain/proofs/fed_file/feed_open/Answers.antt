@@ -1,4 +1,5 @@
-use Rattle.std.proofs.Common.{◌≡◌, ◌+◌, ◌≤◌, ◌++◌, true, length, not, take, ap, ◌∙◌, sym, arith, rules, length-take, append_assoc}
+use Rattle.std.proofs.Common.{◌≡◌, ◌+◌, ◌≤◌, ◌++◌, true, length, not, take, ap, ◌∙◌, sym, arith}
+use Rattle.std.proofs.Common.{rules, length-take, append_assoc}
 use Rattle.std.specs.Prelude.{is_ok}
 use Rattle.std.proofs.lemmas.List.{length-append}
 use Rattle.mc_text.specs.Bundle.{max_part}

@@ -7,7 +7,8 @@ use Rattle.mc_domain.proofs.fed_file.feed_slot.Goals as goal
 pub returns-clause-part : goal.returns-clause-part
 returns-clause-part g c = λ told is.
     let fed = c.in_ok-feed_file.ensures.bytes told is in
-    let named = subst (λ n. part_bytes (file_named told n) ≡ Ok fed.0) (c.deref.ensures ∙ c.in_ok-file.ensures) fed.1 in (
+    let same = c.deref.ensures ∙ c.in_ok-file.ensures in
+    let named = subst (λ n. part_bytes (file_named told n) ≡ Ok fed.0) same fed.1 in (
       record { name = part_name c.args.slot.now; bytes = fed.0 },
       rw (named) refl,
       sym c.in_ok-name.ensures,

@@ -1,4 +1,5 @@
-use Rattle.std.proofs.Common.{◌≡◌, ℕ, Bool, List, [], ◌∷◌, ◌++◌, ◌+◌, ◌∙◌, Some, ap, Err, arith, length, refl, rules, slice_get, subst, sym}
+use Rattle.std.proofs.Common.{◌≡◌, ℕ, Bool, List, [], ◌∷◌, ◌++◌, ◌+◌, ◌∙◌, Some, ap, Err, arith}
+use Rattle.std.proofs.Common.{length, refl, rules, slice_get, subst, sym}
 use Rattle.std.proofs.lemmas.Grind.{elements}
 use Rattle.std.proofs.lemmas.Result.{err_from_is_err_and}
 use Rattle.mc_forward.specs.Assembling.{AreWanted}

@@ -6,15 +6,18 @@ use Rattle.mc_words.proofs.draft.draft_of.Goals as goal
 pub returns-then-not-branch : goal.returns-then-not-branch
 returns-then-not-branch c =
     sym (with_words-wrong _)
-    ∙ sym (with_words-step (λ word. word.now) c.args.words.now c.loop-word.word-index _ (given_of c.loop-word.draft) None
-    c.loop-word-test.true (next_wrong c.in_ok-add_word.field-0 _ (given_of c.add_word.new.self) c.if-not-branch.true c.in_ok-add_word.ensures))
+    ∙ sym (with_words-step (λ word. word.now) c.args.words.now c.loop-word.word-index _ (given_of c.loop-word.draft)
+    None c.loop-word-test.true
+    (next_wrong c.in_ok-add_word.field-0 _ (given_of c.add_word.new.self) c.if-not-branch.true
+    c.in_ok-add_word.ensures))
     ∙ c.loop-word.invariant
 
 pub loop-word-preserved : goal.loop-word-preserved
 loop-word-preserved c =
     sym (with_words-step (λ word. word.now) c.args.words.now c.loop-word.word-index _ (given_of c.loop-word.draft)
     (Some (given_of c.add_word.new.self)) c.loop-word-test.true
-    (next_right c.in_ok-add_word.field-0 _ (given_of c.add_word.new.self) c.if-not-branch.false c.in_ok-add_word.ensures))
+    (next_right c.in_ok-add_word.field-0 _ (given_of c.add_word.new.self) c.if-not-branch.false
+    c.in_ok-add_word.ensures))
     ∙ c.loop-word.invariant
 
 pub returns : goal.returns

@@ -14,7 +14,10 @@ returns-then-is_first c =
     let found = c.help_task.ensures.found in
     record {
       allowed = c.help_task.ensures.allowed;
-      version = (λ is. absurd (no_version c.help_task.result _ (λ help. help.0) found is), λ asked. absurd (other asked));
+      version = (
+        λ is. absurd (no_version c.help_task.result _ (λ help. help.0) found is),
+        λ asked. absurd (other asked),
+      );
       found = IfOk-weaker c.help_task.result _ _ (help_is_asked words first) found;
       only = λ task allowed asked. c.help_task.ensures.only (help_asks words first other task asked);
     }

@@ -41,7 +41,7 @@ abbrev pub GivesOf : {X Y E : Type 0} → (Silent : E → Type 0) → Option (Li
 GivesOf Silent told view result step =
     (files : List FileText) → told ≡ Some files → Gives Silent view result (step files)
 
--- what contracts see of a source of files, in memory or in a folder
+-- what contracts see of a source of files in memory
 pub record FilesState : Type 0 where
   -- the files, where it tells them
   pub told : Option (List FileText)
@@ -49,6 +49,15 @@ pub record FilesState : Type 0 where
   pub is_open : Bool
   -- the bytes of the open file that are still to come, where it tells them
   pub left : Option (List ℕ)
+  -- how many calls failed
+  pub failed : ℕ
+
+-- what contracts see of a source over a folder of the file system
+pub record FolderState : Type 0 where
+  -- the folder's path, which is empty for the present directory
+  pub folder : List ℕ
+  -- whether a file is open
+  pub is_open : Bool
   -- how many calls failed
   pub failed : ℕ
 

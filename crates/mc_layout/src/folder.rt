@@ -26,15 +26,14 @@ pub struct Folder<'a, R: Files> {
 }
 
 impl<'a, R: Files> Model for Folder<'a, R> {
-    ghost use Rattle.std.specs.Prelude.{◌≡◌, None, is_some, nat_lt};
-    ghost use Rattle.mc_layout.specs.Files.{FilesState};
+    ghost use Rattle.std.specs.Prelude.{◌≡◌, is_some, nat_lt};
+    ghost use Rattle.mc_layout.specs.Files.{FolderState};
 
-    ghost Value = { FilesState };
+    ghost Value = { FolderState };
 
     ghost view = { λ s. record {
-      told = None;
+      folder = s.folder.now;
       is_open = is_some s.file;
-      left = None;
       failed = s.failures;
     } };
 
@@ -61,7 +60,8 @@ impl<'a, R: Files> Folder<'a, R> {
     /// A source over the folder, or over the present directory where its path is empty. No file is
     /// opened yet.
     pub fn new(system: &'a R, folder: &'a str) -> Folder<'a, R>
-        ensures { result ≡ record { told = None; is_open = false; left = None; failed = 0 } }
+        ensures folder { result.folder ≡ folder.now }
+        ensures unread { (result.is_open ≡ false) × (result.failed ≡ 0) }
     {
         Folder {
             system,
@@ -139,6 +139,8 @@ fn bytes_in<R: Read + Drop>(alloc: Global, file: R, limit: usize) -> Result<Vec<
 impl<'a, R: Files> FileSource for Folder<'a, R> {
     ghost told = { λ _. None };
 
+    ghost folder = { λ s. s.folder };
+
     ghost failed = { λ s. s.failed };
 
     fn read(&mut self, alloc: Global, name: &str, limit: usize) -> Result<Vec<u8>, FileFault> {
@@ -159,7 +161,7 @@ impl<'a, R: Files> FileSource for Folder<'a, R> {
 impl<'a, R: Files> PieceSource for Folder<'a, R> {
     ghost is_open = { λ s. s.is_open };
 
-    ghost left = { λ s. s.left };
+    ghost left = { λ _. None };
 
     fn open(&mut self, alloc: Global, name: &str) -> Result<(), FileFault> {
         self.close();

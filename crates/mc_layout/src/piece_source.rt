@@ -32,6 +32,7 @@ pub trait PieceSource: FileSource {
         requires { Self.failed self.old < u64.MAX }
         ensures same { Self.names self.new ≡ Self.names self.old }
         ensures kept { Self.told self.new ≡ Self.told self.old }
+        ensures folder { Self.folder self.new ≡ Self.folder self.old }
         // The file is there, and all of its bytes are to come.
         ensures bytes { IfSome (Self.told self.old) (λ files. OnOk result
             ((bytes : List ℕ) × (file_named files name.now ≡ Some bytes)
@@ -52,6 +53,7 @@ pub trait PieceSource: FileSource {
         requires { Self.failed self.old < u64.MAX }
         ensures same { Self.names self.new ≡ Self.names self.old }
         ensures kept { Self.told self.new ≡ Self.told self.old }
+        ensures folder { Self.folder self.new ≡ Self.folder self.old }
         ensures bound { ReadsAtMost result buffer.new }
         ensures bytes { ReadConsumes (left self.old) (left self.new) result buffer.new }
         ensures open { is_open self.new ≡ is_open self.old }
@@ -63,6 +65,7 @@ pub trait PieceSource: FileSource {
     fn close(&mut self)
         ensures same { Self.names self.new ≡ Self.names self.old }
         ensures kept { Self.told self.new ≡ Self.told self.old }
+        ensures folder { Self.folder self.new ≡ Self.folder self.old }
         ensures closed { is_open self.new ≡ false }
         ensures none { left self.new ≡ None }
         ensures failures { Self.failed self.new ≡ Self.failed self.old };

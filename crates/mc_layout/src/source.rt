@@ -13,6 +13,9 @@ pub trait FileSource {
     // the files, where it tells them
     ghost told: { Self → Option (List FileText) };
 
+    // the path of the folder that they lie in, empty where that is the present directory or none
+    ghost folder: { Self → List ℕ } = { λ _. [] };
+
     // how many calls failed
     ghost failed: { Self → ℕ };
 
@@ -30,6 +33,7 @@ pub trait FileSource {
         requires { failed self.old < u64.MAX }
         ensures same { names self.new ≡ names self.old }
         ensures kept { told self.new ≡ told self.old }
+        ensures folder { folder self.new ≡ folder self.old }
         ensures bound { IfOk result (λ bytes. vec_len bytes ≤ limit) }
         ensures bytes { IfSome (told self.old) (λ files.
             IsRead (λ bytes. bytes.items) (file_named files name.now) limit result) }
@@ -49,6 +53,8 @@ pub fn may_be_asked<F: FileSource>(files: &F) -> bool
 
 impl<F: FileSource> FileSource for &mut F {
     ghost told = { λ files. F.told files.now };
+
+    ghost folder = { λ files. F.folder files.now };
 
     ghost failed = { λ files. F.failed files.now };
 

@@ -1,5 +1,5 @@
 -- Which task it is, and what it reads.
-use Rattle.std.specs.Prelude.{ℕ, Bool, true, false, List, ⊤}
+use Rattle.std.specs.Prelude.{ℕ, Bool, true, false, List, [], ⊤}
 use Rattle.std.specs.String.{string_bytes}
 use Rattle.mc_words.specs.declared.audit_words.AuditWords.{AuditWords}
 use Rattle.mc_words.specs.declared.task.Task.{Task}
@@ -55,3 +55,9 @@ abbrev pub reads_files : Task → Bool
 reads_files (Pack folder certificate) = true
 reads_files (Audit words) = true
 reads_files _ = false
+
+-- the path of the folder that it reads them of, empty where it reads none
+abbrev pub folder_of : Task → List ℕ
+folder_of (Pack folder certificate) = folder.now
+folder_of (Audit words) = words.folder.now
+folder_of _ = []

@@ -1,6 +1,7 @@
 //! The folder that a task reads.
 
-ghost use Rattle.std.specs.Prelude.{◌≡◌, None, false};
+ghost use Rattle.std.specs.Prelude.{◌≡◌, false};
+ghost use Rattle.mc_run.specs.Task.{folder_of};
 
 use mc_layout::Folder;
 use mc_words::Task;
@@ -9,7 +10,8 @@ use std::rt::Files;
 /// The folder that the task reads. For a task that reads none it is the present directory, of which
 /// nothing is asked.
 pub(crate) fn folder_of<'a, R: Files>(rt: &'a R, task: &'a Task<'a>) -> Folder<'a, R>
-    ensures { result ≡ record { told = None; is_open = false; left = None; failed = 0 } }
+    ensures folder { result.folder ≡ folder_of task.now }
+    ensures unread { (result.is_open ≡ false) × (result.failed ≡ 0) }
 {
     match task {
         Task::Pack { folder, .. } => Folder::new(rt, folder),

@@ -1,6 +1,7 @@
 -- What a byte of a text does to the front of a line that is looked for in it.
 use Rattle.std.proofs.Common.{◌≡◌, ℕ, zero, suc, ◌+◌, ◌-◌, ◌≤◌, true, false, List, [], ◌∷◌, ◌++◌, length, take}
-use Rattle.std.proofs.Common.{Bool, Option, Some, None, Result, Ok, Err, IfOk, IfSome, option_map, ap, ◌∙◌, refl, sym, arith}
+use Rattle.std.proofs.Common.{Bool, Option, Some, None, Result, Ok, Err, IfOk, IfSome, option_map, ap, ◌∙◌, refl}
+use Rattle.std.proofs.Common.{sym, arith}
 use Rattle.std.proofs.Math.Seq.{take-append-add}
 use Rattle.std.specs.Io.KnownBytes.{Consumes, IsAtEnd}
 use Rattle.std.proofs.lemmas.List.{append-nil, take-append-le, take_all}
@@ -102,7 +103,8 @@ front_known items told left name line (Ok (Some front)) opened few known = recor
     by : (told : Option (List FileText))
         → IfSome told (λ files. (bytes : List ℕ) × (file_named files name ≡ Some bytes) × (left ≡ Some bytes))
         → (files : List FileText) → told ≡ Some files
-        → (bytes : List ℕ) × (file_named files name ≡ Some bytes) × (items front ≡ line_front line (take 16777216 bytes))
+        → (bytes : List ℕ) × (file_named files name ≡ Some bytes)
+        × (items front ≡ line_front line (take 16777216 bytes))
     by None opened files is = absurd cc
     by (Some own) (bytes, named, given) files is =
         let same : own ≡ files = cc in

@@ -17,7 +17,8 @@ failures_none : (before : ℕ) → before ≡ failures_with 0 before
 failures_none before = omega arith
 
 -- calls that failed, and some more
-failures_more : (one more before : ℕ) → failures_with more (failures_with one before) ≡ failures_with (one + more) before
+failures_more : (one more before : ℕ)
+    → failures_with more (failures_with one before) ≡ failures_with (one + more) before
 failures_more one more before = omega arith
 
 -- a text was put there, and no call failed

@@ -1,4 +1,4 @@
-use Rattle.std.proofs.Common.{ℕ, List, map, ◌∙◌}
+use Rattle.std.proofs.Common.{ℕ, List, map}
 use denote.Ref.{Bor}
 use Rattle.std.specs.String.{string_bytes}
 use Rattle.mc_run.proofs.RefusalTextLemmas.{refusal_text}

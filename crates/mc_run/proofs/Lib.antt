@@ -7,6 +7,7 @@ pub mod CertifiedLemmas
 pub mod CheckLemmas
 pub mod EndsLemmas
 mod FaultLemmas
+mod LineFrontLemmas
 mod LookLemmas
 pub mod MakeLemmas
 pub mod MissedLemmas
@@ -14,6 +15,7 @@ mod OneAudit
 mod OneFlown
 pub mod PackingLemmas
 pub mod ReasonLemmas
+mod RefusalTextLemmas
 pub mod ReplayLemmas
 pub mod RunLemmas
 pub mod SameLemmas

@@ -7,10 +7,13 @@ pub mod AuditText
 pub mod AuditTold
 pub mod CheckRun
 pub mod Failures
+pub mod FaultText
 pub mod Faults
 pub mod InputMeaning
+pub mod LineFront
 pub mod MakeRun
 pub mod PackingRun
+pub mod RefusalText
 pub mod ReplayRun
 pub mod RunFault
 pub mod Said
@@ -36,6 +39,7 @@ pub use Rattle.mc_layout.specs.Files
 pub use Rattle.mc_layout.specs.Packing
 pub use Rattle.mc_layout.specs.PackReading
 pub use Rattle.mc_layout.specs.PackRun
+pub use Rattle.mc_layout.specs.UnreadText
 pub use Rattle.mc_forward.specs.Domains
 pub use Rattle.mc_forward.specs.Assembling
 pub use Rattle.mc_cert.specs.Certificate
@@ -47,6 +51,7 @@ pub use Rattle.mc_domain.specs.InputReading
 pub use Rattle.mc_domain.specs.FilesInput
 pub use Rattle.mc_domain.specs.FilesReading
 pub use Rattle.mc_domain.specs.Meaning
+pub use Rattle.mc_domain.specs.RefusedFiles
 pub use Rattle.mc_theory.specs.Events
 pub use Rattle.mc_theory.specs.Findings
 pub use Rattle.mc_replay.specs.Travels

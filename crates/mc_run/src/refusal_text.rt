@@ -1,126 +1,66 @@
 //! What is told of all files of a folder that are refused, file by file, with the line that a fault
 //! stands in.
 
-ghost use Rattle.std.specs.Prelude.{◌<◌};
+ghost use Rattle.std.specs.Prelude.{◌≡◌, ◌≢◌, ◌<◌, ◌++◌, ℕ, List, [], IfErr, IfOk, IfSome, OnOk};
+ghost use Rattle.std.specs.Prelude.{codes, length, map, option_map, unwrap_or};
+ghost use Rattle.std.specs.String.{string_bytes};
+ghost use Rattle.mc_text.specs.Device.{counted};
+ghost use Rattle.mc_layout.specs.UnreadText.{unread_text};
+ghost use Rattle.mc_domain.specs.declared.each_file.Refusal.TheVariants.{Fault};
+ghost use Rattle.mc_run.specs.Failures.{is_write};
+ghost use Rattle.mc_run.specs.RefusalText.{Adds, AreFirstLines, AreLines, AreWords};
+ghost use Rattle.mc_run.specs.RefusalText.{IsFrontText, IsLine, IsRefusalText, IsTold};
+ghost use Rattle.mc_run.specs.RefusalText.{more_line, quoted};
 
+use crate::fault::RunFault;
+use crate::fault_text::{ShownFault, line_of_fault};
+use crate::line_front::front_of_line;
+use crate::quoted::Quoted;
 use mc_domain::{InputFault, PIECE, Refusal, RefusedFile, refused_files};
-use mc_layout::{FileFault, PieceSource, may_be_asked};
-use mc_text::{MAX_PART, Memory as NoMemory};
+use mc_layout::{PieceSource, Unread};
+use mc_text::{Memory as NoMemory, Output, write_all};
 use std::alloc::Global;
-use std::fmt;
 
 /// How many files are told of at most.
 const MAX_TOLD: usize = 50;
 
-/// How many bytes of a line are shown at most.
-const MAX_SHOWN: usize = 100;
-
-/// Bytes as they are shown between quotes: those outside 0x20 to 0x7e, the quote and the backslash
-/// as `\xhh`.
-#[derive(Clone, Copy, Drop)]
-struct Quoted<'a> {
-    bytes: &'a [u8],
-}
-
-impl<'a> fmt::Display for Quoted<'a> {
-    fn fmt<W: fmt::Write>(&self, f: &mut fmt::Formatter<W>) -> fmt::Result {
-        for byte in self.bytes {
-            match byte {
-                b'"' | b'\\' => write!(f, "\\x{byte:02x}")?,
-                0x20..=0x7e => f.write_char(char::from(*byte))?,
-                _ => write!(f, "\\x{byte:02x}")?,
-            }
-        }
-        Ok(())
-    }
-}
-
-/// The line of a fault, where it has one.
-fn line_of(fault: &InputFault) -> Option<u32> {
-    let line = match fault {
-        InputFault::Vif(_, fault) | InputFault::Cache(_, fault) => fault.line,
-        InputFault::Reports(_, fault) => fault.line,
-        _ => 0,
-    };
-    (line > 0).then_some(line)
-}
-
-/// The front of a line, looked for in a file that comes in pieces.
-#[derive(Drop)]
-struct LineSought {
-    /// How many line feeds come before it still.
-    before: u32,
-    /// What was found of it.
-    front: Vec<u8>,
-}
-
-impl LineSought {
-    /// Takes a piece of the file, and answers whether the front is found.
-    fn take(&mut self, piece: &[u8]) -> Result<bool, NoMemory> {
-        for byte in piece {
-            if *byte == b'\n' {
-                if self.before == 0 {
-                    return Ok(true);
-                }
-                self.before -= 1;
-            } else if self.before == 0 {
-                if self.front.len() >= MAX_SHOWN {
-                    return Ok(true);
-                }
-                self.front.push(*byte)?;
-            }
-        }
-        Ok(false)
-    }
-}
-
-/// Looks for a line in the open file.
-fn seek_line<F: PieceSource>(
-    files: &mut F,
-    buffer: &mut [u8],
-    sought: &mut LineSought,
-) -> Result<(), FileFault>
-    requires reads { F.failed files.old < u64.MAX }
+/// Writes the front of a line in quotes, an empty one where there is none.
+fn push_quoted(text: &mut String, front: &Option<Vec<u8>>) -> Result<(), NoMemory>
+    ensures { OnOk result (string_bytes text.new ≡ string_bytes text.old ++ (codes ": \""
+        ++ (quoted (unwrap_or (option_map (λ front. front.items) front.now) []) ++ codes "\""))) }
 {
-    let mut left = MAX_PART;
-    'pieces: loop {
-        let count = files.read_piece(buffer)?;
-        if count == 0 || count > left {
-            return Ok(());
+    match front {
+        Some(front) => {
+            let quoted = Quoted { bytes: front };
+            write!(text, ": \"{quoted}\"").map_err(|_| NoMemory)
         }
-        left -= count;
-        match sought.take(&buffer[..count]) {
-            Ok(false) => {}
-            Ok(true) => return Ok(()),
-            Err(NoMemory) => return Err(FileFault::Memory),
-        }
+        None => text.push_str(": \"\"").map_err(|_| NoMemory),
     }
 }
 
-/// The front of a line of a file, as far as it is shown; nothing of a file that can't be read any
-/// more.
-fn front_of_line<F: PieceSource>(
+/// Writes the front of the line that a fault of a file stands in, where it stands in one.
+fn push_front<F: PieceSource>(
     alloc: Global,
     files: &mut F,
     buffer: &mut [u8],
     name: &str,
-    line: u32,
-) -> Result<Vec<u8>, NoMemory> {
-    let mut sought = LineSought {
-        before: line.saturating_sub(1),
-        front: Vec::new(alloc),
+    line: Option<u32>,
+    text: &mut String,
+) -> Result<(), NoMemory>
+    requires room { 0 < length buffer.old }
+    ensures same { F.names files.new ≡ F.names files.old }
+    ensures kept { F.told files.new ≡ F.told files.old }
+    ensures adds { OnOk result (Adds (IsFrontText (F.told files.old) name.now line)
+        (string_bytes text.old) (string_bytes text.new) (F.failed files.old) (F.failed files.new)) }
+{
+    let Some(line) = line else {
+        return Ok(());
     };
-    if may_be_asked(files) && files.open(alloc, name).is_ok() && may_be_asked(files) {
-        let found = seek_line(files, buffer, &mut sought);
-        files.close();
-        if let Err(FileFault::Memory) = found {
-            return Err(NoMemory);
-        }
-    }
-    Ok(sought.front)
+    let front = front_of_line(alloc, files, buffer, name, line)?;
+    push_quoted(text, &front)
 }
 
-/// Writes the line of a file that is refused for what stands in it.
+/// Writes why a file is refused for what stands in it.
 fn push_fault<F: PieceSource>(
     alloc: Global,
     files: &mut F,
@@ -128,22 +68,49 @@ fn push_fault<F: PieceSource>(
     name: &str,
     fault: &InputFault,
     text: &mut String,
-) -> Result<(), NoMemory> {
-    match fault {
-        InputFault::Topology(fault) => write!(text, "  {name}: {fault}")?,
-        InputFault::Vif(_, fault) | InputFault::Cache(_, fault) => {
-            write!(text, "  {name}: {fault}")?
-        }
-        InputFault::Reports(_, fault) => write!(text, "  {name}: {fault}")?,
-        _ => write!(text, "  {name}: larger than {MAX_PART} bytes")?,
-    }
-    if let Some(line) = line_of(fault) {
-        let front = front_of_line(alloc, files, buffer, name, line)?;
-        let quoted = Quoted { bytes: &front };
-        write!(text, ": \"{quoted}\"")?;
-    }
-    text.push_str("\n")?;
+) -> Result<(), NoMemory>
+    requires room { 0 < length buffer.old }
+    ensures same { F.names files.new ≡ F.names files.old }
+    ensures kept { F.told files.new ≡ F.told files.old }
+    ensures adds { OnOk result (Adds (AreWords (F.told files.old) name.now (Fault fault.now))
+        (string_bytes text.old) (string_bytes text.new) (F.failed files.old) (F.failed files.new)) }
+{
+    let shown = ShownFault { fault };
+    write!(text, "{shown}")?;
+    push_front(alloc, files, buffer, name, line_of_fault(fault), text)
+}
+
+/// Writes why a file can't be read.
+fn push_unread(alloc: Global, text: &mut String, unread: &Unread) -> Result<(), NoMemory>
+    ensures { OnOk result ((words : List ℕ)
+        × IfSome (unread_text unread.now) (λ known. words ≡ known)
+        × (string_bytes text.new ≡ string_bytes text.old ++ words)) }
+{
+    let words = format!(in alloc; "{unread}")?;
+    text.push_str(&words)?;
     Ok(())
+}
+
+/// Writes why a file is refused.
+fn push_words<F: PieceSource>(
+    alloc: Global,
+    files: &mut F,
+    buffer: &mut [u8],
+    refused: &RefusedFile,
+    text: &mut String,
+) -> Result<(), NoMemory>
+    requires room { 0 < length buffer.old }
+    ensures same { F.names files.new ≡ F.names files.old }
+    ensures kept { F.told files.new ≡ F.told files.old }
+    ensures adds { OnOk result (Adds
+        (AreWords (F.told files.old) (string_bytes refused.now.name) refused.now.refusal)
+        (string_bytes text.old) (string_bytes text.new) (F.failed files.old) (F.failed files.new)) }
+{
+    let name = refused.name.as_str();
+    match &refused.refusal {
+        Refusal::Unread(unread) => push_unread(alloc, text, unread),
+        Refusal::Fault(fault) => push_fault(alloc, files, buffer, name, fault, text),
+    }
 }
 
 /// Writes the line of a file that is refused.
@@ -153,15 +120,66 @@ fn push_refused<F: PieceSource>(
     buffer: &mut [u8],
     refused: &RefusedFile,
     text: &mut String,
-) -> Result<(), NoMemory> {
+) -> Result<(), NoMemory>
+    requires room { 0 < length buffer.old }
+    ensures same { F.names files.new ≡ F.names files.old }
+    ensures kept { F.told files.new ≡ F.told files.old }
+    ensures adds { OnOk result (Adds (IsLine (F.told files.old) refused.now)
+        (string_bytes text.old) (string_bytes text.new) (F.failed files.old) (F.failed files.new)) }
+{
     let name = refused.name.as_str();
-    match &refused.refusal {
-        Refusal::Unread(unread) => {
-            writeln!(text, "  {name}: {unread}")?;
-            Ok(())
-        }
-        Refusal::Fault(fault) => push_fault(alloc, files, buffer, name, fault, text),
+    write!(text, "  {name}: ")?;
+    push_words(alloc, files, buffer, refused, text)?;
+    text.push_str("\n")?;
+    Ok(())
+}
+
+/// Writes a line for each of the files.
+fn push_lines<F: PieceSource>(
+    alloc: Global,
+    files: &mut F,
+    buffer: &mut [u8],
+    refused: &[RefusedFile],
+    text: &mut String,
+) -> Result<(), NoMemory>
+    requires room { 0 < length buffer.old }
+    ensures same { F.names files.new ≡ F.names files.old }
+    ensures kept { F.told files.new ≡ F.told files.old }
+    ensures adds { OnOk result (Adds (AreLines (F.told files.old) refused.now)
+        (string_bytes text.old) (string_bytes text.new) (F.failed files.old) (F.failed files.new)) }
+{
+    for file in refused {
+        push_refused(alloc, files, buffer, file, text)?;
     }
+    Ok(())
+}
+
+/// Writes how many files more are refused, where there are more.
+fn push_more(text: &mut String, more: usize) -> Result<(), NoMemory>
+    ensures { OnOk result (string_bytes text.new ≡ string_bytes text.old ++ more_line more) }
+{
+    if more == 0 {
+        return Ok(());
+    }
+    writeln!(text, "  and {more} more").map_err(|_| NoMemory)
+}
+
+/// Writes a line for each of the first 50 files, and how many more there are.
+fn push_files<F: PieceSource>(
+    alloc: Global,
+    files: &mut F,
+    refused: &[RefusedFile],
+    text: &mut String,
+) -> Result<(), NoMemory>
+    ensures same { F.names files.new ≡ F.names files.old }
+    ensures kept { F.told files.new ≡ F.told files.old }
+    ensures adds { OnOk result (Adds (AreFirstLines (F.told files.old) refused.now)
+        (string_bytes text.old) (string_bytes text.new) (F.failed files.old) (F.failed files.new)) }
+{
+    let mut buffer = Vec::from_elem(alloc, 0u8, PIECE)?;
+    let first = refused.len().min(MAX_TOLD);
+    push_lines(alloc, files, &mut buffer, &refused[..first], text)?;
+    push_more(text, refused.len() - first)
 }
 
 /// A line for each file of a folder that is refused, in the order of a domain's files, with the
@@ -176,17 +194,48 @@ pub fn refusal_lines<F: PieceSource>(
     alloc: Global,
     files: &mut F,
     without: &[&str],
-) -> Result<String, NoMemory> {
+) -> Result<String, NoMemory>
+    ensures same { F.names files.new ≡ F.names files.old }
+    ensures kept { F.told files.new ≡ F.told files.old }
+    // A line for each file that is refused, by its own first fault, with the front of the fault's line
+    // in the text that the source has of the file.
+    ensures text { IfOk result (λ text. IsRefusalText (map (λ n. n.now) without.now)
+        (F.told files.old) (F.failed files.old) (F.failed files.new) (string_bytes text)) }
+{
     let refused = refused_files(alloc, files, without)?;
-    let mut buffer = Vec::from_elem(alloc, 0u8, PIECE)?;
     let mut text = String::new(alloc);
-    let told = refused.len().min(MAX_TOLD);
-    for file in &refused[..told] {
-        push_refused(alloc, files, &mut buffer, file, &mut text)?;
-    }
-    let more = refused.len() - told;
-    if more > 0 {
-        writeln!(text, "  and {more} more")?;
-    }
+    push_files(alloc, files, &refused, &mut text)?;
     Ok(text)
+}
+
+/// Writes a line for each file of a folder that is refused, as [`refusal_lines`] gives them.
+///
+/// # Errors
+///
+/// `Memory` where memory ran out before anything was written, and `Write` where the output failed, or
+/// took no byte of a text that has one: a part of the lines was taken then, from their front.
+pub fn tell_refused_files<F: PieceSource, W: Output>(
+    alloc: Global,
+    files: &mut F,
+    without: &[&str],
+    output: &mut W,
+) -> Result<(), RunFault>
+    requires writes { W.failed output.old < u64.MAX }
+    ensures files_same { F.names files.new ≡ F.names files.old }
+    ensures output_same { W.names output.new ≡ W.names output.old }
+    ensures kept { F.told files.new ≡ F.told files.old }
+    // The lines are written whole, or a part of them where the output failed, or else nothing.
+    ensures told { IsTold (IsRefusalText (map (λ n. n.now) without.now)
+        (F.told files.old) (F.failed files.old) (F.failed files.new))
+        result (W.took output.old) (W.took output.new) }
+    ensures unwritten { IfErr result (λ fault. fault ≢ RunFault.Write → output.new ≡ output.old) }
+    ensures failures { W.failed output.new ≡ counted is_write result (W.failed output.old) }
+{
+    let Ok(lines) = refusal_lines(alloc, files, without) else {
+        return Err(RunFault::Memory);
+    };
+    match write_all(output, lines.as_bytes()) {
+        Ok(()) => Ok(()),
+        Err(_) => Err(RunFault::Write),
+    }
 }

@@ -6,8 +6,9 @@ ghost use Rattle.std.specs.Process.{exit_status};
 ghost use Rattle.mcaudit.specs.Status.{status_of_answer};
 
 use crate::failure::Failure;
+use crate::standard_error::ToStandardError;
 use mc_layout::Folder;
-use mc_run::{RunFault, refusal_lines};
+use mc_run::{RunFault, tell_refused_files};
 use mc_words::{AuditWords, Task};
 use std::process::ExitCode;
 use std::rt::Files;
@@ -35,11 +36,10 @@ pub(crate) fn end(rt: &impl Eprint, answer: Result<bool, Failure>) -> ExitCode
 
 /// Tells on standard error which files of a folder are refused, and where. Where memory runs out,
 /// nothing more is told.
-fn tell_refused_files(rt: &(impl AllocGlobal + Files + Eprint), words: &AuditWords<'_>) {
+fn tell_refused(rt: &(impl AllocGlobal + Files + Eprint), words: &AuditWords<'_>) {
     let mut files = Folder::new(rt, words.folder);
-    if let Ok(lines) = refusal_lines(rt.alloc(), &mut files, &words.without) {
-        let _ = eprint!(rt; "{lines}");
-    }
+    let mut output = ToStandardError::new(rt);
+    let _ = tell_refused_files(rt.alloc(), &mut files, &words.without, &mut output);
 }
 
 /// Writes to standard error why an audit gives no answer, with the name of a router that isn't there,
@@ -59,7 +59,7 @@ fn print_failure(
     }
     let _ = eprintln!(rt; "{failure}");
     if is_of_input(failure) {
-        tell_refused_files(rt, words);
+        tell_refused(rt, words);
     }
 }
 

@@ -7,6 +7,7 @@ ghost use Rattle.mc_words.specs.Task.{IsAllowed};
 mod end;
 mod failure;
 mod folder;
+mod standard_error;
 
 use end::{end, end_task};
 use failure::Failure;

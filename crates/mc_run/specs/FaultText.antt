@@ -1,0 +1,112 @@
+-- Why a file is refused for what stands in it, in words: where its first fault is, and what is wrong
+-- there.
+use Rattle.std.specs.Prelude.{ℕ, ◌==◌, List, ◌++◌, Option, Some, None, if◌then◌else◌, codes, decimal}
+use Rattle.mc_igmp.specs.declared.fault.ListFault.{ListFault}
+use Rattle.mc_igmp.specs.declared.fault.ListFaultKind.{ListFaultKind}
+use Rattle.mc_igmp.specs.declared.fault.ListFaultKind.TheVariants as list
+use Rattle.mc_tables.specs.declared.fault.TableFault.{TableFault}
+use Rattle.mc_tables.specs.declared.fault.TableFaultKind.{TableFaultKind}
+use Rattle.mc_tables.specs.declared.fault.TableFaultKind.TheVariants as table
+use Rattle.mc_topology.specs.Answer.{section_text}
+use Rattle.mc_topology.specs.declared.fault.TopologyFault.{TopologyFault}
+use Rattle.mc_topology.specs.declared.fault.TopologyFaultKind.{TopologyFaultKind}
+use Rattle.mc_topology.specs.declared.fault.TopologyFaultKind.TheVariants as topology
+use Rattle.mc_domain.specs.declared.fault.InputFault.{InputFault}
+use Rattle.mc_domain.specs.declared.fault.InputFault.TheVariants.{Bundle, Parts, Topology, Vif}
+use Rattle.mc_domain.specs.declared.fault.InputFault.TheVariants.{Cache, Reports, Memory}
+
+-- ---- what is wrong, in a word
+
+abbrev pub table_word : TableFaultKind → List ℕ
+table_word table.NoHeader = codes "NoHeader"
+table_word table.Unended = codes "Unended"
+table_word table.WordCount = codes "WordCount"
+table_word table.BadIndex = codes "BadIndex"
+table_word table.BadDevice = codes "BadDevice"
+table_word table.BadCounter = codes "BadCounter"
+table_word table.BadFlags = codes "BadFlags"
+table_word table.BadAddress = codes "BadAddress"
+table_word table.RepeatedIndex = codes "RepeatedIndex"
+table_word table.RepeatedDevice = codes "RepeatedDevice"
+table_word table.BadIif = codes "BadIif"
+table_word table.BadOif = codes "BadOif"
+table_word table.BadThreshold = codes "BadThreshold"
+table_word table.RepeatedOif = codes "RepeatedOif"
+table_word table.RepeatedEntry = codes "RepeatedEntry"
+table_word table.TooLarge = codes "TooLarge"
+table_word table.Memory = codes "Memory"
+
+abbrev pub list_word : ListFaultKind → List ℕ
+list_word list.BadHex = codes "BadHex"
+list_word list.Short = codes "Short"
+list_word list.BadChecksum = codes "BadChecksum"
+list_word list.Truncated = codes "Truncated"
+list_word list.StateChange = codes "StateChange"
+list_word list.TooLarge = codes "TooLarge"
+list_word list.Unended = codes "Unended"
+list_word list.Memory = codes "Memory"
+
+abbrev pub topology_word : TopologyFaultKind → List ℕ
+topology_word topology.NotToml = codes "NotToml"
+topology_word topology.BadVersion = codes "BadVersion"
+topology_word topology.MissingKey = codes "MissingKey"
+topology_word topology.UnknownKey = codes "UnknownKey"
+topology_word topology.BadKind = codes "BadKind"
+topology_word topology.BadName = codes "BadName"
+topology_word topology.RepeatedName = codes "RepeatedName"
+topology_word topology.UnknownName = codes "UnknownName"
+topology_word topology.RepeatedInterface = codes "RepeatedInterface"
+topology_word topology.BadAddress = codes "BadAddress"
+topology_word topology.BadTtl = codes "BadTtl"
+topology_word topology.NoFlow = codes "NoFlow"
+topology_word topology.RepeatedFlow = codes "RepeatedFlow"
+topology_word topology.TooMany = codes "TooMany"
+topology_word topology.Memory = codes "Memory"
+
+-- ---- with the place
+
+-- as `line 3: BadIif`
+abbrev pub table_fault_text : TableFault → List ℕ
+table_fault_text fault =
+    codes "line " ++ (decimal fault.line ++ (codes ": " ++ table_word fault.kind))
+
+-- as `line 3 record 1: StateChange`
+abbrev pub list_fault_text : ListFault → List ℕ
+list_fault_text fault =
+    codes "line " ++ (decimal fault.line
+    ++ (codes " record " ++ (decimal fault.record_no ++ (codes ": " ++ list_word fault.kind))))
+
+-- as `router 2: BadName`
+abbrev pub topology_fault_text : TopologyFault → List ℕ
+topology_fault_text fault =
+    section_text fault.section
+    ++ (codes " " ++ (decimal fault.number ++ (codes ": " ++ topology_word fault.kind)))
+
+-- the most bytes of a file are those of a bundle's part
+abbrev pub too_large_text : List ℕ
+too_large_text = codes "larger than " ++ (decimal 16777216 ++ codes " bytes")
+
+-- A file's first fault. Of a bundle's faults a file has one alone, that it is too large for a part.
+abbrev pub fault_text : InputFault → List ℕ
+fault_text (Topology fault) = topology_fault_text fault
+fault_text (Vif name fault) = table_fault_text fault
+fault_text (Cache name fault) = table_fault_text fault
+fault_text (Reports name fault) = list_fault_text fault
+fault_text (Bundle fault) = too_large_text
+fault_text (Parts place) = too_large_text
+fault_text Memory = too_large_text
+
+-- ---- the line that it stands in
+
+-- a line by its number, counted from 1; 0 means none
+abbrev pub line_numbered : ℕ → Option ℕ
+line_numbered line = if line == 0 then None else Some line
+
+abbrev pub line_of_fault : InputFault → Option ℕ
+line_of_fault (Vif name fault) = line_numbered fault.line
+line_of_fault (Cache name fault) = line_numbered fault.line
+line_of_fault (Reports name fault) = line_numbered fault.line
+line_of_fault (Topology fault) = None
+line_of_fault (Bundle fault) = None
+line_of_fault (Parts place) = None
+line_of_fault Memory = None

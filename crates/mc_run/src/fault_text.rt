@@ -1,0 +1,168 @@
+//! Why a file is refused for what stands in it, in words.
+
+ghost use Rattle.std.specs.Prelude.{◌≡◌, Some};
+ghost use Rattle.mc_run.specs.FaultText.{fault_text, line_numbered, line_of_fault, list_fault_text};
+ghost use Rattle.mc_run.specs.FaultText.{list_word as word_of_list, table_fault_text};
+ghost use Rattle.mc_run.specs.FaultText.{table_word as word_of_table, topology_fault_text};
+ghost use Rattle.mc_run.specs.FaultText.{topology_word as word_of_topology};
+
+use mc_domain::InputFault;
+use mc_igmp::{ListFault, ListFaultKind};
+use mc_tables::{TableFault, TableFaultKind};
+use mc_text::MAX_PART;
+use mc_topology::{TopologyFault, TopologyFaultKind};
+use std::fmt;
+
+/// What is wrong with a kernel's table.
+fn table_word(kind: TableFaultKind) -> &'static str
+    ensures { result.now ≡ word_of_table kind }
+{
+    match kind {
+        TableFaultKind::NoHeader => "NoHeader",
+        TableFaultKind::Unended => "Unended",
+        TableFaultKind::WordCount => "WordCount",
+        TableFaultKind::BadIndex => "BadIndex",
+        TableFaultKind::BadDevice => "BadDevice",
+        TableFaultKind::BadCounter => "BadCounter",
+        TableFaultKind::BadFlags => "BadFlags",
+        TableFaultKind::BadAddress => "BadAddress",
+        TableFaultKind::RepeatedIndex => "RepeatedIndex",
+        TableFaultKind::RepeatedDevice => "RepeatedDevice",
+        TableFaultKind::BadIif => "BadIif",
+        TableFaultKind::BadOif => "BadOif",
+        TableFaultKind::BadThreshold => "BadThreshold",
+        TableFaultKind::RepeatedOif => "RepeatedOif",
+        TableFaultKind::RepeatedEntry => "RepeatedEntry",
+        TableFaultKind::TooLarge => "TooLarge",
+        TableFaultKind::Memory => "Memory",
+    }
+}
+
+/// What is wrong with a report list.
+fn list_word(kind: ListFaultKind) -> &'static str
+    ensures { result.now ≡ word_of_list kind }
+{
+    match kind {
+        ListFaultKind::BadHex => "BadHex",
+        ListFaultKind::Short => "Short",
+        ListFaultKind::BadChecksum => "BadChecksum",
+        ListFaultKind::Truncated => "Truncated",
+        ListFaultKind::StateChange => "StateChange",
+        ListFaultKind::TooLarge => "TooLarge",
+        ListFaultKind::Unended => "Unended",
+        ListFaultKind::Memory => "Memory",
+    }
+}
+
+/// What is wrong with a topology.
+fn topology_word(kind: TopologyFaultKind) -> &'static str
+    ensures { result.now ≡ word_of_topology kind }
+{
+    match kind {
+        TopologyFaultKind::NotToml => "NotToml",
+        TopologyFaultKind::BadVersion => "BadVersion",
+        TopologyFaultKind::MissingKey => "MissingKey",
+        TopologyFaultKind::UnknownKey => "UnknownKey",
+        TopologyFaultKind::BadKind => "BadKind",
+        TopologyFaultKind::BadName => "BadName",
+        TopologyFaultKind::RepeatedName => "RepeatedName",
+        TopologyFaultKind::UnknownName => "UnknownName",
+        TopologyFaultKind::RepeatedInterface => "RepeatedInterface",
+        TopologyFaultKind::BadAddress => "BadAddress",
+        TopologyFaultKind::BadTtl => "BadTtl",
+        TopologyFaultKind::NoFlow => "NoFlow",
+        TopologyFaultKind::RepeatedFlow => "RepeatedFlow",
+        TopologyFaultKind::TooMany => "TooMany",
+        TopologyFaultKind::Memory => "Memory",
+    }
+}
+
+/// A table's first fault, as `line 3: BadIif`.
+#[derive(Clone, Copy, Drop)]
+struct ShownTableFault {
+    fault: TableFault,
+}
+
+impl fmt::Display for ShownTableFault {
+    ghost output = { λ shown. Some (table_fault_text shown.fault) };
+
+    fn fmt<W: fmt::Write>(&self, f: &mut fmt::Formatter<W>) -> fmt::Result {
+        let line = self.fault.line;
+        let word = table_word(self.fault.kind);
+        write!(f, "line {line}: {word}")
+    }
+}
+
+/// A report list's first fault, as `line 3 record 1: StateChange`.
+#[derive(Clone, Copy, Drop)]
+struct ShownListFault {
+    fault: ListFault,
+}
+
+impl fmt::Display for ShownListFault {
+    ghost output = { λ shown. Some (list_fault_text shown.fault) };
+
+    fn fmt<W: fmt::Write>(&self, f: &mut fmt::Formatter<W>) -> fmt::Result {
+        let line = self.fault.line;
+        let record = self.fault.record_no;
+        let word = list_word(self.fault.kind);
+        write!(f, "line {line} record {record}: {word}")
+    }
+}
+
+/// A topology's first fault, as `router 2: BadName`.
+#[derive(Clone, Copy, Drop)]
+struct ShownTopologyFault {
+    fault: TopologyFault,
+}
+
+impl fmt::Display for ShownTopologyFault {
+    ghost output = { λ shown. Some (topology_fault_text shown.fault) };
+
+    fn fmt<W: fmt::Write>(&self, f: &mut fmt::Formatter<W>) -> fmt::Result {
+        let section = self.fault.section;
+        let number = self.fault.number;
+        let word = topology_word(self.fault.kind);
+        write!(f, "{section} {number}: {word}")
+    }
+}
+
+/// A file's first fault, with its place in the file.
+#[derive(Clone, Copy, Drop)]
+pub(crate) struct ShownFault<'f> {
+    /// The fault.
+    pub(crate) fault: &'f InputFault,
+}
+
+impl<'f> fmt::Display for ShownFault<'f> {
+    ghost output = { λ shown. Some (fault_text shown.fault.now) };
+
+    fn fmt<W: fmt::Write>(&self, f: &mut fmt::Formatter<W>) -> fmt::Result {
+        match self.fault {
+            InputFault::Topology(fault) => ShownTopologyFault { fault: *fault }.fmt(f),
+            InputFault::Vif(_, fault) | InputFault::Cache(_, fault) => {
+                ShownTableFault { fault: *fault }.fmt(f)
+            }
+            InputFault::Reports(_, fault) => ShownListFault { fault: *fault }.fmt(f),
+            _ => write!(f, "larger than {MAX_PART} bytes"),
+        }
+    }
+}
+
+/// The line with this number, counted from 1; 0 means none.
+fn line_numbered(line: u32) -> Option<u32>
+    ensures { result ≡ line_numbered line }
+{
+    if line == 0 { None } else { Some(line) }
+}
+
+/// The line of a file that a fault stands in, where it stands in one.
+pub(crate) fn line_of_fault(fault: &InputFault) -> Option<u32>
+    ensures { result ≡ line_of_fault fault.now }
+{
+    match fault {
+        InputFault::Vif(_, fault) | InputFault::Cache(_, fault) => line_numbered(fault.line),
+        InputFault::Reports(_, fault) => line_numbered(fault.line),
+        _ => None,
+    }
+}

@@ -1,0 +1,186 @@
+//! The front of a line of a file, looked for in the file's bytes as they come in pieces.
+
+ghost use Rattle.std.specs.Prelude.{◌≡◌, ◌≢◌, ◌<◌, ◌≤◌, ◌∷◌, ℕ, List, [], Some, IfErr, IfOk, IfSome};
+ghost use Rattle.std.specs.Prelude.{OnOk, length, option_map, take, vec_len};
+ghost use Rattle.mc_text.specs.Device.{counted};
+ghost use Rattle.mc_layout.specs.Files.{is_failure};
+ghost use Rattle.mc_domain.specs.RefusedFiles.{failures_with};
+ghost use Rattle.mc_run.specs.LineFront.{Takes, front_if, line_front};
+ghost use Rattle.mc_run.specs.RefusalText.{IsFrontIn, lost_count};
+
+use mc_layout::{FileFault, PieceSource};
+use mc_text::{MAX_PART, Memory as NoMemory};
+use std::alloc::Global;
+
+/// How many bytes of a line are shown at most.
+const MAX_SHOWN: usize = 100;
+
+/// The front of a line, as far as it is found.
+#[derive(Drop)]
+pub(crate) struct LineFront {
+    /// How many line feeds come before the line still.
+    before: u32,
+    /// What is found of the line.
+    front: Vec<u8>,
+}
+
+impl LineFront {
+    /// That of the line with this number, counted from 1, of which nothing is found yet.
+    fn new(alloc: Global, line: u32) -> LineFront
+        ensures few { vec_len result.front ≤ MAX_SHOWN }
+        ensures front { (text : List ℕ) → front_if result text ≡ line_front line text }
+    {
+        LineFront {
+            before: line.saturating_sub(1),
+            front: Vec::new(alloc),
+        }
+    }
+
+    /// Takes the next byte of the line itself, and answers whether the front is found.
+    fn take_shown(&mut self, byte: u8) -> Result<bool, NoMemory>
+        requires here { self.old.before ≡ 0 }
+        requires few { vec_len self.old.front ≤ MAX_SHOWN }
+        ensures few { vec_len self.new.front ≤ MAX_SHOWN }
+        ensures takes { IfOk result (Takes self.old self.new (byte ∷ [])) }
+    {
+        if byte == b'\n' {
+            return Ok(true);
+        }
+        if self.front.len() >= MAX_SHOWN {
+            return Ok(true);
+        }
+        self.front.push(byte)?;
+        Ok(false)
+    }
+
+    /// Takes the next byte of the text, and answers whether the front is found.
+    fn take_byte(&mut self, byte: u8) -> Result<bool, NoMemory>
+        requires few { vec_len self.old.front ≤ MAX_SHOWN }
+        ensures few { vec_len self.new.front ≤ MAX_SHOWN }
+        ensures takes { IfOk result (Takes self.old self.new (byte ∷ [])) }
+    {
+        if self.before == 0 {
+            return self.take_shown(byte);
+        }
+        if byte == b'\n' {
+            self.before -= 1;
+        }
+        Ok(false)
+    }
+
+    /// Takes the next piece of the text, and answers whether the front is found.
+    fn take(&mut self, piece: &[u8]) -> Result<bool, NoMemory>
+        requires few { vec_len self.old.front ≤ MAX_SHOWN }
+        ensures few { vec_len self.new.front ≤ MAX_SHOWN }
+        ensures takes { IfOk result (Takes self.old self.new piece.now) }
+    {
+        for byte in piece {
+            if self.take_byte(*byte)? {
+                return Ok(true);
+            }
+        }
+        Ok(false)
+    }
+
+    /// What is found.
+    fn into_front(self) -> Vec<u8>
+        ensures { result.items ≡ self.front.items }
+    {
+        let LineFront { before: _, front } = self;
+        front
+    }
+}
+
+/// Looks for the front in the open file, as far as a part of a bundle may go.
+fn seek_front<F: PieceSource>(
+    files: &mut F,
+    buffer: &mut [u8],
+    sought: &mut LineFront,
+) -> Result<(), FileFault>
+    requires reads { F.failed files.old < u64.MAX }
+    requires room { 0 < length buffer.old }
+    requires few { vec_len sought.old.front ≤ MAX_SHOWN }
+    ensures same { F.names files.new ≡ F.names files.old }
+    ensures kept { F.told files.new ≡ F.told files.old }
+    ensures few { vec_len sought.new.front ≤ MAX_SHOWN }
+    ensures front { (text : List ℕ) → F.left files.old ≡ Some text →
+        OnOk result (sought.new.front.items ≡ front_if sought.old (take MAX_PART text)) }
+    ensures fault { IfErr result (λ fault. fault ≢ FileFault.TooLarge) }
+    ensures failures { F.failed files.new ≡ counted is_failure result (F.failed files.old) }
+{
+    let mut left = MAX_PART;
+    'reading: while 0 < left {
+        let room = buffer.len().min(left);
+        match files.read_piece(&mut buffer[..room]) {
+            Ok(0) => return Ok(()),
+            Ok(count) => {
+                left -= count;
+                match sought.take(&buffer[..count]) {
+                    Ok(false) => {}
+                    Ok(true) => return Ok(()),
+                    Err(NoMemory) => return Err(FileFault::Memory),
+                }
+            }
+            Err(fault) => return Err(fault),
+        }
+    }
+    Ok(())
+}
+
+/// The front of a line of the open file, which is closed then; none where the source fails to give it.
+fn front_in_open<F: PieceSource>(
+    alloc: Global,
+    files: &mut F,
+    buffer: &mut [u8],
+    line: u32,
+) -> Result<Option<Vec<u8>>, NoMemory>
+    requires reads { F.failed files.old < u64.MAX }
+    requires room { 0 < length buffer.old }
+    ensures same { F.names files.new ≡ F.names files.old }
+    ensures kept { F.told files.new ≡ F.told files.old }
+    ensures few { IfOk result (λ found. IfSome found (λ front. length front.items ≤ MAX_SHOWN)) }
+    ensures front { (text : List ℕ) → F.left files.old ≡ Some text → IfOk result (λ found.
+        IfSome found (λ front. front.items ≡ line_front line (take MAX_PART text))) }
+    ensures failures { IfOk result (λ found. F.failed files.new
+        ≡ failures_with (lost_count (option_map (λ front. front.items) found)) (F.failed files.old)) }
+{
+    let mut sought = LineFront::new(alloc, line);
+    let found = seek_front(files, buffer, &mut sought);
+    files.close();
+    match found {
+        Ok(()) => Ok(Some(sought.into_front())),
+        Err(FileFault::Memory) => Err(NoMemory),
+        Err(_) => Ok(None),
+    }
+}
+
+/// The front of the line with this number, counted from 1, of the file with the name; none where the
+/// source fails to give the file.
+///
+/// # Errors
+///
+/// `Memory` where a growth was refused.
+pub(crate) fn front_of_line<F: PieceSource>(
+    alloc: Global,
+    files: &mut F,
+    buffer: &mut [u8],
+    name: &str,
+    line: u32,
+) -> Result<Option<Vec<u8>>, NoMemory>
+    requires room { 0 < length buffer.old }
+    ensures same { F.names files.new ≡ F.names files.old }
+    ensures kept { F.told files.new ≡ F.told files.old }
+    ensures front { IfOk result (λ found. IfSome (option_map (λ front. front.items) found)
+        (IsFrontIn (F.told files.old) name.now line)) }
+    ensures failures { IfOk result (λ found. F.failed files.new
+        ≡ failures_with (lost_count (option_map (λ front. front.items) found)) (F.failed files.old)) }
+{
+    if files.failures() == u64::MAX {
+        return Ok(None);
+    }
+    match files.open(alloc, name) {
+        Ok(()) => front_in_open(alloc, files, buffer, line),
+        Err(FileFault::Memory) => Err(NoMemory),
+        Err(_) => Ok(None),
+    }
+}

@@ -1,0 +1,53 @@
+//! Standard error, as an output.
+
+ghost use Rattle.std.specs.Prelude.{◌≡◌, None};
+
+use mc_text::{DeviceFault, Output};
+use std::marker::Model;
+use std::str;
+
+/// An output over standard error, which doesn't tell its bytes. It takes each text whole, or else
+/// fails: also at bytes that are no UTF-8.
+#[derive(Drop)]
+pub(crate) struct ToStandardError<'r, R: Eprint> {
+    rt: &'r R,
+    failures: u64,
+}
+
+impl<'r, R: Eprint> Model for ToStandardError<'r, R> {
+    ghost use Rattle.std.specs.Prelude.{None};
+    ghost use Rattle.mc_text.specs.Device.{OutputState};
+
+    ghost Value = { OutputState };
+
+    ghost view = { λ s. record { took = None; failed = s.failures } };
+}
+
+impl<'r, R: Eprint> ToStandardError<'r, R> {
+    /// An output with no failure yet.
+    pub(crate) fn new(rt: &'r R) -> ToStandardError<'r, R>
+        ensures { result ≡ record { took = None; failed = 0 } }
+    {
+        ToStandardError { rt, failures: 0 }
+    }
+}
+
+impl<'r, R: Eprint> Output for ToStandardError<'r, R> {
+    ghost took = { λ s. s.took };
+
+    ghost failed = { λ s. s.failed };
+
+    fn write(&mut self, text: &[u8]) -> Result<usize, DeviceFault> {
+        if let Ok(shown) = str::from_utf8(text) {
+            if eprint!(self.rt; "{shown}").is_ok() {
+                return Ok(text.len());
+            }
+        }
+        self.failures += 1;
+        Err(DeviceFault)
+    }
+
+    fn failures(&self) -> u64 {
+        self.failures
+    }
+}

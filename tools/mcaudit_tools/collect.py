@@ -17,7 +17,7 @@ import time
 from mcaudit_tools import answers, origins, topology, ways
 from mcaudit_tools.common import PROGRAM, Ended, Failed, Parser, clean, say
 from mcaudit_tools.programs import RUNNING, run
-from mcaudit_tools.site import Site
+from mcaudit_tools.sets import Site
 
 ABOUT = """Brings the multicast tables of each router NAME into SITE, as vif-NAME and cache-NAME.
 Give each router the name that the topology gives it: letters, digits, `-`, `_`, `.`.

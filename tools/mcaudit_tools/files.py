@@ -58,8 +58,10 @@ def sync_folder(path):
 
 def sync_files(folder):
     """Puts a folder and its files on the disk."""
-    for name in os.listdir(folder):
-        opened = os.open(os.path.join(folder, name), os.O_RDONLY | os.O_CLOEXEC)
+    for entry in os.scandir(folder):
+        if not entry.is_file():
+            continue
+        opened = os.open(entry.path, os.O_RDONLY | os.O_CLOEXEC)
         try:
             os.fsync(opened)
         finally:
@@ -69,12 +71,12 @@ def sync_files(folder):
 
 @contextlib.contextmanager
 def beside(path, mode=None):
-    """Gives a file beside the path to be written. At the end it is put on the disk and renamed; where anything fails, the
-    path stays as it was, and nothing is left."""
-    folder, name = os.path.split(path)
+    """Gives a file beside the path, or what a link there leads to, to be written. At the end it is put on the disk and
+    renamed; where anything fails, the path stays as it was, and nothing is left."""
+    folder, name = os.path.split(os.path.realpath(path))
     made = None
     try:
-        opened, made = tempfile.mkstemp(prefix=f".{name[:80]}.", dir=folder or ".")
+        opened, made = tempfile.mkstemp(prefix=f".{name[:80]}.", dir=folder)
         with os.fdopen(opened, "wb") as file:
             os.fchmod(file.fileno(), 0o666 & ~umask() if mode is None else mode)
             yield file
@@ -84,9 +86,9 @@ def beside(path, mode=None):
                 raise Failed(f"{path} can't be written: the disk has not what was written")
         if os.path.lexists(path) and not os.path.isfile(path):
             raise Failed(f"{path} is no plain file")
-        os.replace(made, path)
+        os.replace(made, os.path.join(folder, name))
         made = None
-        sync_folder(folder or ".")
+        sync_folder(folder)
     except OSError as fault:
         raise Failed(f"{path} can't be written: {reason_of(fault)}") from fault
     finally:

@@ -10,7 +10,7 @@ from mcaudit_tools.files import beside, write_beside
 from mcaudit_tools.live import Task, capture_list
 from mcaudit_tools.programs import RUNNING
 from mcaudit_tools.session import NoCapture
-from mcaudit_tools.site import Site, record, site_of
+from mcaudit_tools.sets import Site, record, site_of
 from mcaudit_tools.topology import read_topology
 from mcaudit_tools.window import NO_LIST, WRITTEN, List
 from mcaudit_tools.ways import SSH

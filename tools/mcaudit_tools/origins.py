@@ -40,10 +40,13 @@ class Unknown(Failed):
     """A collected.json that says nothing of use."""
 
 
+def is_old_time(value):
+    """Whether it is a time as version 1 has it."""
+    return isinstance(value, str) and re.fullmatch(r"\d{4}-\d\d-\d\dT\d\d:\d\d:\d\dZ", value, re.ASCII) is not None
+
+
 def seconds_of(text):
     """Returns the time of a text of version 1."""
-    if not isinstance(text, str) or not re.fullmatch(r"\d{4}-\d\d-\d\dT\d\d:\d\d:\d\dZ", text, re.ASCII):
-        raise ValueError
     return calendar.timegm(time.strptime(text, "%Y-%m-%dT%H:%M:%SZ"))
 
 
@@ -75,17 +78,21 @@ def parse(data):
     try:
         found = json.loads(data)
         if found["version"] not in (1, 2) or isinstance(found["version"], bool):
-            raise Unknown(f"{FILE} is of a version that is not known")
-        read = (lambda name, value: origin_of(value)) if found["version"] == 2 else old_origin
-        return {name: read(name, value) for name, value in found["files"].items()}
+            raise Unknown("it is of a version that is not known")
+        if found["version"] == 1:
+            return {name: old_origin(name, it) for name, it in found["files"].items() if is_old_time(it)}
+        return {name: origin_of(it) for name, it in found["files"].items()}
     except (ValueError, KeyError, TypeError, AttributeError, RecursionError, OverflowError) as fault:
-        raise Unknown(f"{FILE} is none that a tool wrote") from fault
+        raise Unknown("it is none that a tool wrote") from fault
 
 
-def read(folder):
-    """Returns what a folder's collected.json says of its files: nothing, where there is none."""
+def read(folder, named=None):
+    """Returns what a folder's collected.json says of its files: nothing, where there is none. The folder has this name."""
     path = os.path.join(folder, FILE)
-    return parse(read_regular(path, MOST_BYTES)) if os.path.lexists(path) else {}
+    try:
+        return parse(read_regular(path, MOST_BYTES)) if os.path.lexists(path) else {}
+    except Unknown as fault:
+        raise Unknown(f"{os.path.join(named or folder, FILE)}: {fault}") from fault
 
 
 def by_hand(path):

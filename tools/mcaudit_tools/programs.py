@@ -43,6 +43,7 @@ class Running:
         self.lock = threading.RLock()
         self.processes = set()
         self.is_beginning = False  # the main thread is between a fork and the moment from which its program can be ended
+        self.grace = GRACE  # seconds that all that runs has to end by itself where the tool ends
         self.is_unheeded = False  # signals are not heeded now
         self.ended = threading.Event()  # set once no program is to begin any more
 
@@ -68,7 +69,8 @@ class Running:
         try:
             yield
         finally:
-            self.is_unheeded = False
+            self.grace = GRACE  # seconds that all that runs has to end by itself where the tool ends
+        self.is_unheeded = False
 
     def begin(self, words, **how):
         """Begins a program, in a session of its own."""
@@ -112,14 +114,14 @@ class Running:
         with self.lock:
             self.processes.discard(process)
 
-    def end_all(self, grace=GRACE):
+    def end_all(self):
         """Ends all programs at once; none begins any more. Whoever runs one closes its pipes."""
         self.ended.set()
         with self.lock:
             processes = list(self.processes)
         for process in processes:
             signal_session(process, signal.SIGTERM)
-        until = time.monotonic() + grace
+        until = time.monotonic() + self.grace
         for process in processes:
             with contextlib.suppress(subprocess.TimeoutExpired):
                 process.wait(max(0, until - time.monotonic()))

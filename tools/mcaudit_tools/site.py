@@ -1,293 +1,155 @@
-"""A site: the link SITE, the sets in SITE.sets to one of which it leads, and the locks beside it.
+"""mcaudit-site: makes the whole folder of a domain in one go, and tells the LANs of its topology.
 
-What is there at one time is a set, a folder SITE.sets/TIME. SITE is a symbolic link to one, and a rename of a new link
-over it is all that ever changes it: it leads to the old set or to the new one, whole. Whoever makes a set copies what
-the last one has and swaps the link under the lock SITE.write.lock, and so does whoever writes a file into SITE: what is
-written comes into the set before it is copied, or into the new one.
+`init` runs the other tools one after the other: mcaudit-draft, mcaudit-collect, mcaudit-reports and `mcaudit
+audit`, each by its own words. It takes nothing over from them but their statuses.
 """
-import contextlib
-import fcntl
 import os
-import re
-import shutil
-import stat
-import tempfile
-import time
+import subprocess
 
-from mcaudit_tools import origins
-from mcaudit_tools.common import Failed
-from mcaudit_tools.files import reason_of, sync_files, sync_folder, write_beside
+from mcaudit_tools.common import Failed, Parser, find_tool, say
+from mcaudit_tools.files import read_regular
 from mcaudit_tools.programs import RUNNING
+from mcaudit_tools.topology import MOST_BYTES, read_topology
 
-PATIENCE = 10  # seconds that a lock is waited for
-SCRATCH = ".reading."  # what the folders are called in which sets are made
-OLD_SCRATCH = re.compile(r"\.reading\.[0-9]+")  # of 0.2.0, which locked none
-STALE = 3600  # seconds after which one of those is nobody's
-SET_NAME = re.compile(r"\d{8}T\d{6}Z", re.ASCII)
-NOT_CARRIED = origins.FILE, "audit.json"
-PLAIN_NAME = re.compile(r"[A-Za-z0-9_.-]+")  # of files that collected.json tells of
+ABOUT = """Makes the whole folder of a domain in one go, or tells the LANs of its topology.
 
+`init` drafts the topology (mcaudit-draft), collects the routers' tables (mcaudit-collect --adopt), gathers the
+reports of all LANs (mcaudit-reports --all) and judges the folder (mcaudit audit --travel). A topology that is
+there stays as it is. What could not be had of a router or a LAN is named, and the next step is done all the same."""
+MORE = """Statuses of init: 0 verdict yes, 1 verdict no or something is missing; else that of the step that ended it.
+Of lans: 0 printed, 3 the topology can't be read. 5 wrong words.
 
-class BadName(Failed):
-    """A site's path that names no folder."""
-
-    status = 5
-
-
-class Site:
-    """The link, the sets and the lock of one site."""
-
-    def __init__(self, path):
-        """Takes the path of the link."""
-        stripped = path.rstrip("/")
-        if os.path.basename(stripped) in ("", ".", ".."):
-            raise BadName("the site is wanted by its folder's name")
-        self.path = stripped if stripped.startswith(("/", "./", "../")) else f"./{stripped}"
-        self.sets = f"{self.path}.sets"
-
-    # The lock
-
-    @contextlib.contextmanager
-    def writing(self):
-        """Holds the lock of whoever writes into the site, which is waited for some seconds."""
-        with lock_file(f"{self.path}.write.lock") as opened:
-            until = time.monotonic() + PATIENCE
-            while not try_lock(opened):
-                if time.monotonic() >= until:
-                    raise Failed(f"{self.path}.write.lock is held by another run for {PATIENCE} s")
-                time.sleep(0.05)
-            yield
-
-    # What there is
-
-    def folder(self):
-        """Returns the real path of the set that the site leads to now: whoever names it has one moment's files."""
-        return os.path.realpath(self.path)
-
-    def check(self, may_adopt):
-        """Fails unless the site is a link to a set, or can become one."""
-        if os.path.islink(self.path):
-            if not os.path.isdir(self.path) or os.path.dirname(self.folder()) != os.path.realpath(self.sets):
-                raise Failed(f"{self.path} is no link to a set in {self.sets}")
-        elif os.path.isdir(self.path):
-            if not may_adopt:
-                raise Failed(f"{self.path} is a plain folder: --adopt makes it the first set")
-        elif os.path.lexists(self.path):
-            raise self.unwritable()
-
-    def unwritable(self, fault=None):
-        """Returns what tells that the site can't be written."""
-        reason = f": {reason_of(fault)}" if isinstance(fault, OSError) else ""
-        return Failed(f"{self.path} can't be written{reason}")
-
-    # What is made
-
-    @contextlib.contextmanager
-    def scratch(self):
-        """Gives a folder in which a set can be made, beside the sets. Those of dead runs are taken away first."""
-        made = None
-        is_new = not os.path.lexists(self.sets)
-        try:
-            os.makedirs(self.sets, exist_ok=True)
-            with self.writing():
-                self.clear_stale()
-                made = tempfile.mkdtemp(prefix=SCRATCH, dir=self.sets)
-                opened = os.open(made, os.O_RDONLY | os.O_DIRECTORY | os.O_CLOEXEC)
-                fcntl.flock(opened, fcntl.LOCK_EX)
-        except OSError as fault:
-            raise self.unwritable(fault) from fault
-        try:
-            yield made
-        finally:
-            shutil.rmtree(made, ignore_errors=True)
-            os.close(opened)
-            if is_new:
-                with contextlib.suppress(OSError):
-                    os.rmdir(self.sets)
-
-    def clear_stale(self):
-        """Removes the scratch folders that no live run has."""
-        for entry in list(os.scandir(self.sets)):
-            if not entry.name.startswith(SCRATCH) or not entry.is_dir(follow_symlinks=False):
-                continue
-            if OLD_SCRATCH.fullmatch(entry.name) and time.time() - entry.stat().st_mtime < STALE:
-                continue
-            opened = os.open(entry.path, os.O_RDONLY | os.O_DIRECTORY | os.O_CLOEXEC)
-            try:
-                if try_lock(opened):
-                    shutil.rmtree(entry.path, ignore_errors=True)
-            finally:
-                os.close(opened)
-
-    def adopt(self):
-        """Makes a plain folder the first set."""
-        with self.writing(), RUNNING.unheeded():
-            if os.path.islink(self.path) or not os.path.isdir(self.path):
-                self.check(True)
-                return
-            folder = self.free_folder()
-            moved = moved_links(self.path, folder)
-            try:
-                os.rename(self.path, folder)
-            except OSError as fault:
-                raise self.unwritable(fault) from fault
-            try:
-                for name, (_, target) in moved.items():
-                    replace_link(os.path.join(folder, name), target)
-                self.lead_to(os.path.basename(folder))
-            except BaseException as fault:
-                for name, (target, _) in moved.items():
-                    replace_link(os.path.join(folder, name), target)
-                os.rename(folder, self.path)
-                raise self.unwritable(fault) from fault
-
-    def free_folder(self):
-        """Returns the path of a new set, whose name is the time."""
-        while True:
-            path = os.path.join(self.sets, time.strftime("%Y%m%dT%H%M%SZ", time.gmtime()))
-            if not os.path.lexists(path):
-                return path
-            time.sleep(0.1)
-
-    def lead_to(self, name):
-        """Makes the site a link to the set of this name. The new link is made beside SITE, on its disk."""
-        folder, own = os.path.split(self.path)
-        made = tempfile.mkdtemp(prefix=f".{own[:80]}.", dir=folder)
-        try:
-            link = os.path.join(made, "link")
-            os.symlink(os.path.join(os.path.basename(self.sets), name), link)
-            os.replace(link, self.path)
-            sync_folder(folder)
-        finally:
-            shutil.rmtree(made, ignore_errors=True)
-
-    def publish(self, new, is_replaced, scratch, announce):
-        """Makes a set of the new files, {name: (path, origin)}, and of those of the last set that aren't replaced, and has
-        the site lead to it. Announces the set's path before that. Returns that path."""
-        made = os.path.join(scratch, "set")
-        with self.writing():
-            self.check(False)
-            try:
-                os.mkdir(made)
-                told = self.carry(made, lambda name: name in new or is_replaced(name))
-                for name, (path, origin) in new.items():
-                    os.rename(path, os.path.join(made, name))
-                    told[name] = origin
-                with open(os.path.join(made, origins.FILE), "wb") as file:
-                    file.write(origins.text_of(told))
-                sync_files(made)
-                folder = self.free_folder()
-                announce(folder)
-                with RUNNING.unheeded():
-                    self.take_set(made, folder)
-            except OSError as fault:
-                raise self.unwritable(fault) from fault
-        return folder
-
-    def take_set(self, made, folder):
-        """Makes what was made a set, to which the site leads."""
-        os.rename(made, folder)
-        try:
-            sync_folder(self.sets)
-            self.lead_to(os.path.basename(folder))
-        except BaseException:
-            shutil.rmtree(folder, ignore_errors=True)
-            raise
-
-    def carry(self, made, is_replaced):
-        """Copies the other files of the last set into the one that is made. Returns where they come from."""
-        if not os.path.lexists(self.path):
-            return {}
-        last, known, told = self.folder(), {}, {}
-        with contextlib.suppress(origins.Unknown):
-            known = origins.read(last)
-        for name in sorted(os.listdir(last)):
-            if name.startswith(".") or name in NOT_CARRIED:
-                continue
-            path = os.path.join(last, name)
-            if is_replaced(name):
-                if os.path.isdir(path):
-                    raise Failed(f"{os.path.join(self.path, name)} is a folder")
-                continue
-            copy(path, os.path.join(made, name), os.path.join(self.path, name))
-            if PLAIN_NAME.fullmatch(name) and os.path.isfile(path):
-                told[name] = origins.current(path, known.get(name))
-        return told
+Examples:
+  mcaudit-site init site --routers routers --ssh 'ssh -l root'
+  mcaudit-site lans site"""
+OPTIONS = [("--routers", "FILE", "take the routers of FILE too: NAME=WAY, a line each"),
+           ("--ssh", "COMMAND", "reach a HOST by `COMMAND HOST sh`"),
+           ("--ttl", "N", "the time to live of all flows; without it each is measured"),
+           ("--wait", "SECONDS", "wait so long for a General Query on each LAN"),
+           ("--tries", "N", "gather a LAN's reports so often, where they changed meanwhile"),
+           ("--static", "LAN:GROUP[,SOURCE]", "what a host wants that can't be asked"),
+           ("--empty-lan", "LAN", "where no host of this LAN answers, nobody on it wants anything")]
+REPEATED = "--static", "--empty-lan"
 
 
-def copy(path, target, named):
-    """Copies a file, a link or a folder as it is; what leads nowhere or is neither is named."""
-    try:
-        kind = os.stat(path).st_mode
-    except OSError as fault:
-        raise Failed(f"{named} can't be read: {reason_of(fault)}") from fault
-    if os.path.islink(path):
-        os.symlink(os.readlink(path), target)
-    elif stat.S_ISDIR(kind):
-        shutil.copytree(path, target, symlinks=True)
-    elif stat.S_ISREG(kind):
-        shutil.copy2(path, target)
-    else:
-        raise Failed(f"{named} is no regular file")
+GRACE = 5  # seconds that a step has to end what it began
 
 
-def moved_links(folder, place):
-    """Returns the old and the new target of each relative link in the folder, which is to lead from another place to where
-    it leads."""
-    found = {}
-    at = os.path.join(os.path.realpath(os.path.dirname(place)), os.path.basename(place))
-    for entry in os.scandir(folder):
-        if entry.is_symlink():
-            if not os.path.exists(entry.path):
-                raise Failed(f"{entry.path} leads nowhere")
-            target = os.readlink(entry.path)
-            if not os.path.isabs(target):
-                found[entry.name] = target, os.path.relpath(os.path.join(os.path.realpath(folder), target), at)
+class Stopped(Failed):
+    """A step after which the next one can't be done."""
+
+    def __init__(self, step, status, why="nothing more is done"):
+        """Takes the step's name and its status."""
+        super().__init__(f"{step} ended with status {status}: {why}", status)
+
+
+def print_lans(site):
+    """Prints each LAN of the topology with each interface on it, `LAN ROUTER DEVICE`, or alone."""
+    topology = read_topology(os.path.realpath(site), site)
+    for lan in topology.lans:
+        found = [row for row in topology.interfaces if row[0] == lan]
+        for row in found or [(lan,)]:
+            print(*row)
+
+
+def read_arguments():
+    """Reads the arguments."""
+    words = Parser(description=ABOUT, epilog=MORE)
+    words.add_version()
+    commands = words.add_subparsers(dest="command", metavar="COMMAND", required=True, parser_class=Parser)
+    init = commands.add_parser("init", prog="mcaudit-site init", help="draft, collect, gather and judge",
+                               description="Makes the folder SITE of the routers, and judges it.")
+    init.add_argument("site", metavar="SITE")
+    init.add_argument("ways", metavar="NAME=WAY", nargs="*", help="a router and the way to it, as for mcaudit-collect")
+    for option, value, about in OPTIONS:
+        init.add_argument(option, metavar=value, action="append" if option in REPEATED else "store", help=about)
+    init.add_argument("--ask", action="store_true", help="ask the hosts where no querier does, as mcaudit-reports")
+    init.add_argument("--ask-routers", action="store_true", help="on LANs that two routers lie on, too")
+    init.add_argument("--empty", action="store_true",
+                      help="as --empty-lan of every LAN, also of one whose hosts just weren't heard")
+    lans = commands.add_parser("lans", prog="mcaudit-site lans", help="print each LAN with each interface on it",
+                               description="Prints LAN ROUTER DEVICE for each interface, or a LAN without one alone.")
+    lans.add_argument("site", metavar="SITE")
+    return words.parse_args()
+
+
+def options_of(words, *names):
+    """Returns those of the options that were given, as words of another tool."""
+    found = []
+    for name in names:
+        value = getattr(words, name.removeprefix("--").replace("-", "_"))
+        for one in value if isinstance(value, list) else [value]:
+            if one is True:
+                found.append(name)
+            elif one is not None and one is not False:
+                found += [name, one]
     return found
 
 
-def replace_link(path, target):
-    """Makes the link lead to another target."""
-    os.unlink(path)
-    os.symlink(target, path)
+def steps_of(words):
+    """Returns each step: its name, what it does, and the words that do it."""
+    reach = options_of(words, "--routers", "--ssh")
+    gather = options_of(words, "--ask", "--ask-routers", "--empty", "--wait", "--tries", *REPEATED)
+    steps = [("draft", "draft the topology of what the routers say",
+              [find_tool("mcaudit-draft"), *reach, *options_of(words, "--ttl"), words.site, *words.ways]),
+             ("collect", "collect the routers' tables",
+              [find_tool("mcaudit-collect"), "--adopt", *reach, words.site, *words.ways]),
+             ("reports", "gather what the hosts of each LAN want",
+              [find_tool("mcaudit-reports"), *reach, *gather, "--all", words.site, *words.ways]),
+             ("audit", "judge the folder", [find_tool("mcaudit"), "audit", "--travel"])]
+    if os.path.lexists(os.path.join(words.site, "topology")):
+        print(f"{words.site}/topology is there, and stays as it is", flush=True)
+        tell_missing(words.site)
+        return steps[1:]
+    return steps
 
 
-@contextlib.contextmanager
-def lock_file(path):
-    """Gives the descriptor of a lock's file, which is made where it isn't there."""
+def tell_missing(site):
+    """Tells what the draft of a topology that is there had missed, and that is still a comment in it."""
+    data = read_regular(os.path.join(os.path.realpath(site), "topology"), MOST_BYTES, os.path.join(site, "topology"))
+    for line in data.decode("utf-8", "replace").split("\n"):
+        if line.startswith("# missing: "):
+            say(f"in {site}/topology: {line.removeprefix('# ').rstrip()}")
+
+
+def run_step(command):
+    """Runs the command to its end. Returns its status."""
+    process = RUNNING.begin(command, stdin=subprocess.DEVNULL)
     try:
-        try:
-            opened = os.open(path, os.O_RDWR | os.O_CREAT | os.O_NOFOLLOW | os.O_CLOEXEC | os.O_NONBLOCK, 0o644)
-        except PermissionError:
-            opened = os.open(path, os.O_RDONLY | os.O_NOFOLLOW | os.O_CLOEXEC | os.O_NONBLOCK)
-    except OSError as fault:
-        raise Failed(f"{path} can't be locked: {reason_of(fault)}") from fault
-    try:
-        yield opened
+        return process.wait()
     finally:
-        os.close(opened)
+        RUNNING.end(process, GRACE)
 
 
-def try_lock(opened):
-    """Takes the lock of an open file or folder for this program alone. Returns whether it could."""
-    try:
-        fcntl.flock(opened, fcntl.LOCK_EX | fcntl.LOCK_NB)
-    except BlockingIOError:
-        return False
-    return True
+def init_site(words):
+    """Runs each step, as long as the next one can be. Returns the status."""
+    steps = steps_of(words)
+    partly, before = [], os.path.realpath(words.site)
+    for number, (name, what, command) in enumerate(steps, 1):
+        print(f"{number} of {len(steps)}: {what}", flush=True)
+        if name == "audit":
+            folder = os.path.realpath(words.site)
+            status = run_step([*command[:2], folder, *command[2:]])
+            if not os.path.isdir(folder):
+                raise Failed(f"{words.site}: the set was removed meanwhile")
+            break
+        status = run_step(command)
+        if status not in (0, 1):
+            raise Stopped(name, status if status > 0 else 3)
+        if name == "collect" and os.path.realpath(words.site) == before:
+            raise Stopped(name, 3, "there is no new set")
+        if status == 1:
+            partly.append(name)
+    if partly:
+        say(f"something is missing, as was said above: {' '.join(partly)}")
+    return status or (1 if partly else 0)
 
 
-def site_of(folder):
-    """Returns the site that a folder is, by its path: a link to a set, or what has a topology; else None."""
-    is_site = os.path.islink(folder.rstrip("/")) or os.path.lexists(os.path.join(folder, "topology"))
-    if not is_site or os.path.basename(folder.rstrip("/")) in ("", ".", ".."):
-        return None
-    return Site(folder)
-
-
-def record(folder, told):
-    """Notes in a site's folder where some of its files come from. The lock is held."""
-    known = {}
-    with contextlib.suppress(origins.Unknown):
-        known = origins.read(folder)
-    write_beside(os.path.join(folder, origins.FILE), origins.text_of({**known, **told}))
+def main():
+    """Makes the folder, or prints the LANs. Returns the status."""
+    words = read_arguments()
+    RUNNING.grace = GRACE
+    if words.command == "lans":
+        print_lans(words.site)
+        return 0
+    return init_site(words)

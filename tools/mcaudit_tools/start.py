@@ -18,7 +18,7 @@ def report_to_plugin(sentence):
 
 def fail(program, sentence):
     """Tells why nothing came of it. Returns the status."""
-    if program == "mcaudit-monitor" and "--plugin" in sys.argv[1:]:
+    if program == "mcaudit-monitor" and "--plugin" in sys.argv[1:] and sys.stdout is not None:
         report_to_plugin(sentence)
     elif sys.stderr is not None:
         print(program + ": " + sentence, file=sys.stderr)
@@ -65,7 +65,10 @@ def run(name, version):
     except common.Ended as fault:
         return fault.status
     except common.Failed as fault:
-        finish_output(program, 0)
+        try:
+            sys.stdout.flush()
+        except (OSError, AttributeError):
+            drop_output()
         return fail(program, str(fault)) and fault.status
     except (BrokenPipeError, OSError) as fault:
         drop_output()

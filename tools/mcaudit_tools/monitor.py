@@ -293,10 +293,11 @@ class Run:
         """Yields the name of a router or a LAN and the origin of each of its files."""
         folder = self.folder or os.path.realpath(self.site)
         with contextlib.suppress(OSError):
+            is_copied = origins.is_copy(folder, self.origins)
             for entry in sorted(os.scandir(folder), key=lambda it: it.name):
                 prefix, dash, name = entry.name.partition("-")
                 if dash and prefix in prefixes and (names is None or name in names):
-                    yield name, origins.current(entry.path, self.origins.get(entry.name))
+                    yield name, origins.current(entry.path, self.origins.get(entry.name), is_copied)
 
     def times(self, prefixes, names):
         """Returns for each name when the oldest of its files was written, in Unix seconds, by name. What an operator decided

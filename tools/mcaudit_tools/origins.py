@@ -100,12 +100,25 @@ def by_hand(path):
     return Origin(OPERATOR, None, int(os.stat(path).st_mtime))
 
 
-def current(path, origin):
-    """Returns the origin of the file as it is now: where it is newer than told, somebody changed it by hand."""
-    written = int(os.stat(path).st_mtime)
-    if origin is None or written > origin.time + CHANGED:
-        return Origin(OPERATOR, None, written)
+def is_copy(folder, known):
+    """Whether the folder is a copy whose files have the times of copying: all that are told of are newer than told. A copy
+    is as old as what it copies."""
+    written = {name: os.stat(path).st_mtime for name, path in ((it, os.path.join(folder, it)) for it in known)
+               if os.path.isfile(path)}
+    return bool(written) and all(when > known[name].time + CHANGED for name, when in written.items())
+
+
+def current(path, origin, is_copied):
+    """Returns the origin of the file as it is now: where it is newer than told, somebody changed it by hand, unless the whole
+    folder is a copy."""
+    if origin is None or (os.stat(path).st_mtime > origin.time + CHANGED and not is_copied):
+        return by_hand(path)
     return origin
+
+
+def keep_time(path, origin):
+    """Gives a file the time that is told of it, so that whoever changes it by hand is seen."""
+    os.utime(path, (origin.time, origin.time))
 
 
 def text_of(origins):

@@ -200,6 +200,7 @@ class Site:
                 told = self.carry(made, lambda name: name in new or is_replaced(name))
                 for name, (path, origin) in new.items():
                     os.rename(path, os.path.join(made, name))
+                    origins.keep_time(os.path.join(made, name), origin)
                     told[name] = origin
                 with open(os.path.join(made, origins.FILE), "wb") as file:
                     file.write(origins.text_of(told))
@@ -229,6 +230,7 @@ class Site:
         last, known, told = self.folder(), {}, {}
         with contextlib.suppress(origins.Unknown):
             known = origins.read(last)
+        is_copied = origins.is_copy(last, known)
         for name in sorted(os.listdir(last)):
             if name.startswith(".") or name in NOT_CARRIED:
                 continue
@@ -239,7 +241,9 @@ class Site:
                 continue
             copy(path, os.path.join(made, name), os.path.join(self.path, name))
             if PLAIN_NAME.fullmatch(name) and os.path.isfile(path):
-                told[name] = origins.current(path, known.get(name))
+                told[name] = origins.current(path, known.get(name), is_copied)
+                if is_copied and not os.path.islink(path):
+                    origins.keep_time(os.path.join(made, name), told[name])
         return told
 
 
@@ -314,8 +318,14 @@ def site_of(folder):
 
 
 def record(folder, told):
-    """Notes in a site's folder where some of its files come from. The lock is held."""
+    """Notes in a site's folder where some of its files come from, and gives them that time. The lock is held."""
     known = {}
     with contextlib.suppress(origins.Unknown):
         known = origins.read(folder)
+    if origins.is_copy(folder, {name: it for name, it in known.items() if name not in told}):
+        for name, origin in known.items():
+            with contextlib.suppress(FileNotFoundError):
+                origins.keep_time(os.path.join(folder, name), origin)
+    for name, origin in told.items():
+        origins.keep_time(os.path.join(folder, name), origin)
     write_beside(os.path.join(folder, origins.FILE), origins.text_of({**known, **told}))

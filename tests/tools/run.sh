@@ -1,14 +1,15 @@
 #!/bin/sh
 # Runs the tools on the cases beside this script, and compares what they do with what the case's folder
-# says: those in shell by dash with each awk that is installed, by bash, and by busybox sh with busybox's
-# own commands; those in Python by the system's python3 and by the one on the path. It needs no network:
+# says: by the system's python3 and by the one on the path, where the routers' sh is dash; and what asks routers
+# also where that is bash, and busybox with its own commands. It needs no network:
 # the folder commands/ has what stands for the ways to a router. The cases of monitor/ and diff/ run the
 # program, crates/mcaudit/out/mcaudit or what PROGRAM names. The words of the file completion, and those that
 # help_words.sh takes from the help of the program and of its tools, are completed by bash, zsh and fish
 # alike. All tools are to tell one version and to be installed, and shellcheck reads all shell of the tools
 # and of their cases. page.py looks at the pages that mcaudit-page makes. What it needs that is not there is
 # named, and is a failure; but promtool reads the files for Prometheus, and systemd-analyze the units, only
-# where they are.
+# where they are. hostile.py tries what hosts, routers and names may do to the tools; flake8, pylint and mypy
+# read their Python, as that of 3.9.
 # Usage: run.sh [CASE ...], as collect/unreachable
 #
 # A case has, beside its note:
@@ -365,6 +366,11 @@ check_shell() {
         tests/*.sh) tools/mcaudit.bash tests/tools/completion.bash
 }
 
+# Reads all Python of the tools with pylint: what may be an error, and what it warns of.
+check_python() {
+    PYTHONPATH=$tools pylint --disable=all --enable=E,W --disable=E3102,E1124,W0621 "$tools/mcaudit_tools"
+}
+
 # Asks all tools for their version: it is one.
 compare_versions() {
     for tool in "$tools"/mcaudit-*; do
@@ -448,6 +454,12 @@ if [ -z "$wanted_cases" ]; then
     run_apart packages sh want_package
     run_apart shellcheck shellcheck check_shell
     run_apart pages dot "$python" "$here/page.py"
+    run_apart hostile dot "$python" "$here/hostile.py"
+    run_apart flake8 flake8 flake8 --max-line-length 132 "$tools" "$tools"/mcaudit-* "$here"/hostile.py "$here"/packets.py \
+        "$here"/commands
+    run_apart pylint pylint check_python
+    run_apart mypy mypy mypy --python-version 3.9 --cache-dir "$scratch/mypy" "$tools/mcaudit_tools"
+    run_apart script node node --check "$tools/mcaudit_tools/page.js"
 fi
 for other in dash bash busybox python3; do
     command -v "$other" > /dev/null || echo "failed: $other, which is not there" > "$scratch/results/$other"

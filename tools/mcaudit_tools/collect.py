@@ -81,7 +81,8 @@ def read_arguments():
     parser.add_argument("--pause", metavar="SECONDS", default="1", help="wait so long between two readings of a router (1)")
     parser.add_argument("--timeout", metavar="SECONDS", default="60", help="give a router up when a reading takes longer (60)")
     parser.add_argument("--at-once", metavar="N", default="8", help="read at most N routers side by side, 1 to 100 (8)")
-    parser.add_argument("--ssh", metavar="COMMAND", default=ways.SSH, help="reach a HOST by `COMMAND HOST sh` (" + ways.SSH + ")")
+    parser.add_argument("--ssh", metavar="COMMAND", default=ways.SSH,
+                        help=f"reach a HOST by `COMMAND HOST sh` ({ways.SSH})")
     parser.add_argument("--facts", action="store_true", help="bring the router's addresses and routes too, as address-NAME and "
                         "route-NAME: what `ip -j address` says, or where it can't, `ip -o -4 address`, and /proc/net/route. "
                         "mcaudit-draft reads them; what a router has not is empty")

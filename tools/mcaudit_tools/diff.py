@@ -33,13 +33,13 @@ Examples:
 @dataclasses.dataclass
 class Audit:
     """What an audit says."""
-    devices: dict | None = None  # by router and vif
+    devices: "dict | None" = None  # by router and vif
     ways: dict = dataclasses.field(default_factory=dict)  # by tree: of each LAN who sends onto it, and its need
     flows: dict = dataclasses.field(default_factory=dict)  # by source and group
     unlisted: dict = dataclasses.field(default_factory=dict)  # by group and source: routers
     left_out: list = dataclasses.field(default_factory=list)
     is_whole: bool = True  # whether it tells all pairs that are no flow's
-    verdict: str | None = None
+    verdict: "str | None" = None
 
     def take(self, line):
         """Takes one line."""

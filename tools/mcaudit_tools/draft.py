@@ -59,7 +59,7 @@ Examples:
 @dataclasses.dataclass(frozen=True)
 class Address:
     """An address of a device: its network, or on a link both ends, or neither (a lone address)."""
-    local: ipaddress.IPv4Address | None
+    local: "ipaddress.IPv4Address | None"
     network: object
 
 
@@ -91,10 +91,10 @@ class Flow:
     """A flow, the LAN of its source, and what is known of its time to live."""
     source: ipaddress.IPv4Address
     group: ipaddress.IPv4Address
-    lan: str | None = None
-    rate: tuple | None = None
+    lan: "str | None" = None
+    rate: "tuple | None" = None
     points: list = dataclasses.field(default_factory=list)  # routers and devices on the source's LAN
-    ttl: int | None = None
+    ttl: "int | None" = None
     said: str = ""  # how the time to live is known, or why it isn't
 
 

@@ -1,4 +1,5 @@
 """One LAN's list, gathered from a capture that goes on: on an interface here, or on a router."""
+import argparse
 import dataclasses
 import ipaddress
 import re
@@ -23,7 +24,7 @@ MOST_HELD = 65_536  # frames that come while it is asked
 class Task:
     """One list: where it is gathered, what it has besides, and what tells a person of it."""
 
-    words: object
+    words: argparse.Namespace
     shell: list
     device: "str | None"
     statics: list
@@ -154,7 +155,8 @@ class Live:
 def query_script(device):
     """Returns what a shell is handed to ask on the interface: the Python that runs it reads nothing of where it is."""
     with open(find_tool("mcaudit-query"), encoding="utf-8") as file:
-        return f"exec python3 -I - {shlex.quote(device)} <<'END OF MCAUDIT-QUERY'\n{file.read()}\nEND OF MCAUDIT-QUERY\n".encode()
+        end = "END OF MCAUDIT-QUERY"
+        return f"exec python3 -I - {shlex.quote(device)} <<'{end}'\n{file.read()}\n{end}\n".encode()
 
 
 def capture_list(task):

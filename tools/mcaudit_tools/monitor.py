@@ -543,8 +543,8 @@ def finish(work):
         except OSError as fault:
             raise Failed(f"standard output can't be written: {reason_of(fault)}") from fault
         return status
-    for fault in work.faults:
-        work.say(fault)
+    for failure in work.faults:
+        work.say(failure)
     if work.is_answered():
         return 0 if work.judged.is_right else 1
     return work.faults[0].status

@@ -76,12 +76,13 @@ OPTIONS = [
     ("--capture", "FILE", "read a capture file, pcap or pcapng"),
     ("--text", None, "read a text on standard input, recorded with `tcpdump -n -tt -e -x`; a last line with the time alone "
      "(`date +%%s`) says when the recording ended"),
-    ("--static", "GROUP[,SOURCE]", "put into the list what a host wants that can't be asked: all that is sent to GROUP, or what "
-     "SOURCE sends to it. Without an interface, FILE or text the list has such hosts alone, and nobody is asked"),
+    ("--static", "GROUP[,SOURCE]", "put into the list what a host wants that can't be asked: all that is sent to GROUP, "
+     "or what SOURCE sends to it. Without an interface, FILE or text the list has such hosts alone, and nobody is asked"),
     ("--all", "SITE", "gather the lists of all LANs of SITE/topology at once, as SITE/igmp-LAN: each on a router of the LAN, "
      "or where that fails on its next one. The routers are given by NAME=WAY, as for mcaudit-collect. For --static say "
      "LAN:GROUP[,SOURCE]. All lists come into SITE as one new set"),
-    ("-o", "FILE", "put the list into FILE, when it is whole and on the disk; with any other status than 0 FILE stays as it is"),
+    ("-o", "FILE", "put the list into FILE, when it is whole and on the disk; with any other status than 0 FILE stays as "
+     "it is"),
     ("--empty", None, "write the list though no host answered, or only for groups that routers never forward (224.0.0.x): "
      "nobody on the LAN wants anything. With --all of every LAN, also of one whose hosts just weren't heard: name the LANs "
      "by --empty-lan"),

@@ -31,7 +31,7 @@ def read_toml(folder, named):
     """Returns the topology of a folder as a table; what is wrong with it is told by the name of the site."""
     path, named = os.path.join(folder, "topology"), os.path.join(named, "topology")
     try:
-        import tomllib  # pylint: disable=import-outside-toplevel
+        import tomllib  # type: ignore  # pylint: disable=import-outside-toplevel
     except ImportError as fault:
         raise NoReader from fault
     data = read_regular(path, MOST_BYTES, named)

@@ -438,6 +438,16 @@ def routers_that_the_topology_has_not(place):
         assert place.run("collect", "--adopt", "--pause", "0", "site", *ways) == status, (topology, place.said)
 
 
+@case
+def monitor_of_a_router_that_no_topology_has(place):
+    """It is UNKNOWN, whichever Python runs it."""
+    ways = place.routers("r1", "r2")
+    place.site()
+    shutil.copytree(place.at("r2"), place.at("r9"))
+    words = "monitor", "--plugin", "--pause", "0", "site", *ways, "r9=!env R=r9"
+    assert place.run(*words) == 3 and "r9" in place.said, place.said
+
+
 # Age is part of an answer
 
 @case

@@ -177,6 +177,17 @@ class Run:
         if self.judged.is_right != (status == 0):
             raise Failed(f"mcaudit printed another verdict than that of its status {status}")
         self.read_origins()
+        self.check_routers()
+
+    def check_routers(self):
+        """Fails where routers were collected that the topology doesn't list: a yes would be said as if they weren't there.
+        mcaudit-collect sees that by itself only where its Python reads TOML."""
+        if self.words.no_collect or not self.judged.is_right:
+            return
+        read = sorted(it.removeprefix("vif-") for it in os.listdir(self.folder) if it.startswith("vif-"))
+        unlisted = [it for it in read if it not in self.judged.routers]
+        if unlisted:
+            raise Failed(f"not in the topology, so that nobody judges them: {' '.join(unlisted)}")
 
     def read_origins(self):
         """Reads where the files of the set come from, and how old they are."""

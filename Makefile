@@ -10,8 +10,8 @@
 # make lab        from routers to a verdict and a page, and each kind of fault to its remedy, in network namespaces (it
 #                 needs root; the file `packages` says what else); PAGES=FOLDER keeps the pages there
 # make page-test  tries the page of mcaudit-page in a headless Chromium; PICTURES=FOLDER writes pictures of it there
-# make install    puts the program and its tools into $(PREFIX)/bin, the manual page and the completions for bash, zsh
-#                 and fish into $(PREFIX)/share, and the units of systemd and their user into $(PREFIX)/lib;
+# make install    puts the program and its tools into $(PREFIX)/bin, what the tools share, the manual page and the
+#                 completions for bash, zsh and fish into $(PREFIX)/share, and the units of systemd and their user into $(PREFIX)/lib;
 #                 ZSH=FOLDER is where zsh looks for functions
 # make uninstall  takes them away again
 # make dist       makes out/mcaudit-VERSION.tar.gz, the source, and out/mcaudit-VERSION-linux-x86_64.tar.gz, what
@@ -22,10 +22,14 @@ PREFIX ?= /usr/local
 VERSION = $(shell cat VERSION)
 PROGRAM = crates/mcaudit/out/mcaudit
 TOOLS = mcaudit-collect mcaudit-diff mcaudit-draft mcaudit-monitor mcaudit-page mcaudit-query mcaudit-reports mcaudit-site
+# each of them is quoted where it is used: a path may have spaces and signs of the shell
 UNITS = $(DESTDIR)$(PREFIX)/lib/systemd/system
 BASH_COMPLETIONS = $(DESTDIR)$(PREFIX)/share/bash-completion/completions
 FISH_COMPLETIONS = $(DESTDIR)$(PREFIX)/share/fish/vendor_completions.d
+PACKAGE = $(DESTDIR)$(PREFIX)/share/mcaudit
 ZSH = $(PREFIX)/share/zsh/site-functions
+# a word of the shell, whatever is in it
+quoted = '$(subst ','\'',$(1))'
 SOURCES = $(shell find crates \( -path '*/out' -o -path 'crates/mc_tests_*' \) -prune -o -type f \( -name '*.rt' -o -name '*.antt' \) -print) crates.txt
 # the libraries below the program, lowest first
 LIBRARIES = $(filter-out mcaudit mc_tests_%,$(shell sed -n 's/^\([a-z_]*\):.*/\1/p' crates.txt))
@@ -64,31 +68,34 @@ page-test:
 	python3 tests/page/run.py $(PICTURES)
 
 install: $(PROGRAM)
-	install -D -m 755 $(PROGRAM) $(DESTDIR)$(PREFIX)/bin/mcaudit
+	install -D -m 755 $(call quoted,$(PROGRAM)) $(call quoted,$(DESTDIR)$(PREFIX)/bin/mcaudit)
 	for tool in $(TOOLS); do \
-		install -D -m 755 tools/$$tool $(DESTDIR)$(PREFIX)/bin/$$tool || exit 1; done
-	install -D -m 644 tools/systemd/mcaudit.conf $(DESTDIR)$(PREFIX)/lib/sysusers.d/mcaudit.conf
-	install -D -m 644 tools/systemd/mcaudit-monitor.timer $(UNITS)/mcaudit-monitor.timer
-	install -D -m 644 tools/systemd/mcaudit-monitor.service $(UNITS)/mcaudit-monitor.service
-	sed -i 's|/usr/local/bin/|$(PREFIX)/bin/|' $(UNITS)/mcaudit-monitor.service
-	install -D -m 644 docs/mcaudit.1 $(DESTDIR)$(PREFIX)/share/man/man1/mcaudit.1
-	install -D -m 644 tools/mcaudit.bash $(BASH_COMPLETIONS)/mcaudit
-	install -D -m 644 tools/mcaudit.fish $(FISH_COMPLETIONS)/mcaudit.fish
-	install -D -m 644 tools/mcaudit.zsh $(DESTDIR)$(ZSH)/_mcaudit
+		install -D -m 755 "tools/$$tool" $(call quoted,$(DESTDIR)$(PREFIX)/bin)/"$$tool" || exit 1; done
+	find tools/mcaudit_tools -type f ! -name '*.pyc' -exec sh -c 'for file; do \
+		install -D -m 644 "$$file" "$$0/$${file#tools/}" || exit 1; done' $(call quoted,$(PACKAGE)) {} +
+	install -D -m 644 tools/systemd/mcaudit.conf $(call quoted,$(DESTDIR)$(PREFIX)/lib/sysusers.d/mcaudit.conf)
+	install -D -m 644 tools/systemd/mcaudit-monitor.timer $(call quoted,$(UNITS)/mcaudit-monitor.timer)
+	install -D -m 644 tools/systemd/mcaudit-monitor.service $(call quoted,$(UNITS)/mcaudit-monitor.service)
+	python3 -I packaging/unit_prefix.py $(call quoted,$(UNITS)/mcaudit-monitor.service) $(call quoted,$(PREFIX))
+	install -D -m 644 docs/mcaudit.1 $(call quoted,$(DESTDIR)$(PREFIX)/share/man/man1/mcaudit.1)
+	install -D -m 644 tools/mcaudit.bash $(call quoted,$(BASH_COMPLETIONS)/mcaudit)
+	install -D -m 644 tools/mcaudit.fish $(call quoted,$(FISH_COMPLETIONS)/mcaudit.fish)
+	install -D -m 644 tools/mcaudit.zsh $(call quoted,$(DESTDIR)$(ZSH)/_mcaudit)
 	for tool in $(TOOLS); do \
-		ln -sf mcaudit $(BASH_COMPLETIONS)/$$tool && \
-		ln -sf mcaudit.fish $(FISH_COMPLETIONS)/$$tool.fish || exit 1; done
+		ln -sf mcaudit $(call quoted,$(BASH_COMPLETIONS))/"$$tool" && \
+		ln -sf mcaudit.fish $(call quoted,$(FISH_COMPLETIONS))/"$$tool.fish" || exit 1; done
 
 uninstall:
-	for name in mcaudit $(TOOLS); do rm -f $(DESTDIR)$(PREFIX)/bin/$$name \
-		$(BASH_COMPLETIONS)/$$name \
-		$(FISH_COMPLETIONS)/$$name.fish || exit 1; done
-	rm -f $(DESTDIR)$(PREFIX)/share/man/man1/mcaudit.1 $(DESTDIR)$(PREFIX)/lib/sysusers.d/mcaudit.conf \
-		$(DESTDIR)$(ZSH)/_mcaudit \
-		$(UNITS)/mcaudit-monitor.timer $(UNITS)/mcaudit-monitor.service
+	for name in mcaudit $(TOOLS); do rm -f $(call quoted,$(DESTDIR)$(PREFIX)/bin)/"$$name" \
+		$(call quoted,$(BASH_COMPLETIONS))/"$$name" \
+		$(call quoted,$(FISH_COMPLETIONS))/"$$name.fish" || exit 1; done
+	rm -rf $(call quoted,$(PACKAGE)/mcaudit_tools)
+	rm -f $(call quoted,$(DESTDIR)$(PREFIX)/share/man/man1/mcaudit.1) \
+		$(call quoted,$(DESTDIR)$(PREFIX)/lib/sysusers.d/mcaudit.conf) $(call quoted,$(DESTDIR)$(ZSH)/_mcaudit) \
+		$(call quoted,$(UNITS)/mcaudit-monitor.timer) $(call quoted,$(UNITS)/mcaudit-monitor.service)
 
 dist: $(PROGRAM)
-	sh packaging/dist.sh $(VERSION)
+	sh packaging/dist.sh $(call quoted,$(VERSION))
 
 deb: $(PROGRAM)
-	sh packaging/deb.sh $(VERSION)
+	sh packaging/deb.sh $(call quoted,$(VERSION))

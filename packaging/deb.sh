@@ -1,6 +1,7 @@
 #!/bin/sh
 # Makes a Debian package of what `make install` installs, in the folder out. Usage: deb.sh VERSION
 set -eu
+umask 022
 cd "$(dirname "$0")/.."
 version=$1
 room=$(mktemp -d)
@@ -26,7 +27,7 @@ Maintainer: $(git log -1 --format='%an <%ae>')
 Section: net
 Priority: optional
 Installed-Size: $(du -sk "$room/usr" | cut -f 1)
-Depends: libc6 (>= 2.34)
+Depends: libc6 (>= 2.34), python3 (>= 3.9)
 Recommends: python3 (>= 3.11), openssh-client, graphviz
 Suggests: tcpdump, prometheus-node-exporter
 Description: auditor of the multicast forwarding state of a domain of Linux routers
@@ -35,5 +36,22 @@ Description: auditor of the multicast forwarding state of a domain of Linux rout
  no duplicate, no silent LAN. With tools that collect the tables, draft the
  topology, show an audit as a page and watch a domain.
 END
+cat > "$room/DEBIAN/postinst" <<'END'
+#!/bin/sh
+set -e
+if [ "$1" = configure ] && command -v py3compile > /dev/null; then
+    py3compile -p mcaudit /usr/share/mcaudit
+fi
+END
+cat > "$room/DEBIAN/prerm" <<'END'
+#!/bin/sh
+set -e
+if command -v py3clean > /dev/null; then
+    py3clean -p mcaudit /usr/share/mcaudit
+else
+    find /usr/share/mcaudit -name __pycache__ -type d -prune -exec rm -rf {} +
+fi
+END
+chmod 755 "$room/DEBIAN/postinst" "$room/DEBIAN/prerm"
 find "$room" -type d -exec chmod 755 {} +
 dpkg-deb --root-owner-group --build "$room" "out/mcaudit_${version}_amd64.deb"

@@ -2,6 +2,7 @@
 # Makes the two archives of a version in the folder out: the source as it was committed, and what `make install`
 # installs, to be unpacked at the root of a file system. Usage: dist.sh VERSION
 set -eu
+umask 022
 cd "$(dirname "$0")/.."
 name=mcaudit-$1
 room=$(mktemp -d)

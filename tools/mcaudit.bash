@@ -43,7 +43,8 @@ _mcaudit_tool() {
     case $before in
         -o | --routers | --capture | --audit | --program | --prometheus) kind='file' ;;
         --all) kind=directory ;;
-        --readings | --pause | --timeout | --at-once | --ssh | --wait | --slack) return ;;
+        --readings | --pause | --timeout | --at-once | --ssh | --wait | --slack \
+        | --queries | --network | --querier | --interface) return ;;
         --tries | --static | --empty-lan | --by | --shell | --ttl | --measure | --count | --tenths | --without) return ;;
         --keep | --warn-age | --warn-reports | --label) return ;;
     esac
@@ -99,7 +100,7 @@ _mcaudit_site() {
 
 _mcaudit_reports() {
     _mcaudit_tool "${COMP_WORDS[COMP_CWORD]}" "${COMP_WORDS[COMP_CWORD - 1]}" file \
-        -o --by --capture --text --static --all --empty --empty-lan --ask --ask-routers --tries --wait --slack \
+        -o --by --capture --text --static --all --empty --empty-lan --ask --ask-routers --tries --queries --wait --slack --network --querier --interface \
         --routers --ssh --version --help
 }
 

@@ -129,7 +129,11 @@ __mcaudit_options mcaudit-reports true $routers $asking \
     '--capture:file:read a capture file' \
     '--text::read a recorded text on standard input' \
     '--all:folder:gather the lists of all LANs' \
-    '--slack:value:take answers that are so late'
+    '--slack:value:take answers that are so late' \
+    '--queries:value:gather the answers to so many queries' \
+    '--network:value:the network of the LAN' \
+    '--querier:value:a query of this address counts too' \
+    '--interface:value:the interface of a capture file that has several'
 
 __mcaudit_commands mcaudit-site 'init:draft, collect, gather and judge' 'lans:print each LAN with each interface on it'
 __mcaudit_options mcaudit-site __fish_use_subcommand $about

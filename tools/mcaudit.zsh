@@ -90,7 +90,11 @@ mcaudit-reports)
         '--capture[read a capture file]:file:_files' \
         '--text[read a recorded text on standard input]' \
         '--all[gather the lists of all LANs]:folder:_files -/' \
-        '--slack[take answers that are so late]:seconds: ' ;;
+        '--slack[take answers that are so late]:seconds: ' \
+        '--queries[gather the answers to so many queries]:number: ' \
+        '*--network[the network of the LAN]:prefix: ' \
+        '*--querier[a query of this address counts too]:address: ' \
+        '--interface[the interface of a capture file that has several]:number: ' ;;
 mcaudit-site)
     case $CURRENT:$words[2] in
     2:*)

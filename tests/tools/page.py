@@ -15,8 +15,7 @@ answers.py. The last line counts: `N passed, M failed`. The status is 0 if none 
 import base64
 import hashlib
 import html.parser
-import importlib.machinery
-import importlib.util
+import importlib
 import json
 import os
 import random
@@ -50,10 +49,8 @@ HOSTILE = ["<script>alert(1)</script>", "</script><img src=x onerror=alert(1)>",
 
 def loaded_tool():
     """The tool as a module."""
-    loader = importlib.machinery.SourceFileLoader("mcaudit_page", TOOL)
-    module = importlib.util.module_from_spec(importlib.util.spec_from_loader("mcaudit_page", loader))
-    loader.exec_module(module)
-    return module
+    sys.path.insert(0, os.path.join(TOP, "tools"))
+    return importlib.import_module("mcaudit_tools.page")
 
 
 class Read(html.parser.HTMLParser):
@@ -199,10 +196,11 @@ def look_at_hostile_names(check, tool):
         for number, hostile in enumerate(HOSTILE):
             alone = known[(number + 3 * place) % len(known)]
             for names in {alone: hostile}, {old: hostile + old for old in known}:
-                audit = tool.take_lines([json.dumps(turned(json.loads(line), names)) for line in lines])
+                audit = tool.audit_of(turned(json.loads(line), names) for line in lines)
                 graph = tool.Graph(audit.domain, tool.roots_of(audit))
                 graph.lay_out()
-                page = tool.page_of(audit, graph, "a folder <b onclick=alert(1)>&amp;").encode("utf-8", "replace").decode()
+                folder = tool.Folder("a folder <b onclick=alert(1)>&amp;", "nowhere", False)
+                page = tool.page_of(audit, graph, folder).encode("utf-8", "replace").decode()
                 read = check.whole(f"{example} with {names}", page)
                 told = json.dumps(read.data())
                 check.that(f"{example}: {names} is there", all(json.dumps(it)[1:-1] in told for it in names.values()))
@@ -230,7 +228,7 @@ def look_at_turned_answers(check, tool):
             else:
                 value[key] = pick.choice(strange)
         try:
-            audit = tool.take_lines(map(json.dumps, lines))
+            audit = tool.audit_of(lines)
             graph = tool.Graph(audit.domain, tool.roots_of(audit))
             check.that(f"turn {number} of {example}", graph.words() and tool.page_data(audit, graph))
         except tool.Refused:
@@ -244,7 +242,7 @@ def look_at_travels(check, tool):
         with tempfile.TemporaryDirectory(prefix="mcaudit-page-") as folder:
             random_domains.Made(number).write(folder)
             answer = answers.audit([folder, "--json", "--travel"])
-        audit = tool.take_lines(answer.output().splitlines())
+        audit = tool.audit_of(map(json.loads, answer.output().splitlines()))
         for said, flow in zip(answer.answers, audit.flows):
             if said.is_right:
                 continue

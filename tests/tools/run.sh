@@ -1,14 +1,15 @@
 #!/bin/sh
 # Runs the tools on the cases beside this script, and compares what they do with what the case's folder
-# says: those in shell by dash with each awk that is installed, by bash, and by busybox sh with busybox's
-# own commands; those in Python by the system's python3 and by the one on the path. It needs no network:
+# says: by the system's python3 and by the one on the path, where the routers' sh is dash; and what asks routers
+# also where that is bash, and busybox with its own commands. It needs no network:
 # the folder commands/ has what stands for the ways to a router. The cases of monitor/ and diff/ run the
 # program, crates/mcaudit/out/mcaudit or what PROGRAM names. The words of the file completion, and those that
 # help_words.sh takes from the help of the program and of its tools, are completed by bash, zsh and fish
 # alike. All tools are to tell one version and to be installed, and shellcheck reads all shell of the tools
 # and of their cases. page.py looks at the pages that mcaudit-page makes. What it needs that is not there is
 # named, and is a failure; but promtool reads the files for Prometheus, and systemd-analyze the units, only
-# where they are.
+# where they are. hostile.py tries what hosts, routers and names may do to the tools; flake8, pylint and mypy
+# read their Python, as that of 3.9.
 # Usage: run.sh [CASE ...], as collect/unreachable
 #
 # A case has, beside its note:
@@ -69,7 +70,7 @@ expect() {
 }
 
 without_times() {
-    sed -e 's/[0-9]\{8\}T[0-9]\{6\}Z/TIME/g' -e 's/"[-0-9]\{10\}T[:0-9]\{8\}Z"/"TIME"/g' \
+    sed -e 's/[0-9][0-9]* s old/N s old/g' -e 's/"time":[0-9][0-9]*/"time":TIME/g' -e 's/[0-9]\{8\}T[0-9]\{6\}Z/TIME/g' -e 's/"[-0-9]\{10\}T[:0-9]\{8\}Z"/"TIME"/g' \
         -e 's/[0-9][0-9.]* \(packets\|bit\|kbit\|Mbit\)\/s/N \1\/s/g' \
         -e 's/^\(mcaudit_[a-z_]*_seconds.* \)[0-9]*$/\1TIME/' -e 's/\("last_[a-z_]*": \)[0-9][0-9]*/\1TIME/g' "$@"
 }
@@ -98,12 +99,14 @@ judge_output() {
     fi
 }
 
-# Compares the folder $2, and the times in its list of times, with the folder $1.
+# Compares the folder $2 with the folder $1, but for the times in its lists of times, and for its locks.
 same_folder() {
     cp -RL "$2/." "$place.copy" || return 1
-    for file in collected.json topology; do
-        [ ! -f "$2/$file" ] || without_times "$2/$file" > "$place.copy/$file"
-    done
+    find "$place.copy" -name '*.write.lock' -exec rm {} +
+    find "$place.copy" -name collected.json -o -name topology > "$place.timed"
+    while read -r file; do
+        without_times "$file" > "$place.untimed" && mv "$place.untimed" "$file"
+    done < "$place.timed"
     diff -r "$1" "$place.copy"
 }
 
@@ -174,7 +177,7 @@ judge() {
     case $1 in
         "$here"/collect/* | "$here"/monitor/*) judge_site "$1" ;;
         */draft/* | */site/*) [ ! -d "$1/after" ] || same_folder "$1/after" disk/site/ ;;
-        *) [ ! -d "$1/after" ] || diff -r "$1/after" disk ;;
+        *) [ ! -d "$1/after" ] || same_folder "$1/after" disk ;;
     esac
 }
 
@@ -232,12 +235,10 @@ run_tool() {
     else
         exec > "$output"
     fi
-    for heeded in awk.* mv.* sleep.* sync.*; do
-        [ ! -e "$heeded" ] || PATH=$commands:${PATH#*:}
-    done
     [ ! -f "$folder/path" ] || read -r PATH < "$folder/path"
     ROUTER=routers/here
-    export ROUTER
+    PYTHONPATH=$commands/python
+    export ROUTER PYTHONPATH
     expect "$folder/stdin"
     # shellcheck disable=SC2086 # a word or two: the shell
     exec $shell "$@" < "$expected" 2> stderr
@@ -282,41 +283,29 @@ run_case() {
     judge "$folder"
 }
 
-# Puts the commands that the tools are to find in front of the others: the awk that these words run,
-# the shell, for busybox its own commands, and the python3 of the path itself, where what the path has
-# is a script that looks for it each time. The awk, mv, sleep and sync of commands/ run the command itself
-# where a case has no file that they heed, so they come first only where it has one.
+# Puts the commands that the tools are to find in front of the others: the sh of the routers, for busybox its own
+# commands, and the Python that runs the tools.
 choose_commands() {
     commands=$1
     mkdir "$commands.below"
     cp -R "$here/commands" "$commands"
-    cp -R "$here/commands" "$commands.heedless"
-    shift
-    AWK=$*
-    export AWK
-    (cd "$commands.heedless" && rm awk mv sleep sync && ln -s "${AWK%% *}" awk)
-    case $shell in
-        *python*)
-            ln -s "$dash" "$commands.below/sh"
-            python=$shell ;;
+    case $2 in
         *busybox*)
             for applet in $applets; do
-                ln -s "${shell%% *}" "$commands.below/$applet"
+                ln -s "$2" "$commands.below/$applet"
             done ;;
-        *) ln -s "$shell" "$commands.below/sh" ;;
+        *) ln -s "$2" "$commands.below/sh" ;;
     esac
-    [ -z "$python" ] || ln -s "$python" "$commands.below/python3"
-    PATH=$commands.heedless:$commands.below:$PATH
+    ln -s "$shell" "$commands.below/python3"
+    PATH=$commands:$commands.below:$PATH
 }
 
-# Runs all cases of the kinds $2 by the shell with the awk of the further words; with parts, only those
-# whose number leaves $part.
+# Runs all cases of the kinds $2 by the Python $1, where the routers' sh is $4, and only those whose number leaves $part.
 run_by() {
     shell=$1
     kinds=$2
     work=$3
-    shift 3
-    choose_commands "$work.commands" "$@"
+    choose_commands "$work.commands" "$4"
     number=0
     for folder in "$here"/*/*/; do
         folder=${folder%/}
@@ -331,42 +320,28 @@ run_by() {
             *) continue ;;
         esac
         number=$((number + 1))
-        [ -z "$part" ] || [ $((number % parts)) -eq "$part" ] || continue
+        [ $((number % parts)) -eq "$part" ] || continue
         place=$work.place$number
         (run_case "$folder" "$kind") > "$work.difference" 2>&1
         case $? in
             0) echo passed ;;
             2) echo "failed: $name, since nothing can be mounted" ;;
-            *) echo "failed: $name by $shell with $*"; cat "$work.difference" ;;
+            *) echo "failed: $name by $shell with $4"; cat "$work.difference" ;;
         esac
     done 2>&1
 }
 
-# Begins to run all cases of the tools in shell beside the others, unless they are run so already: by the
-# shell $1, with the awk of the further words.
+# Begins to run all cases of these kinds by this Python, where the routers' sh is this one, some parts side by side, since
+# most of their time is spent waiting; but not a second time.
 begin() {
     case $begun in
-        *" $1 $(readlink -f "$2") "*) return ;;
+        *" $1 $(readlink -f "$2") $(readlink -f "$3") "*) return ;;
     esac
-    begun="$begun $1 $(readlink -f "$2") "
-    runs=$((runs + 1))
-    by=$1
-    shift
-    part=
-    run_by "$by" 'collect reports' "$scratch/run$runs" "$@" > "$scratch/results/$runs" &
-}
-
-# Begins to run all cases of the tools in Python by this Python, some parts side by side, since most of
-# their time is spent waiting.
-begin_python() {
-    case $begun in
-        *" $(readlink -f "$1") "*) return ;;
-    esac
-    begun="$begun $(readlink -f "$1") "
+    begun="$begun $1 $(readlink -f "$2") $(readlink -f "$3") "
     part=0
     while [ "$part" -lt "$parts" ]; do
         runs=$((runs + 1))
-        run_by "$1" 'diff draft monitor page query site' "$scratch/run$runs" "$awk" > "$scratch/results/$runs" &
+        run_by "$2" "$1" "$scratch/run$runs" "$3" > "$scratch/results/$runs" &
         part=$((part + 1))
     done
 }
@@ -389,6 +364,11 @@ check_shell() {
     # shellcheck disable=SC2046 # names without spaces
     shellcheck -x $(grep -slE '^#!/bin/(ba)?sh' tools/* tests/tools/*.sh tests/tools/commands/* tests/lab/*.sh \
         tests/*.sh) tools/mcaudit.bash tests/tools/completion.bash
+}
+
+# Reads all Python of the tools with pylint: what may be an error, and what it warns of.
+check_python() {
+    PYTHONPATH=$tools pylint --disable=all --enable=E,W --disable=E3102,E1124,W0621 "$tools/mcaudit_tools"
 }
 
 # Asks all tools for their version: it is one.
@@ -456,17 +436,13 @@ run_apart() {
 
 begun=
 python=$(python3 -c 'import sys; print(sys.executable)')
-awk=$(command -v awk)
 dash=$(command -v dash || command -v sh)
-begin "$dash" "$awk"
-for other in mawk gawk original-awk; do
-    path=$(command -v "$other") && begin "$dash" "$path"
-done
-path=$(command -v busybox) && begin "$dash" "$path" awk
-path=$(command -v bash) && begin "$path" "$awk"
-path=$(command -v busybox) && begin "$path sh" "$awk"
 for path in /usr/bin/python3 python3; do
-    path=$("$path" -c 'import sys; print(sys.executable)') && begin_python "$path"
+    path=$("$path" -c 'import sys; print(sys.executable)') && begin 'collect reports' "$path" "$dash"
+    [ -z "$path" ] || begin 'diff draft monitor page query site' "$path" "$dash"
+done
+for other in bash busybox; do
+    path=$(command -v "$other") && begin 'collect reports' "$python" "$path"
 done
 systemd=$(command -v systemd-analyze)
 if [ -z "$wanted_cases" ]; then
@@ -478,8 +454,14 @@ if [ -z "$wanted_cases" ]; then
     run_apart packages sh want_package
     run_apart shellcheck shellcheck check_shell
     run_apart pages dot "$python" "$here/page.py"
+    run_apart hostile dot "$python" "$here/hostile.py"
+    run_apart flake8 flake8 flake8 --max-line-length 132 "$tools" "$tools"/mcaudit-* "$here"/hostile.py "$here"/packets.py \
+        "$here"/commands
+    run_apart pylint pylint check_python
+    run_apart mypy mypy mypy --python-version 3.9 --cache-dir "$scratch/mypy" "$tools/mcaudit_tools"
+    run_apart script node node --check "$tools/mcaudit_tools/page.js"
 fi
-for other in dash bash busybox mawk gawk original-awk python3; do
+for other in dash bash busybox python3; do
     command -v "$other" > /dev/null || echo "failed: $other, which is not there" > "$scratch/results/$other"
 done
 command -v promtool > /dev/null || echo 'not tried: promtool, which is not there (sh tests/packages.sh monitor)'

@@ -1,0 +1,547 @@
+#!/usr/bin/env python3
+"""Tries the tools with what hosts, routers, names and other runs may do to them: none of it may end in a false yes, in a
+list that isn't the LAN's, in foreign code, in a wait without end, or in something lost.
+
+  python3 tests/tools/hostile.py [CASE ...]
+
+Each case is a function, and runs in a folder of its own. The last line counts: `N passed, M failed`. The status is 0 if
+none failed.
+"""
+import concurrent.futures
+import glob
+import json
+import os
+import shutil
+import signal
+import subprocess
+import sys
+import tempfile
+import time
+
+sys.dont_write_bytecode = True
+HERE = os.path.dirname(os.path.abspath(__file__))
+TOP = os.path.dirname(os.path.dirname(HERE))
+sys.path.insert(0, HERE)
+import packets as p  # noqa: E402 pylint: disable=wrong-import-position
+
+TOOLS = os.path.join(TOP, "tools")
+NETWORK = os.path.join(TOP, "examples", "network")
+PROGRAM = os.environ.get("PROGRAM", os.path.join(TOP, "crates", "mcaudit", "out", "mcaudit"))
+TABLES = """case $1 in
+    /proc/net/ip_mr_*) exec /bin/cat "${R-.}/${1##*/}" ;;
+    /proc/sys/kernel/random/boot_id) echo "${R-nobody}"; exit ;;
+esac
+exec /bin/cat "$@"
+"""
+CASES = []
+
+
+def case(function):
+    """Makes the function a case."""
+    CASES.append(function)
+    return function
+
+
+class Place:
+    """The folder in which a case runs."""
+
+    def __init__(self, folder):
+        """Takes the folder."""
+        self.folder = folder
+        os.mkdir(self.at("bin"))
+        self.script("cat", TABLES)
+        path = os.pathsep.join((self.at("bin"), os.path.dirname(PROGRAM), os.environ["PATH"]))
+        self.environment = {**os.environ, "PATH": path, "PYTHONDONTWRITEBYTECODE": "1"}
+
+    def at(self, *names):
+        """Returns a path in the folder."""
+        return os.path.join(self.folder, *names)
+
+    def write(self, name, data):
+        """Writes a file."""
+        os.makedirs(os.path.dirname(self.at(name)), exist_ok=True)
+        with open(self.at(name), "wb") as file:
+            file.write(data if isinstance(data, bytes) else data.encode())
+
+    def read(self, name):
+        """Returns a file's text."""
+        with open(self.at(name), encoding="utf-8") as file:
+            return file.read()
+
+    def script(self, name, text):
+        """Writes a command that stands for another."""
+        self.write(f"bin/{name}", f"#!/bin/sh\n{text}\n")
+        os.chmod(self.at("bin", name), 0o755)
+
+    def begin(self, tool, *words, **how):
+        """Begins a tool."""
+        return subprocess.Popen([sys.executable, os.path.join(TOOLS, f"mcaudit-{tool}"), *words], cwd=self.folder,
+                                env=self.environment, stdout=subprocess.PIPE, stderr=subprocess.STDOUT, **how)
+
+    def run(self, tool, *words, text=b"", limit=40):
+        """Runs a tool. Returns its status, and keeps what it said."""
+        with self.begin(tool, *words, stdin=subprocess.PIPE) as running:
+            try:
+                self.said = running.communicate(text, limit)[0].decode(errors="replace")
+            except subprocess.TimeoutExpired:
+                running.kill()
+                raise
+        assert "Traceback" not in self.said, self.said
+        return running.returncode
+
+    def reports(self, *words, text=b""):
+        """Runs mcaudit-reports into the file `list`. Returns its status and the list's lines, None without a file."""
+        status = self.run("reports", "-o", "list", *words, text=text)
+        lines = self.read("list").splitlines() if os.path.exists(self.at("list")) else None
+        return status, lines
+
+    def captured(self, frames, *words, file=None):
+        """Gathers from a capture file. Returns as `reports`."""
+        self.write("l1.pcap", p.pcap(frames) if file is None else file)
+        return self.reports("--capture", "l1.pcap", *words)
+
+    def routers(self, *names):
+        """Writes the tables of routers, of the example, and returns their ways."""
+        for name in names:
+            self.write(f"{name}/ip_mr_vif", open(f"{NETWORK}/vif-{name}", "rb").read())
+            self.write(f"{name}/ip_mr_cache", open(f"{NETWORK}/cache-{name}", "rb").read())
+        return [f"{name}=!env R={name}" for name in names]
+
+    def site(self, *lost):
+        """Makes the example's folder a set to which `site` leads; the routers that are named have lost their row."""
+        shutil.copytree(NETWORK, self.at("site.sets", "20260101T000000Z"))
+        for name in lost:
+            path = self.at("site.sets", "20260101T000000Z", f"cache-{name}")
+            self.write(path, "".join(open(path, encoding="ascii").readlines()[:1]))
+        os.symlink("site.sets/20260101T000000Z", self.at("site"))
+
+    def verdict(self):
+        """Returns the last line of an audit of `site`."""
+        done = subprocess.run([PROGRAM, "audit", "site"], cwd=self.folder, capture_output=True, check=False)
+        return done.stdout.decode().splitlines()[-1]
+
+
+def framed(*pairs):
+    """Returns the packets in frames."""
+    return [(at, p.frame(it)) for at, it in pairs]
+
+
+GOOD = ((0, p.asked()), (1, p.wanted("10.0.1.5", "239.1.1.1")), (13, p.later()))
+LISTED = [p.wants("239.1.1.1").hex()]
+
+
+# A list of reports is the LAN's, whole, and of one query
+
+@case
+def list_of_each_kind_of_capture(place):
+    """pcap in both orders, pcapng, IP alone and both cooked kinds have the same list."""
+    cooked = [(at, p.cooked(it, hardware=512)) for at, it in GOOD]
+    cooked_2 = [(at, p.cooked_2(it, 3)) for at, it in GOOD]
+    for name, file in (("little", p.pcap(framed(*GOOD))), ("big", p.pcap(framed(*GOOD), order=">")),
+                       ("pcapng", p.pcapng(framed(*GOOD))), ("raw", p.pcap(GOOD, 101)), ("old raw", p.pcap(GOOD, 12)),
+                       ("cooked", p.pcap(cooked, 113)), ("cooked 2", p.pcap(cooked_2, 276))):
+        assert place.captured((), file=file) == (0, LISTED), (name, place.said)
+
+
+@case
+def query_that_a_host_forged(place):
+    """A query that other hosts don't hear, or that none of the LAN sent, doesn't count; the true one does."""
+    for forged in (p.frame(p.asked("127.0.0.1", 1, ttl=64)), p.frame(p.asked("10.0.1.66", ttl=2)),
+                   p.frame(p.asked("10.0.1.66", 5)), p.frame(p.asked("10.0.1.66"), mac=bytes([2, 0, 0, 0, 0, 9])),
+                   p.frame(p.asked("10.0.1.66", target="224.0.0.2")), p.frame(p.asked("0.0.0.0")),
+                   p.frame(p.asked("192.0.2.1")), p.frame(p.asked("10.0.1.66", 255))):
+        frames = [(-30, forged), (-29.5, p.frame(p.wanted("10.0.1.66", "239.9.9.9"))), *framed(*GOOD)]
+        status, lines = place.captured(frames, "--network", "10.0.1.0/24")
+        assert (status, lines) == (0, LISTED) and "didn't count" in place.said, (lines, place.said)
+
+
+@case
+def query_that_an_option_lets_count(place):
+    """--querier lets one of 0.0.0.0 count, and --network is where the others come from."""
+    frames = framed((0, p.asked("0.0.0.0")), *GOOD[1:])
+    assert place.captured(frames)[0] == 1 and "--querier 0.0.0.0" in place.said
+    assert place.captured(frames, "--querier", "0.0.0.0") == (0, LISTED)
+    os.unlink(place.at("list"))
+    assert place.captured(framed(*GOOD), "--network", "10.9.0.0/16") == (1, None) and "--querier 10.0.1.1" in place.said
+
+
+@case
+def second_query_spoils_the_list(place):
+    """A General Query in the window, of whomever, but for one of 0.0.0.0 or for one group."""
+    for asked, status in ((p.asked("10.0.1.2"), 1), (p.asked(), 1), (p.asked("0.0.0.0"), 0),
+                          (p.packet("10.0.1.1", "239.1.1.1", p.summed(b"\x11\x0a\0\0" + p.address("239.1.1.1"))), 0)):
+        found = place.captured(framed(GOOD[0], (2, asked), *GOOD[1:]))
+        assert found[0] == status, place.said
+
+
+@case
+def clock_that_was_set(place):
+    """Forward or back among the answers: there is no list."""
+    for step in (3600, -3600):
+        rest = ((step + 2, p.wanted("10.0.1.6", "239.2.2.2")), (step + 20, p.later()))
+        assert place.captured(framed(*GOOD[:2], *rest)) == (1, None), place.said
+        assert place.reports("--text", text=p.text((*GOOD[:2], *rest))) == (1, None), place.said
+
+
+@case
+def frames_of_other_vlans(place):
+    """They never count; those that have a priority alone do."""
+    frames = [(-5, p.frame(p.asked("10.0.1.9", 10), vlan=20)), (-4.5, p.frame(p.wanted("10.0.1.8", "239.9.9.9"), vlan=20)),
+              *framed(*GOOD[:2]), (2, p.frame(p.wanted("10.0.1.6", "239.2.2.2"), vlan=0xE000)), *framed(GOOD[2])]
+    assert place.captured(frames) == (0, [*LISTED, p.wants("239.2.2.2").hex()]), place.said
+
+
+@case
+def capture_of_several_interfaces(place):
+    """One of `any` is refused, and of the second kind the interface has to be named."""
+    assert place.captured((), file=p.pcap([(at, p.cooked(it)) for at, it in GOOD], 113))[0] == 3 and "any" in place.said
+    other = (-5, p.cooked_2(p.asked("10.0.77.1", 10), 4)), (-4, p.cooked_2(p.wanted("10.0.77.5", "239.7.7.7"), 4))
+    file = p.pcap([*other, *((at, p.cooked_2(it, 3)) for at, it in GOOD)], 276)
+    assert place.captured((), file=file)[0] == 3 and "--interface" in place.said
+    assert place.captured((), "--interface", "3", file=file) == (0, LISTED)
+
+
+@case
+def packets_that_receivers_ignore(place):
+    """They are left aside, as long as they are few, and their senders are named."""
+    bad = p.packet("10.0.1.66", p.ROUTERS, b"\x22\0\x12\x34\0\0\0\0")
+    assert place.captured(framed(*GOOD[:2], (2, bad), GOOD[2])) == (0, LISTED) and "10.0.1.66" in place.said
+    many = [(2 + turn / 10, bad) for turn in range(9)]
+    senders = [(3, p.packet(f"10.0.1.{it}", p.ROUTERS, b"\x22")) for it in (66, 67, 68)]
+    for some in (many, senders):
+        os.path.exists(place.at("list")) and os.unlink(place.at("list"))
+        assert place.captured(framed(*GOOD[:2], *some, GOOD[2])) == (1, None), place.said
+
+
+@case
+def lists_that_mcaudit_refuses(place):
+    """Never with status 0: a record that doesn't end, a change, too many messages."""
+    place.write("list", "kept\n")
+    for message in (p.report(p.record(2, "239.1.1.1"), count=5), p.report(p.record(3, "239.1.1.1"))):
+        found = place.captured(framed(GOOD[0], (1, p.packet("10.0.1.6", p.ROUTERS, message)), GOOD[2]))
+        assert found == (2, ["kept"]) and "10.0.1.6" in place.said, place.said
+    many = [(1 + it / 1e5, p.wanted("10.0.1.6", f"239.1.{it >> 8 & 255}.{it & 255}")) for it in range(65537)]
+    assert place.captured(framed(GOOD[0], *many, GOOD[2])) == (2, ["kept"])
+
+
+@case
+def capture_cut_anywhere(place):
+    """A cut capture or text has no list, or the whole one."""
+    file, text = p.pcap(framed(*GOOD)), p.text(GOOD)
+    for at in range(0, len(file), 11):
+        status, lines = place.captured((), file=file[:at])
+        assert status in (1, 3) and lines is None, (at, place.said)
+    for at in range(0, len(text), 23):
+        status, lines = place.reports("--text", text=text[:at])
+        assert (status, lines) in ((1, None), (3, None), (0, LISTED)), (at, place.said)
+
+
+@case
+def windows_in_a_row(place):
+    """The list is the last one's, and what the earlier one had beyond it is named."""
+    twice = [*GOOD[:2], (1.5, p.wanted("10.0.1.7", "239.7.7.7")), (20, p.asked()), (21, GOOD[1][1]), (40, p.later())]
+    assert place.captured(framed(*twice), "--queries", "2") == (0, LISTED)
+    assert "10.0.1.7 asked for 239.7.7.7" in place.said, place.said
+
+
+@case
+def flood_without_a_query(place):
+    """It keeps nobody longer than --wait says."""
+    place.write("flood", p.pcap([]))
+    place.write("more", p.pcap(framed(*[(0, p.wanted("10.0.1.66", "239.1.1.1"))] * 2000))[24:])
+    place.script("tcpdump", 'echo "listening on x" >&2; cat flood; while :; do cat more; done')
+    begun = time.monotonic()
+    assert place.reports("--wait", "3", "eth0")[0] in (1, 3) and time.monotonic() - begun < 12, place.said
+
+
+@case
+def file_that_is_a_pipe(place):
+    """It is refused, and never waited for."""
+    os.mkfifo(place.at("l1.pcap"))
+    assert place.reports("--capture", "l1.pcap") == (3, None) and "no regular file" in place.said
+
+
+# Names are data
+
+@case
+def names_that_no_topology_has(place):
+    """They reach no script and no path."""
+    for name in ("x//p;1etouch${IFS}pwned;s/", "x/../../victim", "..", "a b", "-x/", "l" * 33):
+        place.write("site/topology", f'version = 1\nlans = ["{name}"]\nrouter = [{{name = "r1"}}]\n'
+                    f'interface = [{{router = "r1", device = "eth0", lan = "{name}"}}]\n')
+        assert place.run("reports", "--all", "site", "--wait", "0", "r1=!false") == 3, place.said
+        assert place.run("site", "lans", "site") == 3, place.said
+        assert sorted(os.listdir(place.folder)) == ["bin", "site"]
+
+
+@case
+def code_in_the_present_folder(place):
+    """What asks on a router imports nothing of it."""
+    place.write("argparse.py", 'open("pwned", "w").close()\n')
+    place.script("tcpdump", 'echo "listening on x" >&2; exec sleep 20')
+    place.run("reports", "--ask", "--wait", "1", "lo")
+    assert not os.path.exists(place.at("pwned"))
+
+
+@case
+def escapes_of_a_topology(place):
+    """They come to no terminal."""
+    place.write("site/topology", "# missing: \033]0;title\007\033[2J\nversion = 1\nlans = []\n")
+    place.run("site", "init", "site", "r1=!false")
+    assert "\033" not in place.said
+
+
+@case
+def sites_of_any_name(place):
+    """A name that begins with - or has spaces and line feeds is one like others."""
+    for name in ("./-x", "a b", "a\nb", "a;b"):
+        place.write(f"{name}/topology", "")
+        assert place.run("collect", "--adopt", name) == 0, place.said
+        assert os.path.islink(place.at(name)) and os.path.exists(place.at(name, "topology"))
+
+
+# Nothing that was written is lost, and one moment is judged
+
+@case
+def list_that_comes_while_a_set_is_made(place):
+    """It is in the new set."""
+    ways = place.routers("r1", "r2")
+    place.site("r2")
+    place.write("site/igmp-l2", "")
+    place.write("slow/sitecustomize.py", "import os, time\nfsync = os.fsync\n"
+                "def slowly(opened):\n    time.sleep(.15)\n    fsync(opened)\nos.fsync = slowly\n")
+    place.environment["PYTHONPATH"] = place.at("slow")
+    with place.begin("collect", "--pause", "0", "site", *ways) as collecting:
+        until = time.monotonic() + 20
+        while not glob.glob(place.at("site.sets/.reading.*/set/collected.json")) and time.monotonic() < until:
+            time.sleep(0.02)
+        del place.environment["PYTHONPATH"]
+        assert place.run("reports", "-o", "site/igmp-l2", "--static", "239.1.2.3") == 0, place.said
+        assert collecting.wait(30) == 0
+    assert place.read("site/igmp-l2") != "", "the list is lost"
+    assert json.loads(place.read("site/collected.json"))["files"]["igmp-l2"]["by"] == "static"
+
+
+@case
+def adopts_at_once(place):
+    """One waits for the other, or is refused, and nothing is lost."""
+    for _ in range(6):
+        for path in glob.glob(place.at("site*")):
+            shutil.rmtree(path) if os.path.isdir(path) and not os.path.islink(path) else os.unlink(path)
+        place.write("site/topology", "t")
+        place.write("site/igmp-l1", "r")
+        running = [place.begin("collect", "--adopt", "site") for _ in range(3)]
+        for one in running:
+            one.communicate()
+        assert place.read("site/topology") == "t" and place.read("site/igmp-l1") == "r"
+
+
+@case
+def runs_that_were_killed(place):
+    """The next one takes away what they left, and never what a live one has."""
+    ways = place.routers("r1")
+    with place.begin("collect", "--pause", "9", "site", *ways) as killed:
+        time.sleep(1.5)
+        killed.kill()
+    with place.begin("collect", "--pause", "4", "site", *ways) as alive:
+        time.sleep(1.5)
+        assert place.run("collect", "--pause", "0", "site", *ways) == 0, place.said
+        assert alive.wait(20) == 0
+    assert not glob.glob(place.at("site.sets/.*"))
+
+
+@case
+def links_in_a_site(place):
+    """They lead where they led, and one that leads nowhere is named."""
+    place.write("master/topology", "m")
+    os.makedirs(place.at("site"))
+    os.symlink("../master/topology", place.at("site/topology"))
+    os.symlink(place.at("master/topology"), place.at("site/notes"))
+    ways = place.routers("r1")
+    assert place.run("collect", "--adopt", "--pause", "0", "site", *ways) == 1, place.said
+    assert place.read("site/topology") == "m" and place.read("site/notes") == "m"
+    os.unlink(place.at("master/topology"))
+    assert place.run("collect", "--pause", "0", "site", *ways) == 3 and "site/notes" in place.said, place.said
+
+
+@case
+def signal_to_the_collector(place):
+    """It ends with 3, leaves nothing, and mcaudit-site judges no old set."""
+    place.site()
+    with place.begin("site", "init", "site", "r1=!sleep 60; :", "--wait", "0") as running:
+        time.sleep(2)
+        begun = time.monotonic()
+        running.send_signal(signal.SIGTERM)
+        said = running.communicate(timeout=20)[0].decode()
+        assert running.returncode == 3 and time.monotonic() - begun < 4, (running.returncode, said)
+    assert "verdict" not in said and not glob.glob(place.at("site.sets/.*"))
+
+
+@case
+def page_of_a_site_that_moves(place):
+    """It is of one set."""
+    place.site()
+    shutil.copytree(place.at("site.sets/20260101T000000Z"), place.at("site.sets/20260202T000000Z"))
+    place.write("site.sets/20260202T000000Z/cache-r2", "Group Origin\n")
+    place.script("dot", f'ln -s site.sets/20260202T000000Z new && mv -fT new site; exec {shutil.which("dot")} "$@"')
+    assert place.run("page", "--program", PROGRAM, "site", "-o", "page.html") == 0, place.said
+    page = place.read("page.html")
+    assert "Set 20260202" not in page and "Verdict: yes" in page.replace("<strong>", "").replace("</strong>", "")
+
+
+# Bounds
+
+@case
+def answers_without_end(place):
+    """They are cut, whatever they are, and the others are collected."""
+    ways = place.routers("r1")
+    place.script("big", "head -c 60000000 /dev/zero | tr '\\0' x")
+    begun = time.monotonic()
+    words = "r2=!yes 2> gone; :", "r3=!yes escape 1>&2; :", "r4=!big; :"
+    assert place.run("collect", "--timeout", "3", "--pause", "0", "site", *ways, *words) == 1
+    assert time.monotonic() - begun < 15 and len(place.said) < 20000 and os.path.exists(place.at("site/vif-r1"))
+
+
+@case
+def table_over_the_limit(place):
+    """It is refused by name."""
+    place.script("large", """word=$(sed -n 's/.*"\\(mcaudit-[0-9a-f]*\\) end"/\\1/p')
+printf '%s table ip_mr_vif 1\\n.\\n%s table ip_mr_cache 20000001\\n' "$word" "$word"
+head -c 20000000 /dev/zero | tr '\\0' x; printf '.\\n%s table igmp 1\\n.\\n%s end\\n' "$word" "$word\"""")
+    assert place.run("collect", "--pause", "0", "site", "r1=!large; :") == 1 and "ip_mr_cache" in place.said, place.said
+    assert not os.path.exists(place.at("site/cache-r1"))
+
+
+# The same router twice, and those that no topology has
+
+@case
+def router_under_two_names(place):
+    """It is refused by name: by what it says of itself, or where it can't say it, by its way."""
+    ways = place.routers("r1", "r2")
+    assert place.run("collect", "--pause", "0", "site", ways[0], "r2=!env R=r1") == 1
+    assert "r2: is the same router as r1" in place.said and not os.path.exists(place.at("site/vif-r1")), place.said
+    assert place.run("collect", "--pause", "0", "site", *ways) == 0, place.said
+
+
+@case
+def routers_that_the_topology_has_not(place):
+    """They are named, however the topology is written."""
+    ways = place.routers("r1", "r2")
+    for topology, status in (('router = [{name = "r1"}]', 1), ('router = [{name = "r1"}, # {name = "r2"}\n]', 1),
+                             ("router = [{name = 'r1'}]", 1), ('router = [{"name" = "r1"}]', 1),
+                             ('lans = ["name = \\"r2\\""]\nrouter = [{name = "r1"}]', 1),
+                             ("router = [{name = \"r1\"}, {name = 'r2'}]", 0),
+                             ('router = [{name = "r1"}, {name = "r\\u0032"}]', 0), ("router = [", 1)):
+        for path in glob.glob(place.at("site*")):
+            shutil.rmtree(path) if os.path.isdir(path) and not os.path.islink(path) else os.unlink(path)
+        place.write("site/topology", topology)
+        assert place.run("collect", "--adopt", "--pause", "0", "site", *ways) == status, (topology, place.said)
+
+
+@case
+def monitor_of_a_router_that_no_topology_has(place):
+    """It is UNKNOWN, whichever Python runs it."""
+    ways = place.routers("r1", "r2")
+    place.site()
+    shutil.copytree(place.at("r2"), place.at("r9"))
+    words = "monitor", "--plugin", "--pause", "0", "site", *ways, "r9=!env R=r9"
+    assert place.run(*words) == 3 and "r9" in place.said, place.said
+
+
+# Age is part of an answer
+
+@case
+def ages_of_a_site(place):
+    """Old tables warn by default, a copy is as old as what it copies, and what was changed by hand as old as that."""
+    shutil.copytree(NETWORK, place.at("site"), copy_function=shutil.copyfile)
+    assert place.run("monitor", "--plugin", "--no-collect", "site") == 0 and "s old" in place.said, place.said
+    for path in glob.glob(place.at("site/*")):
+        os.utime(path, (1, 1e9))
+    assert place.run("monitor", "--plugin", "--no-collect", "site") == 1, place.said
+    assert place.run("monitor", "--plugin", "--no-collect", "--warn-age", "0", "--warn-reports", "0", "site") == 0
+    origin = {"by": "collect", "of": "r1", "time": 1000000000}
+    place.write("site/collected.json", json.dumps({"version": 2, "files": {it: origin for it in os.listdir(NETWORK)}}))
+    shutil.copytree(place.at("site"), place.at("copy"), copy_function=shutil.copyfile)
+    assert place.run("monitor", "--plugin", "--no-collect", "copy") == 1 and "tables of r1" in place.said, place.said
+    for name in ("vif-r1", "cache-r1"):
+        os.utime(place.at("site", name))
+    assert place.run("monitor", "--plugin", "--no-collect", "site") == 1
+    assert "tables of r2" in place.said and "tables of r1" not in place.said, place.said
+
+
+@case
+def times_that_are_none(place):
+    """A collected.json of another version, or of a later time, warns."""
+    for files, version in (({}, 3), ({"vif-r1": {"by": "collect", "of": "r1", "time": int(time.time()) + 600}}, 2)):
+        shutil.rmtree(place.at("site"), ignore_errors=True)
+        shutil.copytree(NETWORK, place.at("site"))
+        place.write("site/collected.json", json.dumps({"version": version, "files": files}))
+        assert place.run("monitor", "--plugin", "--no-collect", "site") == 1, place.said
+
+
+# Statuses
+
+@case
+def topologies_and_audits_that_are_none(place):
+    """They are refused with a sentence."""
+    place.write("site/topology", "lans = " + "[" * 3000 + "]" * 3000 + "\n")
+    assert place.run("site", "lans", "site") == 3 and place.run("draft", "--update", "site", "r1=!false") == 3
+    head = '{"domain":{"interfaces":[],"lans":["a"],"routers":[],"sources":[]},"format":1}\n'
+    for right in ("1e400", "1", "1" * 5000):
+        counts = f'{{"summary":{{"flows":1,"right":{right},"unwanted":0,"wrong":0}}}}\n'
+        place.write("audit", head + counts + '{"verdict":"yes"}\n')
+        assert place.run("page", "--audit", "audit", "-o", "page.html") == 2, place.said
+        assert place.run("diff", "audit", "audit") == 2, place.said
+    place.write("audit", head + '{"summary":{"flows":0,"right":0,"unwanted":0,"wrong":0}}\n')
+    assert place.run("page", "--audit", "audit", "-o", "page.html") == 2 and place.run("diff", "audit", "audit") == 2
+
+
+@case
+def diff_that_crashes(place):
+    """What changed is then unknown, and not nothing."""
+    ways = place.routers("r1", "r2")
+    place.site()
+    assert place.run("monitor", "--pause", "0", "site", *ways) == 0, place.said
+    shutil.copytree(TOOLS, place.at("tools"), ignore=shutil.ignore_patterns("__pycache__"))
+    place.write("tools/mcaudit-diff", "#!/bin/sh\nkill -SEGV $$\n")
+    words = [sys.executable, place.at("tools", "mcaudit-monitor"), "--plugin", "--pause", "0", "site", *ways]
+    done = subprocess.run(words, cwd=place.folder, env=place.environment, capture_output=True, check=False)
+    assert done.returncode == 3 and done.stdout.startswith(b"MCAUDIT UNKNOWN"), done
+
+
+@case
+def uninstall_of_a_path_with_spaces(place):
+    """It takes away its own files alone."""
+    place.write("with", "precious")
+    for target in ("install", "uninstall"):
+        subprocess.run(["make", "-s", "-C", TOP, target, f"PROGRAM={HERE}/commands/mcaudit", "SOURCES=", "PREFIX=/usr",
+                        f"DESTDIR={place.at('with space')}"], check=True, stdout=subprocess.DEVNULL)
+    assert place.read("with") == "precious"
+    assert not [files for _, _, files in os.walk(place.at("with space")) if files]
+
+
+def tried(function):
+    """Runs a case. Returns what is wrong, or None."""
+    with tempfile.TemporaryDirectory(prefix="mcaudit-hostile-") as folder:
+        try:
+            function(Place(folder))
+            return None
+        except Exception as fault:  # pylint: disable=broad-exception-caught
+            return f"{type(fault).__name__}: {fault}"
+
+
+def main():
+    """Runs the cases, four side by side. Returns the status."""
+    chosen = [it for it in CASES if not sys.argv[1:] or it.__name__ in sys.argv[1:]]
+    with concurrent.futures.ThreadPoolExecutor(4) as pool:
+        faults = list(pool.map(tried, chosen))
+    for function, fault in zip(chosen, faults):
+        if fault is not None:
+            print(f"failed: {function.__name__}: {fault}")
+    failed = sum(it is not None for it in faults)
+    print(f"{len(chosen) - failed} passed, {failed} failed")
+    return 1 if failed or not chosen else 0
+
+
+if __name__ == "__main__":
+    sys.exit(main())

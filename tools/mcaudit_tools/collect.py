@@ -1,0 +1,328 @@
+"""mcaudit-collect: brings the multicast tables of a domain's routers into one folder.
+
+vif-NAME holds a router's /proc/net/ip_mr_vif, cache-NAME its /proc/net/ip_mr_cache. A router needs nothing but a shell
+and cat.
+
+A read of ip_mr_cache gives about 4 KB at a time. Where rows are deleted between two such reads, a row that stays all the
+while can slip through. So each router is read until two readings one after the other are equal, counters aside. Some
+routers are read side by side: the sooner all are read, the less their tables can change in between.
+"""
+import concurrent.futures
+import dataclasses
+import os
+import sys
+import threading
+import time
+
+from mcaudit_tools import answers, origins, topology, ways
+from mcaudit_tools.common import PROGRAM, Ended, Failed, Parser, clean, say
+from mcaudit_tools.programs import RUNNING, run
+from mcaudit_tools.sets import Site
+
+ABOUT = """Brings the multicast tables of each router NAME into SITE, as vif-NAME and cache-NAME.
+Give each router the name that the topology gives it: letters, digits, `-`, `_`, `.`.
+
+The WAY to a router is one of:
+  HOST       over ssh; HOST is a host's name or address, or USER@HOST
+  (nothing)  this machine: NAME=
+  !COMMAND   a command of yours: `COMMAND sh` is run, and has to run that sh on the router with
+             its standard input and output, as `ssh HOST sh` does
+No way has a terminal: it can ask for no password."""
+MORE = """Each router is read until two readings one after the other are equal but for counters. Its line
+comes when that is so. It says how many vifs and rows it has, and its byte order, which the
+topology has to name where it is big. What could not be read, or did not hold still, is named.
+So are two names of one router: each is asked for its boot's id and its network namespace.
+
+What is read at one time is a set, SITE.sets/TIME: the new tables, each other file of the last set
+(hidden ones and audit.json aside), and collected.json, which says where each file comes from and
+how old it is. SITE is a symbolic link to the newest set. A router that was not collected has no
+tables in it, so that no earlier one is judged in their place. Earlier sets stay until you remove
+them.
+
+Statuses: 0 all collected, 1 some router was not, or SITE's topology doesn't list it, 3 SITE can't be
+written and is as it was, or a signal ended it, 5 wrong words.
+
+Examples:
+  mcaudit-collect --adopt site r1=10.9.0.1 r2=admin@r2.example.net
+  mcaudit-collect --routers routers --timeout 20 site
+  mcaudit-collect --ssh 'ssh -p 2222' site r1=10.9.0.1
+  mcaudit-collect site here= 'r1=!ip netns exec r1' 'r2=!docker exec -i frr2'"""
+FILES = {"ip_mr_vif": "vif", "ip_mr_cache": "cache", "route": "route", "address": "address"}  # the tables that a set has
+
+
+PRINTING = threading.Lock()
+
+
+@dataclasses.dataclass
+class Collected:
+    """What came of a router: why it is missing, or where its tables are."""
+
+    fault: "str | None" = None
+    sentences: list = dataclasses.field(default_factory=list)  # what the way to it said
+    line: str = ""
+    folder: str = ""
+    time: int = 0
+    identity: "bytes | None" = None  # the boot and the network namespace, where the router says them
+
+
+# The arguments
+
+def read_arguments():
+    """Reads the arguments."""
+    parser = Parser(description=ABOUT, epilog=MORE,
+                    usage="mcaudit-collect [option ...] SITE [NAME=WAY ...]\n"
+                          "       mcaudit-collect [option ...] --shell NAME [NAME=WAY ...]")
+    parser.add_argument("words", nargs="*", metavar="SITE [NAME=WAY ...]", help="the folder, and the routers")
+    parser.add_argument("--routers", metavar="FILE", help="take the routers of FILE too: NAME=WAY, a line each; empty lines "
+                        "and those that begin with # are left aside")
+    parser.add_argument("--adopt", action="store_true", help="if SITE is a plain folder, make it the first set; without "
+                        "routers do just that")
+    parser.add_argument("--readings", metavar="N", default="5", help="read a router at most N times, 2 to 100 (5)")
+    parser.add_argument("--pause", metavar="SECONDS", default="1", help="wait so long between two readings of a router (1)")
+    parser.add_argument("--timeout", metavar="SECONDS", default="60", help="give a router up when a reading takes longer (60)")
+    parser.add_argument("--at-once", metavar="N", default="8", help="read at most N routers side by side, 1 to 100 (8)")
+    parser.add_argument("--ssh", metavar="COMMAND", default=ways.SSH,
+                        help=f"reach a HOST by `COMMAND HOST sh` ({ways.SSH})")
+    parser.add_argument("--facts", action="store_true", help="bring the router's addresses and routes too, as address-NAME and "
+                        "route-NAME: what `ip -j address` says, or where it can't, `ip -o -4 address`, and /proc/net/route. "
+                        "mcaudit-draft reads them; what a router has not is empty")
+    parser.add_argument("--shell", metavar="NAME", help="collect nothing: run a shell on the router NAME by its way, with this "
+                        "standard input and output")
+    parser.add_version()
+    found = parser.parse_intermixed_args()
+    found.readings = number(parser, found.readings, 2, 100, "--readings takes 2 to 100")
+    found.pause = number(parser, found.pause, 0, 999, "--pause takes whole seconds, 0 to 999")
+    found.timeout = number(parser, found.timeout, 1, 999, "--timeout takes whole seconds, 1 to 999")
+    found.at_once = number(parser, found.at_once, 1, 100, "--at-once takes 1 to 100")
+    take_words(parser, found)
+    return found
+
+
+def number(parser, text, least, most, sentence):
+    """Reads a number of one to three digits within these bounds."""
+    if not (text.isascii() and text.isdigit() and len(text) <= 3 and least <= int(text) <= most):
+        parser.error(sentence)
+    return int(text)
+
+
+def take_words(parser, found):
+    """Makes the site and the routers of the words."""
+    try:
+        found.site = None
+        if found.shell is None:
+            if not found.words:
+                parser.error("a site and a router are wanted")
+            found.site = Site(found.words.pop(0))
+        found.all = ways.read_routers(found.words, [found.routers] if found.routers else [])
+    except Failed as fault:
+        if fault.status != 5:
+            raise
+        parser.error(str(fault))
+    if not found.all and not found.adopt and found.shell is None:
+        parser.error("a site and a router are wanted")
+
+
+def shell_on_router(parser_words):
+    """Becomes the shell on the router that --shell names."""
+    for router in parser_words.all:
+        if router.name == parser_words.shell:
+            ways.become_shell(router, parser_words.ssh)
+    print(f"{PROGRAM.name}: {clean(parser_words.shell)} is none of the routers\nTry: {PROGRAM.name} --help", file=sys.stderr)
+    return 5
+
+
+# One router
+
+class Reading:
+    """The readings of one router, in a folder of its own."""
+
+    def __init__(self, words, router, folder):
+        """Takes the arguments, the router and the folder, which it makes."""
+        self.words, self.router, self.folder = words, router, folder
+        self.sentences = []
+        os.mkdir(folder)
+
+    def ask(self, tables):
+        """Asks the router for these tables, for at most the time that a reading has. Returns what is wrong, or None."""
+        word, path = answers.random_word(), os.path.join(self.folder, "answer")
+        deadline = time.monotonic() + self.words.timeout
+        try:
+            with open(path, "wb") as file:
+                came = run(self.router.shell(self.words.ssh), answers.questions(word, tables), self.words.timeout,
+                           answers.MOST_ANSWER, file)
+            self.sentences = came.sentences()
+            if came.is_long:
+                return f"the answer has more than {answers.MOST_ANSWER} bytes"
+            if came.is_late:
+                raise answers.Late("late")
+            return answers.take_apart(path, word, tables, self.folder, deadline)
+        except answers.Late:
+            return f"no whole answer in {self.words.timeout} s"
+        finally:
+            os.unlink(path)
+
+    def collect(self):
+        """Reads the router until two readings are equal. Returns what came of it."""
+        earlier = None
+        for count in range(1, self.words.readings + 1):
+            if count > 1:
+                RUNNING.rest(self.words.pause)
+            fault = self.ask(answers.TABLES)
+            if fault:
+                return Collected(fault, self.sentences)
+            when, deadline = int(time.time()), time.monotonic() + self.words.timeout
+            try:
+                shape = answers.shape_of(self.folder, deadline)
+                if shape == earlier:
+                    return self.ask_more(Collected(line=self.line(count, deadline), folder=self.folder, time=when))
+            except answers.Late:
+                return Collected(f"no whole answer in {self.words.timeout} s")
+            earlier = shape
+        return Collected(f"did not hold still in {self.words.readings} readings")
+
+    def line(self, count, deadline):
+        """Returns what is printed of the router."""
+        vifs, rows = (answers.rows_of(os.path.join(self.folder, it), deadline) for it in answers.TABLES[:2])
+        order = answers.order_of(os.path.join(self.folder, "igmp"), deadline)
+        return f"vifs {vifs}, rows {rows}, readings {count}, {order}"
+
+    def ask_more(self, found):
+        """Asks for what goes beyond the three tables, which a key that is restricted to them doesn't answer."""
+        wanted = answers.FACTS if self.words.facts else ()
+        if len(self.words.all) > 1 or wanted:
+            fault = self.ask((*wanted, *answers.IDENTITY))
+            if fault and wanted:
+                return Collected(fault, self.sentences)
+            if not fault:
+                parts = [self.identity_part(it) for it in answers.IDENTITY]
+                found.identity = b" ".join(parts) if all(parts) else None
+        return found
+
+    def identity_part(self, name):
+        """Returns the first word of what the router says of itself, or nothing."""
+        with open(os.path.join(self.folder, name), "rb") as file:
+            return b"".join(file.read(256).split()[:1])
+
+
+def collect_router(words, router, scratch):
+    """Collects one router, and prints what came of it."""
+    try:
+        found = Reading(words, router, os.path.join(scratch, router.name)).collect()
+    except OSError as fault:
+        raise words.site.unwritable(fault) from fault
+    if RUNNING.ended.is_set():
+        raise Ended
+    if found.fault:
+        with PRINTING:
+            for sentence in (found.fault, *found.sentences):
+                print(f"{router.name}: {sentence}", file=sys.stderr, flush=True)
+    else:
+        show(words, f"{router.name}: {found.line}")
+    return found
+
+
+def show(words, line):
+    """Prints a line, as long as that can be."""
+    try:
+        with PRINTING:
+            print(line, flush=True)
+    except OSError as fault:
+        raise words.site.unwritable(fault) from fault
+
+
+# All routers
+
+def collect_all(words, scratch):
+    """Collects all routers, at most so many side by side. Returns what came of each, by name."""
+    with concurrent.futures.ThreadPoolExecutor(words.at_once) as pool:
+        running = {it.name: pool.submit(collect_router, words, it, scratch) for it in words.all}
+        try:
+            for one in concurrent.futures.as_completed(running.values()):
+                one.result()
+        except BaseException:
+            for one in running.values():
+                one.cancel()
+            RUNNING.end_all()
+            raise
+    return {name: one.result() for name, one in running.items()}
+
+
+def refuse_twins(words, found):
+    """Refuses the routers that are one under two names: by what they say of themselves, and else by their ways."""
+    for key in (lambda it: found[it.name].identity, lambda it: None if found[it.name].identity else it.way):
+        same = {}
+        for router in words.all:
+            if not found[router.name].fault and key(router) is not None:
+                same.setdefault(key(router), []).append(router.name)
+        for names in same.values():
+            for name in names if len(names) > 1 else ():
+                others = " ".join(it for it in names if it != name)
+                found[name] = Collected(f"is the same router as {others}")
+                print(f"{name}: {found[name].fault}", file=sys.stderr, flush=True)
+    silent = [it.name for it in words.all if not found[it.name].fault and not found[it.name].identity]
+    if silent and len(words.all) > 1:
+        say(f"whether these are routers of their own isn't known, since they don't say it: {' '.join(silent)}")
+
+
+def new_files(words, found):
+    """Returns the files of the new set: where each lies, and where it comes from."""
+    files = {}
+    for router in words.all:
+        one = found[router.name]
+        for table in (*answers.TABLES[:2], *(answers.FACTS if words.facts else ())):
+            if not one.fault:
+                origin = origins.Origin(origins.COLLECT, router.name, one.time)
+                files[f"{FILES[table]}-{router.name}"] = os.path.join(one.folder, table), origin
+    return files
+
+
+def is_replaced(words, name):
+    """Whether a file of the last set isn't carried into the new one: the tables of a router that was not collected are not."""
+    return name.startswith(("vif-", "cache-")) or words.facts and name.startswith(("address-", "route-"))
+
+
+def unlisted_of(words, folder):
+    """Returns the routers whose tables the set has and its topology doesn't list: a yes would be said as if they weren't
+    there. Tells where that can't be seen."""
+    if not os.path.lexists(os.path.join(folder, "topology")):
+        return []
+    try:
+        listed = topology.read_routers(folder, words.site.path)
+    except topology.NoReader as fault:
+        say(f"whether the topology lists all routers isn't known: {fault}")
+        return []
+    except Failed as fault:
+        say(f"whether the topology lists all routers isn't known: {fault}")
+        return [it.name for it in words.all]
+    return [it.name for it in words.all if listed and it.name not in listed]
+
+
+def publish(words, found, scratch):
+    """Makes the new set. Returns whether all routers are in it, and in its topology."""
+    missing = [name for name, one in found.items() if one.fault]
+    count = f"{len(words.all) - len(missing)} of {len(words.all)} routers collected"
+    folder = words.site.publish(new_files(words, found), lambda it: is_replaced(words, it), scratch,
+                                lambda folder: show(words, f"{count}: {folder}"))
+    if missing:
+        say(f"not collected: {' '.join(missing)}")
+    unlisted = unlisted_of(words, folder)
+    if unlisted:
+        say(f"not in the topology, so that nobody judges them: {' '.join(unlisted)}")
+    return not missing and not unlisted
+
+
+def main():
+    """Collects. Returns the status."""
+    words = read_arguments()
+    if words.shell is not None:
+        return shell_on_router(words)
+    site = words.site
+    site.check(words.adopt)
+    with site.scratch() as scratch:
+        if words.adopt:
+            site.adopt()
+        if not words.all:
+            return 0
+        found = collect_all(words, scratch)
+        refuse_twins(words, found)
+        return 0 if publish(words, found, scratch) else 1

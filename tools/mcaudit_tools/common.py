@@ -1,0 +1,132 @@
+"""What all tools share: their failures, their arguments, and text that comes to a terminal."""
+import argparse
+import os
+import re
+import shutil
+import sys
+
+CUT = " .."  # stands for what is left out
+NAME = re.compile(r"[A-Za-z0-9_.-]{1,32}")  # of a router or a LAN, as mcaudit has it; but for `.` and `..`
+
+
+class Failed(Exception):
+    """What couldn't be done, as a sentence, and the status that the tool ends with."""
+
+    status = 3
+
+    def __init__(self, sentence, status=None):
+        """Takes the sentence, and the status where it isn't the usual one."""
+        super().__init__(sentence)
+        if status is not None:
+            self.status = status
+
+
+class Refused(Failed):
+    """What is wrong with an input, as a sentence."""
+
+    status = 2
+
+
+class Ended(Failed):
+    """A signal ended the tool."""
+
+    def __init__(self):
+        """Takes nothing: all signals are alike."""
+        super().__init__("ended by a signal")
+
+
+class Program:
+    """The tool that runs: its name and its version."""
+
+    def __init__(self):
+        """Begins without a name."""
+        self.name, self.version = "mcaudit", ""
+
+    def take(self, name, version):
+        """Takes the name and the version."""
+        self.name, self.version = name, version
+
+
+PROGRAM = Program()
+
+
+def say(sentence):
+    """Tells a person something that isn't the answer."""
+    print(f"{PROGRAM.name}: {clean(sentence)}", file=sys.stderr, flush=True)
+
+
+def clean(text, without=""):
+    """Returns the text in printable characters of ASCII, each other one and each of those to be without as `?`."""
+    return "".join(it if " " <= it <= "~" and it not in without else "?" for it in text)
+
+
+def clean_lines(data):
+    """Returns the lines of bytes that another program wrote, each of them clean."""
+    return [clean(it) for it in data.decode("ascii", "replace").replace("\r", "").split("\n") if it]
+
+
+def cut(text, most):
+    """Returns the text, or so many characters of it."""
+    return text if len(text) <= most else text[:most] + CUT
+
+
+def is_name(text):
+    """Whether the text may name a router or a LAN, by the rule of mcaudit."""
+    return isinstance(text, str) and NAME.fullmatch(text) is not None and text not in (".", "..")
+
+
+def name_fault(text):
+    """Returns what is wrong with the name of a router, or None."""
+    if not re.fullmatch(r"[A-Za-z0-9_.-]+", text):
+        return "a name is letters, digits, -, _ and ."
+    if text in (".", ".."):
+        return "a name has a letter or digit"
+    return None if is_name(text) else "a name has at most 32 letters"
+
+
+def find_tool(name):
+    """Returns the path of a tool, which lies beside the one that runs or on the path."""
+    beside = os.path.join(os.path.dirname(os.path.realpath(sys.argv[0])), name)
+    found = beside if os.access(beside, os.X_OK) else shutil.which(name)
+    if not found:
+        raise Failed(f"there is no {name} beside this program or on the path")
+    return found
+
+
+class Parser(argparse.ArgumentParser):
+    """Reads the arguments, and ends with status 5 where they are wrong."""
+
+    def __init__(self, **about):
+        """Takes what argparse takes, and fills in what all tools have alike."""
+        about.setdefault("prog", PROGRAM.name)
+        about.setdefault("formatter_class", argparse.RawDescriptionHelpFormatter)
+        super().__init__(allow_abbrev=False, **about)
+
+    def add_version(self):
+        """Adds the option that prints the version."""
+        self.add_argument("--version", action="version", version=f"%(prog)s {PROGRAM.version}", help="print the version")
+
+    def error(self, message):
+        """Tells what is wrong."""
+        print(f"{PROGRAM.name}: {clean(sentence_of(message))}\nTry: {PROGRAM.name} --help", file=sys.stderr)
+        sys.exit(5)
+
+
+def sentence_of(message):
+    """Returns what argparse says is wrong in the words of the tools."""
+    for pattern, sentence in ((r"unrecognized arguments: (.*)", r"there is no option \1"),
+                              (r"argument (?:-\w/)?([-\w]+)(?:/[-\w]+)*: expected one argument", r"\1 wants a value")):
+        found = re.fullmatch(pattern, message, re.DOTALL)
+        if found:
+            return found.expand(sentence)
+    return message
+
+
+def whole_number(least, most):
+    """Returns what reads an argument that is a whole number from the least to the most."""
+    def read(text):
+        """Reads the argument."""
+        if not re.fullmatch(r"[0-9]{1,12}", text, re.ASCII) or not least <= int(text) <= most:
+            raise argparse.ArgumentTypeError(f"{text} is no whole number from {least} to {most}")
+        return int(text)
+    return read

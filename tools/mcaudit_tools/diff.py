@@ -1,0 +1,335 @@
+"""mcaudit-diff: tells what changed between two audits of a domain, flow by flow.
+
+An audit is a folder, which `mcaudit audit --json --unlisted` judges, or a file of what that printed. Ways are
+compared by LANs, routers and devices: the numbers of vifs change as a routing daemon starts anew.
+"""
+import dataclasses
+import io
+import ipaddress
+import json
+import os
+import sys
+
+from mcaudit_tools import audit as audits
+from mcaudit_tools.common import Failed, Parser, Refused, find_tool, say
+from mcaudit_tools.files import reason_of
+from mcaudit_tools.programs import run
+
+AUDITING = 300  # seconds that an audit may take
+UNKNOWN = "no fault known"  # of a flow without a fault, where routers are left out
+ABOUT = """Tells what changed from OLD to NEW, a line each: faults that came or went, which stand first, flows that are
+listed now or no longer, the LANs that a flow reaches and who forwards onto them, how many LANs carry a copy, which LANs
+want the flow, and the sources and groups that stand in the caches and are no flow's.
+
+OLD and NEW are folders, which are audited, or files of what `mcaudit audit --json --unlisted` printed."""
+MORE = """Statuses: 0 nothing changed, 1 something did, 2 OLD or NEW is refused, 3 a read or a write failed, 5 wrong
+words.
+
+Examples:
+  mcaudit-diff site.sets/20261124T160619Z site
+  mcaudit audit --json --unlisted site > today; mcaudit-diff yesterday today"""
+
+
+@dataclasses.dataclass
+class Audit:
+    """What an audit says."""
+    devices: "dict | None" = None  # by router and vif
+    ways: dict = dataclasses.field(default_factory=dict)  # by tree: of each LAN who sends onto it, and its need
+    flows: dict = dataclasses.field(default_factory=dict)  # by source and group
+    unlisted: dict = dataclasses.field(default_factory=dict)  # by group and source: routers
+    left_out: list = dataclasses.field(default_factory=list)
+    is_whole: bool = True  # whether it tells all pairs that are no flow's
+    verdict: "str | None" = None
+
+    def take(self, line):
+        """Takes one line."""
+        if "domain" in line:
+            self.take_domain(line)
+        elif "entries" in line:
+            self.ways[number(line["tree"])] = {text(it["lan"]): self.sender(it) for it in line["entries"]}
+        elif "flow" in line:
+            self.flows[text(line["source"]), text(line["group"])] = self.flow(line)
+        elif "unlisted" in line:
+            pair = line["unlisted"]
+            self.unlisted[address(pair["group"]), address(pair["source"])] = names(pair["routers"])
+        elif "unlisted_more" in line:
+            self.is_whole = False
+        elif "without" in line:
+            self.left_out = names(line["without"])
+        elif "verdict" in line:
+            self.verdict = line["verdict"]
+        else:
+            self.take_summary(line["summary"])
+
+    def take_summary(self, summary):
+        """Sees that no flow came twice."""
+        if summary["flows"] != len(self.flows):
+            raise Refused("it has a flow twice")
+
+    def take_domain(self, line):
+        """Takes the first line."""
+        self.devices = {(text(it["router"]), number(it["vif"])): it["device"] and text(it["device"])
+                        for it in line["domain"]["interfaces"] if it["vif"] is not None}
+
+    def vif(self, router, vif):
+        """Returns a vif by its router and device, or by its number where it has none."""
+        device = self.devices.get((router, vif))
+        return f"{router} vif/{vif}" if device is None else f"{router} {device}"
+
+    def sender(self, entry):
+        """Returns who sends onto the LAN of an entry, and the least time to live that reaches it."""
+        return entry["router"] and self.vif(text(entry["router"]), number(entry["vif"])), number(entry["need"])
+
+    def flow(self, line):
+        """Returns what is told of a flow, as the parts that are compared."""
+        if line["right"] is not False:
+            return {"ttl": number(line["ttl"]), "fault": None, "said": "right" if line["right"] else UNKNOWN,
+                    "copies": number(line["copies"]), "wanted": names(line["wanted"]), "way": self.ways[line["tree"]]}
+        finding = line["finding"]
+        place = self.vif(text(finding["router"]), number(finding["vif"])) if "vif" in finding else text(finding["lan"])
+        told = without_vifs([line["found_ttl"], line["also"], line["why"]])
+        return {"ttl": number(line["ttl"]), "fault": f"{text(finding['kind'])} {place}", "told": told}
+
+
+def text(value):
+    """Returns the value, which has to be a text."""
+    if not isinstance(value, str):
+        raise TypeError
+    return value
+
+
+def number(value):
+    """Returns the value, which has to be a number."""
+    if type(value) is not int:  # pylint: disable=unidiomatic-typecheck
+        raise TypeError
+    return value
+
+
+def names(value):
+    """Returns the value, which has to be a list of texts."""
+    if not isinstance(value, list):
+        raise TypeError
+    return [text(it) for it in value]
+
+
+def address(value):
+    """Returns an address as a number, in whose order audit has them."""
+    return int(ipaddress.IPv4Address(text(value)))
+
+
+def without_vifs(told):
+    """Returns what explains a fault, without the numbers of vifs that have a device, in an order of its own."""
+    if isinstance(told, list):
+        return sorted(map(without_vifs, told), key=json.dumps)
+    if not isinstance(told, dict):
+        return told
+    return {key: without_vifs(it) for key, it in told.items()
+            if not key.endswith("vif") or told.get(key.removesuffix("vif") + "device") is None}
+
+
+# The audits
+
+def is_printed(value):
+    """Whether audit prints all its texts so: in printable characters of ASCII."""
+    if isinstance(value, dict):
+        return all(is_printed(it) for it in (*value, *value.values()))
+    if isinstance(value, list):
+        return all(map(is_printed, value))
+    return not isinstance(value, str) or all(" " <= it <= "~" for it in value)
+
+
+def audit_of(objects):
+    """Returns what the objects of an audit's lines say."""
+    audit = Audit()
+    for count, it in enumerate(objects, 1):
+        try:
+            if not is_printed(it):
+                raise Refused("it is no line of audit")
+            audit.take(it)
+        except Refused as fault:
+            raise Refused(f"line {count}: {fault}") from fault
+        except (ValueError, KeyError, TypeError, AttributeError, RecursionError) as fault:
+            raise Refused(f"line {count}: it is no line of audit") from fault
+    return audit
+
+
+def judged(path):
+    """Returns what mcaudit says of the set that the folder leads to now. What it refuses it has told by itself."""
+    folder = os.path.realpath(path)
+    came = run([find_tool("mcaudit"), "audit", "--json", "--unlisted", folder], seconds=AUDITING, most=audits.MOST_BYTES,
+               keeps_words=False)
+    if came.is_late or came.is_long:
+        raise Failed(f"{path}: mcaudit took more than {AUDITING} s, or printed more than {audits.MOST_BYTES} bytes")
+    if came.status not in (0, 1) and not os.path.isdir(folder):
+        raise Failed(f"{path}: the set was removed meanwhile")
+    if came.status == 2:
+        raise Refused("mcaudit refuses it")
+    if came.status not in (0, 1):
+        raise Failed(f"{path}: mcaudit ended with status {came.status}")
+    return audits.lines_of(io.BytesIO(came.printed))
+
+
+def read_audit(path):
+    """Reads the audit of a folder, or that which a file has; of standard input by its path alone."""
+    try:
+        if os.path.isdir(path):
+            return audit_of(judged(path))
+        if path == "/dev/stdin":
+            return audit_of(audits.lines_of(sys.stdin.buffer))
+        return audit_of(audits.lines_of_file(path))
+    except Refused as fault:
+        raise Refused(f"refused: {path}: {fault}") from fault
+    except OSError as fault:
+        raise Failed(f"{path} can't be read: {reason_of(fault)}") from fault
+
+
+# What changed
+
+def names_change(change, old, new):
+    """Yields the change of a list of names, as what has gone and what has come."""
+    gone, come = ([it for it in of if it not in others] for of, others in ((old, set(new)), (new, set(old))))
+    if gone or come:
+        yield change, gone, come
+
+
+def way_changes(old, new):
+    """Yields what changed of a way: each change, what was and what is."""
+    def sends(way, lan):
+        return f"{lan} by {way[lan][0]}" if way[lan][0] else f"{lan} by the source"
+    both = [lan for lan in new if lan in old]
+    yield from names_change("reached", [sends(old, it) for it in old if it not in new],
+                            [sends(new, it) for it in new if it not in old])
+    for number, change in enumerate(("forwarder", "least_ttl")):
+        found = [lan for lan in both if old[lan][number] != new[lan][number]]
+        tell = (lambda way, lan: f"{lan} {way[lan][1]}") if number else sends
+        if found:
+            yield change, [tell(old, lan) for lan in found], [tell(new, lan) for lan in found]
+
+
+def flow_changes(old, new):
+    """Yields what changed of a flow: each change, what was and what is."""
+    if old["ttl"] != new["ttl"]:
+        yield "ttl", old["ttl"], new["ttl"]
+    if old["fault"] != new["fault"]:
+        yield "fault", old["fault"], new["fault"] or (UNKNOWN if new["said"] == UNKNOWN else None)
+    if new["fault"]:
+        if old["fault"] == new["fault"] and old["told"] != new["told"]:
+            yield "explanation", new["fault"], new["fault"]
+        return
+    if not old["fault"]:
+        yield from way_changes(old["way"], new["way"])
+        if old["copies"] != new["copies"]:
+            yield "copies", old["copies"], new["copies"]
+        yield from names_change("wanted", old["wanted"], new["wanted"])
+    was = not old["fault"] and not old["wanted"]
+    if was != (not new["wanted"]):
+        yield "unwanted", was, not was
+
+
+def state_of(flow):
+    """Returns what is told of a flow that is in one audit alone."""
+    if flow["fault"]:
+        return f"fault {flow['fault']}"
+    return f"{flow['said']}, copies {flow['copies']}, wanted by {' '.join(flow['wanted']) or 'nobody'}"
+
+
+def all_changes(old, new):
+    """Yields each change: whose it is, which, what was and what is."""
+    for router in dict.fromkeys([*old.left_out, *new.left_out]):
+        if (router in old.left_out) != (router in new.left_out):
+            yield {"router": router}, "left_out", router in old.left_out, router in new.left_out
+    for key in dict.fromkeys([*new.flows, *old.flows]):
+        was, now = old.flows.get(key), new.flows.get(key)
+        whose = {"flow": {"source": key[0], "group": key[1]}}
+        if was and now:
+            yield from ((whose, *it) for it in flow_changes(was, now))
+        else:
+            yield whose, "listed", was and state_of(was), now and state_of(now)
+    known = min((max(it.unlisted) for it in (old, new) if not it.is_whole and it.unlisted), default=None)
+    for key in sorted({*old.unlisted, *new.unlisted}):
+        was, now = old.unlisted.get(key, []), new.unlisted.get(key, [])
+        if known is None or key <= known:
+            group, source = map(str, map(ipaddress.IPv4Address, key))
+            whose = {"unlisted": {"source": source, "group": group}}
+            change = "routers" if was and now else "pair"
+            yield from ((whose, *it) for it in names_change(change, was, now))
+    if old.verdict != new.verdict:
+        yield {}, "verdict", old.verdict, new.verdict
+
+
+def faults_first(changes):
+    """Returns the changes in an order in which a fault that came or went isn't lost among paths that moved.
+
+    So it is with a fault of a flow that is in one audit alone."""
+    return sorted(changes, key=lambda it: it[1] not in ("left_out", "fault") and not is_of_a_fault(*it[1:]))
+
+
+def is_of_a_fault(change, was, now):
+    """Returns whether a flow with a fault is in one audit alone."""
+    return change == "listed" and (was or now).startswith("fault ")
+
+
+def sides(change, was, now):
+    """Returns what has come and what has gone as one text."""
+    come, gone = (", ".join(it) if change == "reached" else " ".join(it) for it in (now, was))
+    return "; ".join([f"{change} now: {come}"] * bool(now) + [f"{change} no longer: {gone}"] * bool(was))
+
+
+def change_text(change, was, now):
+    """Returns a change as a line tells it behind whose it is."""
+    if change == "listed":
+        return f"listed now: {now}" if now else f"listed no longer: it was {was}"
+    if change == "fault" and now == UNKNOWN:
+        return f"{now} now, was {was}"
+    if change == "fault" and not (was and now):
+        return f"new fault: {now}" if now else f"fault gone: {was}"
+    if change == "pair":
+        return f"come: in the caches of {' '.join(now)}" if now else f"gone: it was in the caches of {' '.join(was)}"
+    if change == "explanation":
+        return f"fault stays and is told otherwise: {now}"
+    if change in ("unwanted", "left_out"):
+        said = "no LAN wants it" if change == "unwanted" else "left out"
+        return f"{said} now" if now else f"{said} no longer" if change == "left_out" else "some LAN wants it again"
+    if change in ("reached", "wanted", "routers"):
+        return sides(change, was, now)
+    if change in ("forwarder", "least_ttl"):
+        pairs = zip(now, was)
+        return f"{change.replace('_', ' ')} " + ", ".join(f"{new}, was {old.split(' ', 1)[1]}" for new, old in pairs)
+    return f"{change} {now}, was {was}"
+
+
+def tell(whose, change, was, now):
+    """Returns a change as a line."""
+    if change == "verdict":
+        return f"verdict {now}, was {was}"
+    (kind, of), = whose.items()
+    name = f"{of['source']} {of['group']}" if isinstance(of, dict) else of
+    return f"{kind} {name}: {change_text(change, was, now)}"
+
+
+def read_arguments():
+    """Reads the arguments."""
+    parser = Parser(description=ABOUT, epilog=MORE)
+    parser.add_version()
+    parser.add_argument("--json", action="store_true", help="print an object a line")
+    parser.add_argument("old", metavar="OLD")
+    parser.add_argument("new", metavar="NEW")
+    return parser.parse_args()
+
+
+def main():
+    """Tells what changed. Returns the status."""
+    words = read_arguments()
+    old, new = read_audit(words.old), read_audit(words.new)
+    if not (old.is_whole and new.is_whole):
+        say("only the lowest sources and groups that are no flow's are compared: --unlisted tells all")
+    changes = faults_first(all_changes(old, new))
+    try:
+        for whose, change, was, now in changes:
+            line = {**whose, "change": change, "was": was, "now": now}
+            print(json.dumps(line, sort_keys=True, separators=(",", ":")) if words.json else
+                  tell(whose, change, was, now))
+        sys.stdout.flush()
+    except OSError as fault:
+        raise Failed(f"standard output can't be written: {reason_of(fault)}") from fault
+    return 1 if changes else 0

@@ -1,0 +1,110 @@
+"""Files: only regular ones are read, in bounds, and a file is written beside its place and then renamed."""
+import contextlib
+import errno
+import os
+import stat
+import tempfile
+
+from mcaudit_tools.common import Failed
+
+PIECE = 65536  # bytes that are read at a time
+
+
+def reason_of(fault):
+    """Returns why a call of the system failed."""
+    return fault.strerror or type(fault).__name__
+
+
+def open_regular(path, named=None):
+    """Opens a file to be read as bytes, where it is a regular one: a pipe, a device or a folder is never waited for. It is
+    told by its path, or by another name."""
+    opened = None
+    try:
+        opened = os.open(path, os.O_RDONLY | os.O_NONBLOCK | os.O_CLOEXEC | os.O_NOCTTY)
+        if not stat.S_ISREG(os.fstat(opened).st_mode):
+            raise Failed(f"{named or path} can't be read: it is no regular file")
+        return os.fdopen(opened, "rb")
+    except BaseException as fault:
+        if opened is not None:
+            os.close(opened)
+        if isinstance(fault, OSError):
+            raise Failed(f"{named or path} can't be read: {reason_of(fault)}") from fault
+        raise
+
+
+def read_regular(path, most, named=None):
+    """Returns the bytes of a regular file, which has at most so many."""
+    with open_regular(path, named) as file:
+        try:
+            data = file.read(most + 1)
+        except OSError as fault:
+            raise Failed(f"{named or path} can't be read: {reason_of(fault)}") from fault
+    if len(data) > most:
+        raise Failed(f"{named or path} can't be read: it has more than {most} bytes")
+    return data
+
+
+def sync_folder(path):
+    """Puts the names of a folder on the disk."""
+    opened = os.open(path, os.O_RDONLY | os.O_DIRECTORY | os.O_CLOEXEC)
+    try:
+        os.fsync(opened)
+    except OSError as fault:
+        if fault.errno != errno.EINVAL:  # of a file system that has no such call
+            raise
+    finally:
+        os.close(opened)
+
+
+def sync_files(folder):
+    """Puts a folder and its files on the disk."""
+    for entry in os.scandir(folder):
+        if not entry.is_file():
+            continue
+        opened = os.open(entry.path, os.O_RDONLY | os.O_CLOEXEC)
+        try:
+            os.fsync(opened)
+        finally:
+            os.close(opened)
+    sync_folder(folder)
+
+
+@contextlib.contextmanager
+def beside(path, mode=None):
+    """Gives a file beside the path, or what a link there leads to, to be written. At the end it is put on the disk and
+    renamed; where anything fails, the path stays as it was, and nothing is left."""
+    folder, name = os.path.split(os.path.realpath(path))
+    made = None
+    try:
+        opened, made = tempfile.mkstemp(prefix=f".{name[:80]}.", dir=folder)
+        with os.fdopen(opened, "wb") as file:
+            os.fchmod(file.fileno(), 0o666 & ~umask() if mode is None else mode)
+            yield file
+            file.flush()
+            os.fsync(file.fileno())
+            if os.fstat(file.fileno()).st_size != file.tell():
+                raise Failed(f"{path} can't be written: the disk has not what was written")
+        if os.path.lexists(path) and not os.path.isfile(path):
+            raise Failed(f"{path} is no plain file")
+        os.replace(made, os.path.join(folder, name))
+        made = None
+        sync_folder(folder)
+    except OSError as fault:
+        raise Failed(f"{path} can't be written: {reason_of(fault)}") from fault
+    finally:
+        if made is not None:
+            with contextlib.suppress(OSError):
+                os.unlink(made)
+
+
+def write_beside(path, data, mode=None):
+    """Writes the bytes as the file of the path, whole or not at all."""
+    with beside(path, mode) as file:
+        file.write(data)
+
+
+def umask():
+    """Returns the rights that new files don't get."""
+    mask = os.umask(0o077)
+    os.umask(mask)
+    return mask

@@ -1,0 +1,121 @@
+"""IGMP messages (RFC 1112, 2236, 3376) and the IPv4 packets that carry them."""
+import dataclasses
+import ipaddress
+import struct
+
+QUERY, LEAVE = 0x11, 0x17
+REPORT_1, REPORT_2, REPORT_3 = 0x12, 0x16, 0x22
+REPORTS = REPORT_1, REPORT_2, REPORT_3
+IGMP = 2  # the protocol in IPv4
+ALL_HOSTS = bytes([224, 0, 0, 1])
+FIRST_FORWARDED = bytes([224, 0, 1, 0])  # groups below are never forwarded (RFC 5771, section 4)
+SSM = 232  # the first number of the source-specific groups (RFC 4607)
+EXCLUDE = 2  # the record type MODE_IS_EXCLUDE
+CURRENT, CHANGES = (1, 2), (3, 4, 5, 6)  # record types (RFC 3376, section 4.2.12)
+LEAST_MESSAGE = 8
+
+
+def dotted(address):
+    """Returns an address of four bytes as text."""
+    return str(ipaddress.IPv4Address(address))
+
+
+def sum_of(data):
+    """Returns the Internet checksum of the bytes with a sum in them: 0 where that is right."""
+    padded = data + b"\0" * (len(data) % 2)
+    total = sum(struct.unpack(f"!{len(padded) // 2}H", padded))
+    while total >> 16:
+        total = (total & 0xFFFF) + (total >> 16)
+    return 0xFFFF - total
+
+
+def is_whole(message):
+    """Whether receivers heed the message: it is long enough, and has a right checksum."""
+    return len(message) >= LEAST_MESSAGE and any(message) and sum_of(message) == 0
+
+
+@dataclasses.dataclass
+class Packet:
+    """An IPv4 packet with IGMP in it, or what of it the capture has."""
+
+    sender: bytes
+    target: bytes
+    ttl: int
+    message: bytes
+    fault: "str | None" = None  # why the message isn't whole
+
+
+def packet_of(data):
+    """Reads an IPv4 packet; None where it is none of IGMP."""
+    if len(data) < 20:
+        return Packet(bytes(4), bytes(4), 0, b"", f"a packet was cut to {len(data)} bytes") if data[:1] >= b"\x40" else None
+    header, total = (data[0] & 15) * 4, int.from_bytes(data[2:4], "big")
+    if data[0] >> 4 != 4 or data[9] != IGMP or header < 20 or total < header:
+        return None
+    sender, fault = data[12:16], None
+    if int.from_bytes(data[6:8], "big") & 0x3FFF:
+        fault = f"a fragment of {dotted(sender)}, which is not put together"
+    elif len(data) < total:
+        fault = f"a packet of {dotted(sender)} was cut to {len(data)} of {total} bytes"
+    return Packet(sender, data[16:20], data[8], data[header:total], fault)
+
+
+def is_general_query(message):
+    """Whether a whole message asks for all groups (RFC 3376, sections 4.1.9 and 7.1)."""
+    if message[0] != QUERY or message[4:8] != bytes(4):
+        return False
+    return len(message) == 8 or len(message) >= 12 and message[10:12] == bytes(2)
+
+
+def tenths_to_answer(query):
+    """Returns how many tenths of a second the answers to a query may take (RFC 3376, sections 4.1.1 and 7.2.1)."""
+    code = query[1]
+    if len(query) == 8:
+        return code or 100
+    return code if code < 128 else (code & 15 | 16) << ((code >> 4 & 7) + 3)
+
+
+@dataclasses.dataclass
+class Record:
+    """A group record of a report."""
+
+    kind: int
+    group: bytes
+    sources: list
+
+
+def records_of(report):
+    """Returns the records of a version 3 report, and the number of the first one that doesn't end within it, or None."""
+    found, at = [], 8
+    for number in range(1, int.from_bytes(report[6:8], "big") + 1):
+        if at + 8 > len(report):
+            return found, number
+        sources = int.from_bytes(report[at + 2:at + 4], "big")
+        end = at + 8 + 4 * sources + 4 * report[at + 1]
+        if end > len(report):
+            return found, number
+        found.append(Record(report[at], report[at + 4:at + 8],
+                            [report[it:it + 4] for it in range(at + 8, at + 8 + 4 * sources, 4)]))
+        at = end
+    return found, None
+
+
+def groups_of(report):
+    """Yields each group of a report, and whether all its sources are asked for."""
+    if report[0] == REPORT_3:
+        for record in records_of(report)[0]:
+            yield record.group, record.kind == EXCLUDE
+    else:
+        yield report[4:8], True
+
+
+def is_of_current_state(report):
+    """Whether a report may be one of a current state, which is an answer to a query."""
+    return report[0] != REPORT_3 or any(it.kind in CURRENT for it in records_of(report)[0])
+
+
+def report_of(group, source=None):
+    """Returns the report of a host of version 3 that wants a group, of all sources or of one."""
+    record = bytes([EXCLUDE, 0, 0, 0]) + group if source is None else bytes([1, 0, 0, 1]) + group + source
+    head = bytes([REPORT_3, 0]), bytes([0, 0, 0, 1])
+    return head[0] + sum_of(head[0] + bytes(2) + head[1] + record).to_bytes(2, "big") + head[1] + record

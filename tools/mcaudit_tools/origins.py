@@ -1,0 +1,127 @@
+"""Where the files of a set come from and how old they are: collected.json.
+
+Version 2 is `{"files": {NAME: {"by": KIND, "of": ROUTER or null, "time": SECONDS, "unchecked": [..]}}, "version": 2}`;
+version 1, which 0.2.0 wrote, has the time of each file alone.
+"""
+import calendar
+import dataclasses
+import json
+import os
+import re
+import time
+
+from mcaudit_tools.common import Failed
+from mcaudit_tools.files import read_regular
+
+FILE = "collected.json"
+MOST_BYTES = 16 << 20
+TABLES = "vif-", "cache-", "address-", "route-"
+MOST_SECONDS = 1 << 40
+AHEAD = 60  # seconds that a time may be later than now
+CHANGED = 2  # seconds that a file may be newer than its time says
+COLLECT, CAPTURE, STATIC, OPERATOR = "collect", "capture", "static", "operator"
+
+
+@dataclasses.dataclass
+class Origin:
+    """Where a file comes from: what made it, on which router, when, and what could not be checked of it."""
+
+    by: str
+    of: "str | None"
+    time: int
+    unchecked: list = dataclasses.field(default_factory=list)
+
+    def as_json(self):
+        """Returns it as collected.json has it."""
+        return {"by": self.by, "of": self.of, "time": self.time, **({"unchecked": self.unchecked} if self.unchecked else {})}
+
+
+class Unknown(Failed):
+    """A collected.json that says nothing of use."""
+
+
+def is_old_time(value):
+    """Whether it is a time as version 1 has it."""
+    return isinstance(value, str) and re.fullmatch(r"\d{4}-\d\d-\d\dT\d\d:\d\d:\d\dZ", value, re.ASCII) is not None
+
+
+def seconds_of(text):
+    """Returns the time of a text of version 1."""
+    return calendar.timegm(time.strptime(text, "%Y-%m-%dT%H:%M:%SZ"))
+
+
+def is_seconds(value):
+    """Whether it is a time in seconds."""
+    return isinstance(value, int) and not isinstance(value, bool) and 0 <= value <= MOST_SECONDS
+
+
+def origin_of(value):
+    """Reads an origin of version 2."""
+    by, of, when, unchecked = value["by"], value["of"], value["time"], value.get("unchecked", [])
+    if not isinstance(by, str) or not (of is None or isinstance(of, str)) or not is_seconds(when):
+        raise ValueError
+    if not isinstance(unchecked, list) or not all(isinstance(it, str) for it in unchecked):
+        raise ValueError
+    return Origin(by, of, when, unchecked)
+
+
+def old_origin(name, text):
+    """Returns what version 1 says of a file."""
+    prefix = next((it for it in TABLES if name.startswith(it)), None)
+    if prefix:
+        return Origin(COLLECT, name[len(prefix):], seconds_of(text))
+    return Origin(OPERATOR, None, seconds_of(text))
+
+
+def parse(data):
+    """Reads the text of a collected.json."""
+    try:
+        found = json.loads(data)
+        if found["version"] not in (1, 2) or isinstance(found["version"], bool):
+            raise Unknown("it is of a version that is not known")
+        if found["version"] == 1:
+            return {name: old_origin(name, it) for name, it in found["files"].items() if is_old_time(it)}
+        return {name: origin_of(it) for name, it in found["files"].items()}
+    except (ValueError, KeyError, TypeError, AttributeError, RecursionError, OverflowError) as fault:
+        raise Unknown("it is none that a tool wrote") from fault
+
+
+def read(folder, named=None):
+    """Returns what a folder's collected.json says of its files: nothing, where there is none. The folder has this name."""
+    path = os.path.join(folder, FILE)
+    try:
+        return parse(read_regular(path, MOST_BYTES)) if os.path.lexists(path) else {}
+    except Unknown as fault:
+        raise Unknown(f"{os.path.join(named or folder, FILE)}: {fault}") from fault
+
+
+def by_hand(path):
+    """Returns the origin of a file that nothing tells anything of."""
+    return Origin(OPERATOR, None, int(os.stat(path).st_mtime))
+
+
+def is_copy(folder, known):
+    """Whether the folder is a copy whose files have the times of copying: all that are told of are newer than told. A copy
+    is as old as what it copies."""
+    written = {name: os.stat(path).st_mtime for name, path in ((it, os.path.join(folder, it)) for it in known)
+               if os.path.isfile(path)}
+    return bool(written) and all(when > known[name].time + CHANGED for name, when in written.items())
+
+
+def current(path, origin, is_copied):
+    """Returns the origin of the file as it is now: where it is newer than told, somebody changed it by hand, unless the whole
+    folder is a copy."""
+    if origin is None or (os.stat(path).st_mtime > origin.time + CHANGED and not is_copied):
+        return by_hand(path)
+    return origin
+
+
+def keep_time(path, origin):
+    """Gives a file the time that is told of it, so that whoever changes it by hand is seen."""
+    os.utime(path, (origin.time, origin.time))
+
+
+def text_of(origins):
+    """Returns the text of a collected.json."""
+    files = {name: origin.as_json() for name, origin in sorted(origins.items())}
+    return json.dumps({"files": files, "version": 2}, sort_keys=True, separators=(",", ":")).encode() + b"\n"

@@ -1,0 +1,308 @@
+"""mcaudit-reports: writes what the hosts of one LAN answered to a General Query, in the form that mcaudit reads.
+
+That is the IGMP message of each report in hexadecimal, one a line (igmp-LAN). They are taken from a capture of tcpdump: of
+an interface, here or on a router, of a file, or of a recorded text.
+
+An empty list says that nobody wants anything, and a list that lacks a report says so of some: so nothing is given out
+before all of it was written, and an empty one only where it was asked for.
+"""
+import ipaddress
+import os
+import re
+import sys
+import time
+
+from mcaudit_tools import capture, igmp, origins, recording, ways
+from mcaudit_tools.common import Failed, Parser, say
+from mcaudit_tools.files import PIECE, open_regular, reason_of
+from mcaudit_tools.gather import gather_all, text_of, write_list
+from mcaudit_tools.live import Task, capture_list
+from mcaudit_tools.window import NO_LIST, REFUSED, SPOILT, WRITTEN, Gathering, List
+
+ABOUT = """Writes the IGMP reports of one LAN into a file or to standard output, in hexadecimal, one a line,
+as mcaudit reads them. They are those that come from the first General Query to the end of its
+answers' time.
+
+  INTERFACE        capture on this interface with tcpdump, and wait for the querier's next query"""
+MORE = """Reports of IGMP versions 1, 2 and 3 are written whole and unchanged. Queries, leaves and packets
+that aren't IGMP are left aside, and so is what receivers ignore: too short, or a wrong checksum, at
+most 8 packets of at most 2 senders. A report of a change (a host joined or left while the list was
+made) is named on standard error, and `mcaudit` answers StateChange. Then ask again. A fragment, or a
+packet that the capture cut or dropped, is named, and then no list is written, since it would lack a
+report. Nor is one where a second General Query came before the answers to the first were over, where
+the clock was set among them, or where nothing shows that the recording went on to the end of the
+answers: a later packet or a last line with the time does.
+
+A General Query counts that all hosts of the LAN hear and one of them may have sent: to 224.0.0.1 at
+its MAC, with TTL 1, from an address of the LAN's network, and with an answers' time of 1.0 to 25.5 s.
+The network is that of the interface; of a file or text it is what --network says. What was heard and
+didn't count is named with its reason. Frames of other VLANs never count.
+
+A report of IGMP version 1 or 2, and one of version 3 in EXCLUDE mode, asks for every source of its
+group. For a group of 232.0.0.0/8, which is source-specific (SSM), routers ignore it (RFC 4604): each
+such group is named on standard error, with how many such reports came. The list has them all the
+same, and mcaudit counts every listed flow of the group as wanted.
+
+An empty list says that no host of the LAN wants anything, and so does one that has no group but
+those that routers never forward (224.0.0.x), as the routers and switches themselves report them.
+Where nothing else came there is no list, unless --empty or --empty-lan says that this is so: see
+first that the switch shows reports here.
+
+Capture where all reports come by: on the LAN's multicast router, or on a switch port that it
+shows them to (a switch with IGMP snooping shows them to routers alone). Of a VLAN, name the
+interface of its own (eth0.20, and not eth0).
+
+A query of 0.0.0.0, which a switch sends in a querier's place, makes no port a router's port: it
+counts for none, unless --querier says so. Where any other query was heard nothing is asked.
+
+Statuses: 0 the list is written, 1 there is no list (no query came, no host answered, a report is
+missing, or the recording ends too early; with --all, of some LAN), 2 mcaudit would refuse the list
+(it is written to standard output, and not into FILE), 3 tcpdump failed, the list could not be
+written, or a signal ended it, 5 wrong words.
+
+Examples:
+  mcaudit-reports -o site/igmp-l1 eth1
+  mcaudit-reports -o site/igmp-l1 --by root@r1 eth1
+  mcaudit-reports -o site/igmp-l1 --capture l1.pcap --network 10.0.1.0/24
+  mcaudit-reports --all site --empty-lan core --tries 3 --routers routers --ssh 'ssh -l root'"""
+USAGE = """mcaudit-reports [option ...] [--by WAY] INTERFACE
+       mcaudit-reports [option ...] --capture FILE
+       mcaudit-reports [option ...] --text
+       mcaudit-reports [option ...] --static GROUP[,SOURCE] ...
+       mcaudit-reports [option ...] --all SITE [NAME=WAY ...]"""
+OPTIONS = [
+    ("--by", "WAY", "the interface is that of a router: HOST, USER@HOST or !COMMAND, as `mcaudit-collect --help` says; root "
+     "is needed there"),
+    ("--capture", "FILE", "read a capture file, pcap or pcapng"),
+    ("--text", None, "read a text on standard input, recorded with `tcpdump -n -tt -e -x`; a last line with the time alone "
+     "(`date +%%s`) says when the recording ended"),
+    ("--static", "GROUP[,SOURCE]", "put into the list what a host wants that can't be asked: all that is sent to GROUP, "
+     "or what SOURCE sends to it. Without an interface, FILE or text the list has such hosts alone, and nobody is asked"),
+    ("--all", "SITE", "gather the lists of all LANs of SITE/topology at once, as SITE/igmp-LAN: each on a router of the LAN, "
+     "or where that fails on its next one. The routers are given by NAME=WAY, as for mcaudit-collect. For --static say "
+     "LAN:GROUP[,SOURCE]. All lists come into SITE as one new set"),
+    ("-o", "FILE", "put the list into FILE, when it is whole and on the disk; with any other status than 0 FILE stays as "
+     "it is"),
+    ("--empty", None, "write the list though no host answered, or only for groups that routers never forward (224.0.0.x): "
+     "nobody on the LAN wants anything. With --all of every LAN, also of one whose hosts just weren't heard: name the LANs "
+     "by --empty-lan"),
+    ("--empty-lan", "LAN", "with --all, the same for this LAN alone; may be given again for another one"),
+    ("--ask", None, "where no query comes, ask: after --wait send two General Queries, of the interface's own address. "
+     "Routers may take it for the querier for 255 seconds, and a switch that snoops may keep streams from the LAN's other "
+     "routers meanwhile. With --all no LAN is asked that two routers of the topology lie on"),
+    ("--ask-routers", None, "with --all, ask on those LANs too"),
+    ("--tries", "N", "gather again where a host joined or left meanwhile, or a report was lost, 1 to 99 times in all (1)"),
+    ("--queries", "N", "gather the answers to so many queries of the same querier, one after the other, 1 to 3 (1): the list "
+     "is the last one's, and what an earlier one had beyond it is named"),
+    ("--wait", "SECONDS", "wait so long for a General Query, at most 9999 (260: after 255 seconds without one, by RFC 3376, "
+     "another router of the LAN would have taken over)"),
+    ("--slack", "SECONDS", "take answers that are so late, at most 99 (1)"),
+    ("--network", "PREFIX", "the LAN's network, as 10.0.1.0/24, whose addresses a query may come from; may be given again"),
+    ("--querier", "ADDRESS", "a query of this address counts too; may be given again"),
+    ("--interface", "NUMBER", "with --capture, the interface of a file that has several: its index, or its number in the file"),
+    ("--routers", "FILE", "take the routers of FILE too: NAME=WAY, a line each"),
+    ("--ssh", "COMMAND", "reach a HOST by `COMMAND HOST sh`")]
+REPEATED = "--static", "--empty-lan", "--routers", "--network", "--querier"
+
+
+# The arguments
+
+def read_arguments():
+    """Reads the arguments."""
+    parser = Parser(description=ABOUT, epilog=MORE, usage=USAGE)
+    for option, value, about in OPTIONS:
+        how = "append" if option in REPEATED else "store" if value else "store_true"
+        named = {"metavar": value} if value else {}
+        parser.add_argument(option, action=how, help=about, **named)
+    parser.add_argument("words", metavar="INTERFACE", nargs="*", help="an interface; with --all, NAME=WAY of routers")
+    parser.add_version()
+    found = parser.parse_intermixed_args()
+    check_numbers(parser, found)
+    check_sources(parser, found)
+    try:
+        take_statics(parser, found)
+        found.networks = [ipaddress.IPv4Network(it) for it in found.network or ()]
+        found.queriers = [ipaddress.IPv4Address(it).packed for it in found.querier or ()]
+        found.all_routers = ways.read_routers(found.ways, found.routers or [])
+        if found.by is not None:
+            ways.parse_router(f"router={found.by}")
+    except ValueError as fault:
+        parser.error(str(fault))
+    except ways.Wrong as fault:
+        parser.error(str(fault))
+    if found.ask and bytes(4) in found.queriers:
+        parser.error("--querier 0.0.0.0 goes without --ask")
+    return found
+
+
+def number(parser, text, most_digits, least, sentence):
+    """Reads a number of at most so many digits."""
+    if not (text.isascii() and text.isdigit() and len(text) <= most_digits and int(text) >= least):
+        parser.error(sentence)
+    return int(text)
+
+
+def check_numbers(parser, found):
+    """Reads the numbers."""
+    found.wait = number(parser, found.wait or "260", 4, 0, "--wait takes whole seconds, 0 to 9999")
+    found.slack = number(parser, found.slack or "1", 2, 0, "--slack takes whole seconds, 0 to 99")
+    found.tries = number(parser, found.tries or "1", 2, 1, "--tries takes 1 to 99")
+    found.queries = number(parser, found.queries or "1", 1, 1, "--queries takes 1 to 3")
+    if found.queries > 3:
+        parser.error("--queries takes 1 to 3")
+    if found.interface is not None:
+        found.interface = number(parser, found.interface, 9, 0, "--interface takes a number")
+    found.ask = found.ask or found.ask_routers
+
+
+def check_sources(parser, found):
+    """Sees that there is one source of reports, and that the options go with it."""
+    found.ways = [it for it in found.words if "=" in it]
+    interfaces = [it for it in found.words if "=" not in it]
+    if "any" in interfaces:
+        parser.error("a list is of one LAN: name its interface")
+    sources = [*interfaces, *[it for it in (found.capture, found.text or None, found.all) if it is not None]]
+    if len(sources) > 1 or not sources and not found.static:
+        parser.error("one interface, --capture FILE or --text is wanted")
+    found.device = interfaces[0] if interfaces else None
+    if found.o is not None and (not found.o or found.o.startswith("-")):
+        parser.error("-o wants a file")
+    if (found.ask or found.by is not None) and found.device is None and found.all is None:
+        parser.error("--ask and --by want an interface")
+    if found.all is not None and (found.o is not None or found.by is not None):
+        parser.error("--all takes no -o and no --by")
+    if found.all is None and found.ask_routers:
+        parser.error("--ask-routers goes with --all")
+    if found.all is None and found.empty_lan:
+        parser.error("--empty-lan goes with --all")
+    if "" in (found.empty_lan or ()):
+        parser.error("--empty-lan wants a LAN")
+
+
+def take_statics(parser, found):
+    """Makes the reports of the hosts that can't be asked, by LAN; without --all that is none."""
+    found.statics = {}
+    for word in found.static or ():
+        lan, is_lan, rest = word.partition(":")
+        if found.all is not None and not (is_lan and lan):
+            parser.error("--static with --all takes LAN:GROUP[,SOURCE]")
+        if found.all is None and is_lan:
+            parser.error("--static takes GROUP[,SOURCE]")
+        report = static_report(rest if is_lan else word)
+        if report is None:
+            parser.error(f"--static {word}: a group lies in 224.0.1.0 to 239.255.255.255, and a source is a host's address")
+        found.statics.setdefault(lan if is_lan else None, []).append(report)
+
+
+def static_report(word):
+    """Returns the report of a host of version 3 that wants GROUP[,SOURCE]; None where the word is none."""
+    parts = word.split(",")
+    if len(parts) > 2 or not all(re.fullmatch(r"[0-9]{1,3}(\.[0-9]{1,3}){3}", it) for it in parts):
+        return None
+    try:
+        group, *sources = (ipaddress.IPv4Address(it).packed for it in parts)
+    except ValueError:
+        return None
+    if not igmp.FIRST_FORWARDED <= group < bytes([240, 0, 0, 0]):
+        return None
+    if sources and (not 0 < sources[0][0] < 224 or sources[0][0] == 127):
+        return None
+    return igmp.report_of(group, *sources)
+
+
+# A list
+
+def file_list(task, path):
+    """Reads a capture file, once. Returns its list."""
+    decoder = capture.Decoder(task.words.interface)
+    gathering = Gathering(task.rules(None, False), task.say)
+    with open_regular(path) as file:
+        for piece in iter(lambda: file.read(PIECE), b""):
+            for frame in decoder.feed(piece):
+                if decoder.interface is None or frame.interface in (None, decoder.interface):
+                    gathering.take(frame)
+    decoder.finish()
+    if decoder.dropped:
+        task.say(f"{decoder.dropped} packets dropped, as the file says")
+        gathering.is_lost = True
+    found = task.list_of(gathering)
+    return marked(task, found, [])
+
+
+def text_list(task):
+    """Reads a recorded text on standard input. Returns its list."""
+    reader = recording.Recording()
+    gathering = Gathering(task.rules(None, False), task.say)
+    for line in recording.lines_of(sys.stdin.buffer):
+        frame = reader.take(line)
+        if frame is not None:
+            gathering.take(frame)
+    frame = reader.end()
+    if frame is not None:
+        gathering.take(frame)
+    found = task.list_of(gathering)
+    if reader.lacks_links and found.status in (WRITTEN, REFUSED):
+        task.say("the text has no link headers (tcpdump -e): it doesn't show that the query was sent to all hosts, or that "
+                 "nothing is of another VLAN")
+    return marked(task, found, ["link"] if reader.lacks_links else [])
+
+
+def marked(task, found, unchecked):
+    """Returns the list with what could not be checked of it: of a file or text the network, unless it was given."""
+    found.unchecked += [*unchecked, *([] if task.words.networks or task.words.queriers else ["network"])]
+    return found
+
+
+# What comes of a list
+
+def check_output(words):
+    """Sees that the list can go where it is wanted, as far as that shows before there is one."""
+    if words.o is None:
+        return
+    if os.path.lexists(words.o) and not os.path.isfile(words.o):
+        raise Failed(f"{words.o} is no plain file")
+    folder = os.path.dirname(words.o) or "."
+    if not os.path.isdir(folder) or not os.access(folder, os.W_OK):
+        raise Failed(f"{words.o} can't be written")
+
+
+def give(words, found, origin):
+    """Gives the list out, where its status lets it. Returns the status."""
+    if found.status in (NO_LIST, SPOILT):
+        return NO_LIST
+    data = text_of(found.messages)
+    if words.o is None:
+        try:
+            sys.stdout.buffer.write(data)
+            sys.stdout.buffer.flush()
+        except OSError as fault:
+            raise Failed(f"standard output can't be written: {reason_of(fault)}") from fault
+    elif found.status == WRITTEN:
+        write_list(words.o, data, origin)
+    return found.status
+
+
+def one_list(words):
+    """Makes one list of the source that the arguments name. Returns the status."""
+    check_output(words)
+    shell = ways.Router("router", words.by or "").shell(words.ssh or ways.SSH)
+    task = Task(words, shell, words.device, words.statics.get(None, []), say, is_empty_allowed=words.empty,
+                is_asking=words.ask)
+    if words.device is not None:
+        found = capture_list(task)
+    elif words.capture is not None:
+        found = file_list(task, words.capture)
+    elif words.text:
+        found = text_list(task)
+    else:
+        found = List(WRITTEN, task.statics, True)
+    by = origins.STATIC if found.is_decided else origins.CAPTURE
+    return give(words, found, origins.Origin(by, None, int(time.time()), found.unchecked))
+
+
+def main():
+    """Gathers one list, or those of all LANs. Returns the status."""
+    words = read_arguments()
+    if words.all is not None:
+        return gather_all(words)
+    return one_list(words)

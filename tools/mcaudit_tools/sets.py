@@ -1,0 +1,331 @@
+"""A site: the link SITE, the sets in SITE.sets to one of which it leads, and the locks beside it.
+
+What is there at one time is a set, a folder SITE.sets/TIME. SITE is a symbolic link to one, and a rename of a new link
+over it is all that ever changes it: it leads to the old set or to the new one, whole. Whoever makes a set copies what
+the last one has and swaps the link under the lock SITE.write.lock, and so does whoever writes a file into SITE: what is
+written comes into the set before it is copied, or into the new one.
+"""
+import contextlib
+import fcntl
+import os
+import re
+import shutil
+import stat
+import tempfile
+import time
+
+from mcaudit_tools import origins
+from mcaudit_tools.common import Failed
+from mcaudit_tools.files import reason_of, sync_files, sync_folder, write_beside
+from mcaudit_tools.programs import RUNNING
+
+PATIENCE = 10  # seconds that a lock is waited for
+SCRATCH = ".reading."  # what the folders are called in which sets are made
+OLD_SCRATCH = re.compile(r"\.reading\.[0-9]+")  # of 0.2.0, which locked none
+STALE = 3600  # seconds after which one of those is nobody's
+SET_NAME = re.compile(r"\d{8}T\d{6}Z", re.ASCII)
+NOT_CARRIED = origins.FILE, "audit.json"
+PLAIN_NAME = re.compile(r"[A-Za-z0-9_.-]+")  # of files that collected.json tells of
+
+
+class BadName(Failed):
+    """A site's path that names no folder."""
+
+    status = 5
+
+
+class Site:
+    """The link, the sets and the lock of one site."""
+
+    def __init__(self, path):
+        """Takes the path of the link."""
+        stripped = path.rstrip("/")
+        if os.path.basename(stripped) in ("", ".", ".."):
+            raise BadName("the site is wanted by its folder's name")
+        self.path = stripped if stripped.startswith(("/", "./", "../")) else f"./{stripped}"
+        self.sets = f"{self.path}.sets"
+
+    # The lock
+
+    @contextlib.contextmanager
+    def writing(self):
+        """Holds the lock of whoever writes into the site, which is waited for some seconds."""
+        with lock_file(f"{self.path}.write.lock") as opened:
+            until = time.monotonic() + PATIENCE
+            while not try_lock(opened):
+                if time.monotonic() >= until:
+                    raise Failed(f"{self.path}.write.lock is held by another run for {PATIENCE} s")
+                time.sleep(0.05)
+            yield
+
+    # What there is
+
+    def folder(self):
+        """Returns the real path of the set that the site leads to now: whoever names it has one moment's files."""
+        return os.path.realpath(self.path)
+
+    def check(self, may_adopt):
+        """Fails unless the site is a link to a set, or can become one."""
+        if os.path.islink(self.path):
+            if not os.path.isdir(self.path) or os.path.dirname(self.folder()) != os.path.realpath(self.sets):
+                raise Failed(f"{self.path} is no link to a set in {self.sets}")
+        elif os.path.isdir(self.path):
+            if not may_adopt:
+                raise Failed(f"{self.path} is a plain folder: --adopt makes it the first set")
+        elif os.path.lexists(self.path):
+            raise self.unwritable()
+
+    def unwritable(self, fault=None):
+        """Returns what tells that the site can't be written."""
+        reason = f": {reason_of(fault)}" if isinstance(fault, OSError) else ""
+        return Failed(f"{self.path} can't be written{reason}")
+
+    # What is made
+
+    @contextlib.contextmanager
+    def scratch(self):
+        """Gives a folder in which a set can be made, beside the sets. Those of dead runs are taken away first."""
+        made = None
+        is_new = not os.path.lexists(self.sets)
+        try:
+            os.makedirs(self.sets, exist_ok=True)
+            with self.writing():
+                self.clear_stale()
+                made = tempfile.mkdtemp(prefix=SCRATCH, dir=self.sets)
+                opened = os.open(made, os.O_RDONLY | os.O_DIRECTORY | os.O_CLOEXEC)
+                fcntl.flock(opened, fcntl.LOCK_EX)
+        except OSError as fault:
+            raise self.unwritable(fault) from fault
+        try:
+            yield made
+        finally:
+            shutil.rmtree(made, ignore_errors=True)
+            os.close(opened)
+            if is_new:
+                with contextlib.suppress(OSError):
+                    os.rmdir(self.sets)
+
+    def clear_stale(self):
+        """Removes the scratch folders that no live run has."""
+        for entry in list(os.scandir(self.sets)):
+            if not entry.name.startswith(SCRATCH) or not entry.is_dir(follow_symlinks=False):
+                continue
+            if OLD_SCRATCH.fullmatch(entry.name) and time.time() - entry.stat().st_mtime < STALE:
+                continue
+            opened = os.open(entry.path, os.O_RDONLY | os.O_DIRECTORY | os.O_CLOEXEC)
+            try:
+                if try_lock(opened):
+                    shutil.rmtree(entry.path, ignore_errors=True)
+            finally:
+                os.close(opened)
+
+    def adopt(self):
+        """Makes a plain folder the first set. Where the sets are on another disk it is copied there."""
+        with self.writing(), RUNNING.unheeded():
+            if os.path.islink(self.path) or not os.path.isdir(self.path):
+                self.check(True)
+                return
+            folder = self.free_folder()
+            moved = moved_links(self.path, folder)
+            try:
+                if os.stat(self.path).st_dev == os.stat(self.sets).st_dev:
+                    self.adopt_by_rename(folder, moved)
+                else:
+                    self.adopt_by_copy(folder, moved)
+            except (OSError, shutil.Error) as fault:
+                raise self.unwritable(fault) from fault
+
+    def adopt_by_rename(self, folder, moved):
+        """Moves the plain folder among the sets; where anything fails it is as it was."""
+        os.rename(self.path, folder)
+        try:
+            for name, (_, target) in moved.items():
+                replace_link(os.path.join(folder, name), target)
+            self.lead_to(os.path.basename(folder))
+        except BaseException:
+            for name, (target, _) in moved.items():
+                replace_link(os.path.join(folder, name), target)
+            os.rename(folder, self.path)
+            raise
+
+    def adopt_by_copy(self, folder, moved):
+        """Copies the plain folder among the sets, and puts the link in its place; it stays beside SITE until then."""
+        aside = tempfile.mkdtemp(prefix=f".{os.path.basename(self.path)[:80]}.", dir=os.path.dirname(self.path))
+        try:
+            shutil.copytree(self.path, folder, symlinks=True)
+            for name, (_, target) in moved.items():
+                replace_link(os.path.join(folder, name), target)
+            sync_files(folder)
+            os.rename(self.path, os.path.join(aside, "folder"))
+            try:
+                self.lead_to(os.path.basename(folder))
+            except BaseException:
+                os.rename(os.path.join(aside, "folder"), self.path)
+                raise
+        except BaseException:
+            shutil.rmtree(folder, ignore_errors=True)
+            raise
+        finally:
+            if os.path.lexists(self.path):
+                shutil.rmtree(aside, ignore_errors=True)
+
+    def free_folder(self):
+        """Returns the path of a new set, whose name is the time."""
+        while True:
+            path = os.path.join(self.sets, time.strftime("%Y%m%dT%H%M%SZ", time.gmtime()))
+            if not os.path.lexists(path):
+                return path
+            time.sleep(0.1)
+
+    def lead_to(self, name):
+        """Makes the site a link to the set of this name. The new link is made beside SITE, on its disk."""
+        folder, own = os.path.split(self.path)
+        made = tempfile.mkdtemp(prefix=f".{own[:80]}.", dir=folder)
+        try:
+            link = os.path.join(made, "link")
+            os.symlink(os.path.join(os.path.basename(self.sets), name), link)
+            os.replace(link, self.path)
+            sync_folder(folder)
+        finally:
+            shutil.rmtree(made, ignore_errors=True)
+
+    def publish(self, new, is_replaced, scratch, announce):
+        """Makes a set of the new files, {name: (path, origin)}, and of those of the last set that aren't replaced, and has
+        the site lead to it. Announces the set's path before that. Returns that path."""
+        made = os.path.join(scratch, "set")
+        with self.writing():
+            self.check(False)
+            try:
+                os.mkdir(made)
+                told = self.carry(made, lambda name: name in new or is_replaced(name))
+                for name, (path, origin) in new.items():
+                    os.rename(path, os.path.join(made, name))
+                    origins.keep_time(os.path.join(made, name), origin)
+                    told[name] = origin
+                with open(os.path.join(made, origins.FILE), "wb") as file:
+                    file.write(origins.text_of(told))
+                sync_files(made)
+                folder = self.free_folder()
+                announce(folder)
+                with RUNNING.unheeded():
+                    self.take_set(made, folder)
+            except OSError as fault:
+                raise self.unwritable(fault) from fault
+        return folder
+
+    def take_set(self, made, folder):
+        """Makes what was made a set, to which the site leads."""
+        os.rename(made, folder)
+        try:
+            sync_folder(self.sets)
+            self.lead_to(os.path.basename(folder))
+        except BaseException:
+            shutil.rmtree(folder, ignore_errors=True)
+            raise
+
+    def carry(self, made, is_replaced):
+        """Copies the other files of the last set into the one that is made. Returns where they come from."""
+        if not os.path.lexists(self.path):
+            return {}
+        last, known, told = self.folder(), {}, {}
+        with contextlib.suppress(origins.Unknown):
+            known = origins.read(last)
+        is_copied = origins.is_copy(last, known)
+        for name in sorted(os.listdir(last)):
+            if name.startswith(".") or name in NOT_CARRIED:
+                continue
+            path = os.path.join(last, name)
+            if is_replaced(name):
+                if os.path.isdir(path):
+                    raise Failed(f"{os.path.join(self.path, name)} is a folder")
+                continue
+            copy(path, os.path.join(made, name), os.path.join(self.path, name))
+            if PLAIN_NAME.fullmatch(name) and os.path.isfile(path):
+                told[name] = origins.current(path, known.get(name), is_copied)
+                if is_copied and not os.path.islink(path):
+                    origins.keep_time(os.path.join(made, name), told[name])
+        return told
+
+
+def copy(path, target, named):
+    """Copies a file, a link or a folder as it is; what leads nowhere or is neither is named."""
+    try:
+        kind = os.stat(path).st_mode
+    except OSError as fault:
+        raise Failed(f"{named} can't be read: {reason_of(fault)}") from fault
+    if os.path.islink(path):
+        os.symlink(os.readlink(path), target)
+    elif stat.S_ISDIR(kind):
+        shutil.copytree(path, target, symlinks=True)
+    elif stat.S_ISREG(kind):
+        shutil.copy2(path, target)
+    else:
+        raise Failed(f"{named} is no regular file")
+
+
+def moved_links(folder, place):
+    """Returns the old and the new target of each relative link in the folder, which is to lead from another place to where
+    it leads."""
+    found = {}
+    at = os.path.join(os.path.realpath(os.path.dirname(place)), os.path.basename(place))
+    for entry in os.scandir(folder):
+        if entry.is_symlink():
+            if not os.path.exists(entry.path):
+                raise Failed(f"{entry.path} leads nowhere")
+            target = os.readlink(entry.path)
+            if not os.path.isabs(target):
+                found[entry.name] = target, os.path.relpath(os.path.join(os.path.realpath(folder), target), at)
+    return found
+
+
+def replace_link(path, target):
+    """Makes the link lead to another target."""
+    os.unlink(path)
+    os.symlink(target, path)
+
+
+@contextlib.contextmanager
+def lock_file(path):
+    """Gives the descriptor of a lock's file, which is made where it isn't there."""
+    try:
+        try:
+            opened = os.open(path, os.O_RDWR | os.O_CREAT | os.O_NOFOLLOW | os.O_CLOEXEC | os.O_NONBLOCK, 0o644)
+        except PermissionError:
+            opened = os.open(path, os.O_RDONLY | os.O_NOFOLLOW | os.O_CLOEXEC | os.O_NONBLOCK)
+    except OSError as fault:
+        raise Failed(f"{path} can't be locked: {reason_of(fault)}") from fault
+    try:
+        yield opened
+    finally:
+        os.close(opened)
+
+
+def try_lock(opened):
+    """Takes the lock of an open file or folder for this program alone. Returns whether it could."""
+    try:
+        fcntl.flock(opened, fcntl.LOCK_EX | fcntl.LOCK_NB)
+    except BlockingIOError:
+        return False
+    return True
+
+
+def site_of(folder):
+    """Returns the site that a folder is, by its path: a link to a set, or what has a topology; else None."""
+    is_site = os.path.islink(folder.rstrip("/")) or os.path.lexists(os.path.join(folder, "topology"))
+    if not is_site or os.path.basename(folder.rstrip("/")) in ("", ".", ".."):
+        return None
+    return Site(folder)
+
+
+def record(folder, told):
+    """Notes in a site's folder where some of its files come from, and gives them that time. The lock is held."""
+    known = {}
+    with contextlib.suppress(origins.Unknown):
+        known = origins.read(folder)
+    if origins.is_copy(folder, {name: it for name, it in known.items() if name not in told}):
+        for name, origin in known.items():
+            with contextlib.suppress(FileNotFoundError):
+                origins.keep_time(os.path.join(folder, name), origin)
+    for name, origin in told.items():
+        origins.keep_time(os.path.join(folder, name), origin)
+    write_beside(os.path.join(folder, origins.FILE), origins.text_of({**known, **told}))

@@ -1,0 +1,86 @@
+"""The topology of a site: its routers, LANs and interfaces, whose names are checked before anything is made of them."""
+import dataclasses
+import os
+import re
+
+from mcaudit_tools.common import Failed, is_name
+from mcaudit_tools.files import read_regular
+
+MOST_BYTES = 16 << 20
+DEVICE = re.compile(r"[^\s/\x00-\x20\x7f]{1,15}")  # as the kernel has it
+
+
+class NoReader(Failed):
+    """This Python reads no TOML."""
+
+    def __init__(self):
+        """Takes nothing."""
+        super().__init__("a topology is read by python3 of 3.11 or later")
+
+
+@dataclasses.dataclass
+class Topology:
+    """What a topology lists, in its order."""
+
+    routers: list
+    lans: list
+    interfaces: list  # (LAN, router, device) each
+
+
+def read_toml(folder, named):
+    """Returns the topology of a folder as a table; what is wrong with it is told by the name of the site."""
+    path, named = os.path.join(folder, "topology"), os.path.join(named, "topology")
+    try:
+        import tomllib  # type: ignore  # pylint: disable=import-outside-toplevel
+    except ImportError as fault:
+        raise NoReader from fault
+    data = read_regular(path, MOST_BYTES, named)
+    try:
+        return tomllib.loads(data.decode())
+    except RecursionError as fault:
+        raise Failed(f"{named} can't be read: it is nested too deep") from fault
+    except ValueError as fault:  # of UTF-8, of TOML, or a number of too many digits
+        raise Failed(f"{named} can't be read: {fault}") from fault
+
+
+def tables_of(path, topology, key):
+    """Returns the list of tables that the topology has under the key."""
+    found = topology.get(key, [])
+    if not isinstance(found, list) or not all(isinstance(it, dict) for it in found):
+        raise Failed(f"{path}: {key} is no list of tables")
+    return found
+
+
+def checked_name(path, kind, name):
+    """Returns the name, where mcaudit would take it."""
+    if not is_name(name):
+        raise Failed(f"{path}: {name!r} is no name of a {kind}")
+    return name
+
+
+def checked_device(path, name):
+    """Returns the name of a device, where the kernel would take it."""
+    if not isinstance(name, str) or not DEVICE.fullmatch(name):
+        raise Failed(f"{path}: {name!r} is no name of a device")
+    return name
+
+
+def read_topology(folder, named):
+    """Reads the topology of a folder, which is that of the site of this name."""
+    topology, path = read_toml(folder, named), os.path.join(named, "topology")
+    lans = topology.get("lans", [])
+    if not isinstance(lans, list):
+        raise Failed(f"{path}: lans is no list")
+    interfaces = [(checked_name(path, "LAN", it.get("lan")), checked_name(path, "router", it.get("router")),
+                   checked_device(path, it.get("device"))) for it in tables_of(path, topology, "interface")]
+    return Topology(router_names(path, topology), [checked_name(path, "LAN", it) for it in lans], interfaces)
+
+
+def router_names(path, topology):
+    """Returns the names of the routers that a topology lists."""
+    return [checked_name(path, "router", it.get("name")) for it in tables_of(path, topology, "router")]
+
+
+def read_routers(folder, named):
+    """Returns the names of the routers that a folder's topology lists, whatever else it has."""
+    return router_names(os.path.join(named, "topology"), read_toml(folder, named))

@@ -1,0 +1,72 @@
+"""Routers and the ways to them: NAME=WAY, in arguments and in files of them."""
+import dataclasses
+import os
+import re
+import signal
+
+from mcaudit_tools.common import Failed, name_fault
+from mcaudit_tools.files import read_regular
+
+SSH = "ssh -o BatchMode=yes -o ConnectTimeout=10"
+MOST_BYTES = 1 << 20  # of a file of routers
+HOST = re.compile(r"[A-Za-z0-9@:_.%][A-Za-z0-9@:_.%-]*")
+COMMAND = re.compile(r"!.+", re.DOTALL)
+
+
+class Wrong(Failed):
+    """What is wrong with an argument."""
+
+    status = 5
+
+
+@dataclasses.dataclass
+class Router:
+    """A router's name, and the way to it: a host, nothing for this machine, or `!` and a command."""
+
+    name: str
+    way: str
+
+    def shell(self, ssh):
+        """Returns the arguments of the program that runs a shell on the router."""
+        if self.way.startswith("!"):
+            return ["sh", "-c", f"{self.way[1:]} sh"]
+        return ["sh", "-c", f"{ssh} {self.way} sh"] if self.way else ["sh"]
+
+
+def parse_router(word):
+    """Reads NAME=WAY."""
+    name, is_way, way = word.partition("=")
+    if not is_way:
+        raise Wrong(f"{word} is no NAME=WAY")
+    fault = name_fault(name)
+    if fault:
+        raise Wrong(f"{word}: {fault}")
+    if way and not COMMAND.fullmatch(way) and not HOST.fullmatch(way):
+        raise Wrong(f"{word}: the way is no host and no !COMMAND")
+    return Router(name, way)
+
+
+def words_of_file(path):
+    """Returns the lines of a file of routers that are none of its comments."""
+    lines = os.fsdecode(read_regular(path, MOST_BYTES)).split("\n")
+    return [it for it in lines if it and not it.startswith("#")]
+
+
+def read_routers(words, files):
+    """Returns the routers of the arguments and of the files, of which no name comes twice."""
+    routers = [parse_router(it) for it in [*words, *(line for path in files for line in words_of_file(path))]]
+    names = [it.name for it in routers]
+    for number, name in enumerate(names):
+        if name in names[:number]:
+            raise Wrong(f"{name} is given twice")
+    return routers
+
+
+def become_shell(router, ssh):
+    """Becomes the shell on the router, with this standard input and output."""
+    signal.signal(signal.SIGPIPE, signal.SIG_DFL)
+    words = router.shell(ssh)
+    try:
+        os.execvp(words[0], words)
+    except OSError as fault:
+        raise Failed(f"{words[0]} can't be run: {fault.strerror}") from fault

@@ -28,7 +28,7 @@ that such a check says nothing of is tried alone, in a whole copy. Two lines mor
 WHICH is one of these:
 
   NAME           the clause `ensures NAME` of the function, or that of its trait: the goals whose names
-                 begin with `returns` and have `-clause-NAME`
+                 begin with `returns` and have `-clause-NAME`, or no `-clause-` where it is the only one
   returns        the one clause of the function, where it has no name: the goals whose names begin with
                  `returns` and have no `-clause-`
   requires-NAME  the clause `requires NAME` of a function that it calls: the goals whose names have
@@ -123,12 +123,12 @@ def function_around(path, text, first, last):
 
 
 def clauses_of(folder, function):
-    """Returns the names of a function's clauses, but none that its trait has."""
+    """Returns the names of a function's clauses, "" for one that has none, but no clause that its trait has."""
     for file in (it for it in files_of(folder) if it.startswith(f"{folder}/src/")):
         text = text_of(file)
         if found := standing(os.path.relpath(file, folder), text, function):
             head, body = found
-            return re.findall(r"^ *ensures (\w+) {", text[head.start():body[0]], re.M)
+            return re.findall(r"^ *ensures(?: (\w+))? {", text[head.start():body[0]], re.M)
     return []
 
 
@@ -248,6 +248,7 @@ class Edit:
         said = {key: value.strip() for key, _, value in lines if key in ("fn", "clause")}
         hit = changed_functions(crate.folder, texts) if texts else {""}
         self.clause, self.is_alone = said.get("clause"), None in hit or len(hit) > 1
+        self.asked = [self.clause] if self.clause else []  # whose goals refuse it
         self.function, self.places = f"{crate.name}::{said.get('fn') or next(iter(hit), None)}", hit
         self.twin = ""  # how the name ends of the twin that it changes, if it changes one
         self.may_be_twin = not self.is_alone and "fn" not in said and len(texts or ()) == 1
@@ -258,8 +259,16 @@ class Edit:
             self.fault = "it changes a file outside of src/ and specs/"
         elif self.is_alone and "fn" not in said:
             self.fault = "it changes not one body alone: name the function in a line 'fn: PATH'"
-        elif self.clause == "returns" and (names := clauses_of(crate.folder, self.function.partition("::")[2])):
+        elif self.clause:
+            self.ask_of(clauses_of(crate.folder, self.function.partition("::")[2]))
+
+    def ask_of(self, clauses):
+        """Sees whose goals refuse it, of a function with these clauses: the goals of the only one have no name."""
+        names = [it for it in clauses if it]
+        if self.clause == "returns" and names:
             self.fault = f"its function has clauses with names: {', '.join(names)}"
+        elif [self.clause] == clauses:
+            self.asked.append("returns")
 
     def tried(self):
         """Returns the prover's name for the function that a check tries it on."""
@@ -295,12 +304,12 @@ class Said:
             if found
         ]
 
-    def refused_goals(self, function, clause=None):
+    def refused_goals(self, function, clauses=()):
         """Returns the goals of a function, or of a closure in it, that were not proved.
 
-        Given a clause, returns only those of this clause, none of them in a closure."""
+        Given clauses, returns only those of these clauses, none of them in a closure."""
         goals, has_gone = [], False
-        is_asked = (lambda name: name == function) if clause else (lambda name: is_within(name, function))
+        is_asked = (lambda name: name == function) if clauses else (lambda name: is_within(name, function))
         for path, goal, why in self.errors:
             if is_asked("::".join([function.partition("::")[0], *path.split("/")[1:-1]])):
                 is_gone = GONE.search(re.sub(r"`[^`]*`", "``", why))
@@ -312,7 +321,7 @@ class Said:
                 goals += re.findall(r"`([^`]*)`", found[1]) if found else []
                 # (where an answer names what is gone, another goal may be open for that alone)
                 goals += [] if has_gone else self.notes[name]
-        return [it for it in dict.fromkeys(goals) if not clause or is_of_clause(it, clause)]
+        return [it for it in dict.fromkeys(goals) if not clauses or any(is_of_clause(it, which) for which in clauses)]
 
     def has_stray_errors(self, edits):
         """Returns whether an error stands elsewhere than in the proofs of the functions that edits change."""
@@ -322,7 +331,7 @@ class Said:
 
     def refusal(self, edit):
         """Returns the goals that refuse an edit as it asks, in a few words, or nothing."""
-        return ", ".join(self.refused_goals(edit.tried(), edit.clause))[:150]
+        return ", ".join(self.refused_goals(edit.tried(), edit.asked))[:150]
 
     def why_not(self, edit):
         """Says why an edit that was tried alone is not refused."""
@@ -595,7 +604,7 @@ new:         Mode::Include
 clause: returns
 file: src/filter.rt
 old:         self.mode
-new:         [self.mode][self.sources.len()]
+new:         { let _first = &self.sources[0]; self.mode }
 == returns_beside_names: BAD EDIT: its function has clauses with names: value, ascending
 clause: returns
 file: src/filter.rt

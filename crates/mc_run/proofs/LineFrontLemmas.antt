@@ -91,7 +91,7 @@ pub front_known : {V E : Type 0} (items : V → List ℕ) (told : Option (List F
     → IfSome told (λ files. (bytes : List ℕ) × (file_named files name ≡ Some bytes) × (left ≡ Some bytes))
     → IfOk r (λ found. IfSome found (λ front. length (items front) ≤ 100))
     → ((text : List ℕ) → left ≡ Some text
-        → IfOk r (λ found. IfSome found (λ front. items front ≡ line_front line (take 16777216 text))))
+    → IfOk r (λ found. IfSome found (λ front. items front ≡ line_front line (take 16777216 text))))
     → IfOk r (λ found. IfSome (option_map items found) (IsFrontIn told name line))
 front_known items told left name line (Err fault) opened few known = tt
 front_known items told left name line (Ok None) opened few known = tt

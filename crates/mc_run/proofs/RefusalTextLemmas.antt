@@ -123,7 +123,7 @@ pub refusal_text : (names : List (List ℕ)) (told other : Option (List FileText
     (before middle after : ℕ) (old text : List ℕ) → other ≡ told → old ≡ []
     → ((files : List FileText) → told ≡ Some files → AreRefused names files (map seen refused))
     → ((files : List FileText) → told ≡ Some files → AreMissing files (map seen refused)
-        → map seen refused ≡ refused_of names files)
+    → map seen refused ≡ refused_of names files)
     → middle ≡ failures_with (unread_count (map seen refused)) before
     → Adds (AreFirstLines other refused) old text middle after → IsRefusalText names told before after text
 refusal_text names told other refused before middle after old text same none listed exact unread adds = record {

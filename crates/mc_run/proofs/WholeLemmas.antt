@@ -1,7 +1,7 @@
 -- What an audit finds with routers left out is so in the whole domain too.
-use Rattle.std.proofs.Common.{◌≡◌, ◌≤◌, ◌<◌, ℕ, inl, inr, Bool, false, List, [], length, refl, arith}
-use Rattle.std.proofs.Common.{Option, Some, Result, ap, ◌∙◌, subst, sym}
-use Rattle.std.specs.Prelude.{◌⊎◌, map, slice_get}
+use Rattle.std.proofs.Common.{◌≡◌, ◌≤◌, ◌<◌, ℕ, inl, inr, Bool, false, List, [], length, arith}
+use Rattle.std.proofs.Common.{Option, Result, ◌∙◌, subst, sym}
+use Rattle.std.specs.Prelude.{◌⊎◌, map}
 use Rattle.std.proofs.lemmas.List.{length-map}
 use Rattle.std.proofs.lemmas.Option.{slice_get_within}
 use Rattle.mc_layout.specs.Files.{FileText}
@@ -16,19 +16,18 @@ use Rattle.mc_cert.specs.Certificate.{Tree}
 use Rattle.mc_replay.specs.FindingValues.{finding_value}
 use Rattle.mc_replay.specs.declared.travel.Travel.{Travel}
 use Rattle.mc_maker.specs.Examined.{IfFound, IsTravelOfFirst}
-use Rattle.mc_maker.specs.Flown.{IsFlown, examined_by}
+use Rattle.mc_maker.specs.Flown.{examined_by}
 use Rattle.mc_maker.specs.declared.examination.Examined.{Examined}
 use Rattle.mc_maker.specs.declared.examination.Examined.TheVariants as examined
 use Rattle.mc_maker.specs.declared.flown.Flown.{Flown}
 use Rattle.mc_maker.specs.declared.flown.Flown.TheVariants.{Certified, AtGreatest, AtLeast}
 use Rattle.mc_explain.specs.WantedText.{wanting}
-use Rattle.mc_domain.specs.LeftOut.{is_left_out, left_out_files}
+use Rattle.mc_domain.specs.LeftOut.{is_left_out}
 use Rattle.mc_domain.specs.Meaning.{MeansFiles}
 use Rattle.mc_domain.proofs.PartLemmas.{leaves_out}
 use Rattle.mc_run.specs.AuditEnd.{FlowAnswer, begin_lines, end_lines}
-use Rattle.mc_run.specs.AuditReasons.{IsExplanation}
 use Rattle.mc_run.specs.AuditRun.{AreFoundInWhole, FindsInWhole, IsAnswer, IsAudited, IsAuditText}
-use Rattle.mc_run.specs.AuditRun.{IsChecked, IsFoundInWhole, MeansNoted, NotedValue, SaysWhatIsFound}
+use Rattle.mc_run.specs.AuditRun.{IsChecked, IsFoundInWhole, MeansNoted, NotedValue}
 use Rattle.mc_run.specs.AuditRun.{SaysYesOf, is_whole, left_out}
 use Rattle.mc_run.specs.AuditText.{Explanation}
 use Rattle.mc_run.specs.AuditTold.{answer_lines}

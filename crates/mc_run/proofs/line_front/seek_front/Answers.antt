@@ -63,8 +63,8 @@ reading-preserved g c =
             next.0,
             next.1,
             ap (λ n. front_if c.take.new.self (take (c.reading.left - n) next.0)) (sym count)
-            ∙ found_behind_piece c.args.sought.now c.reading.sought c.reading.left so_far.0
-            (take 16777216 text) so_far.2 c.take.new.self piece next.0 c.in-Ok-false.field-0
-            (omega (arith, taken, c.in-Ok.ensures.bound.0)) next.2 c.in-Ok-false.field-0-test takes,
+                ∙ found_behind_piece c.args.sought.now c.reading.sought c.reading.left so_far.0
+                (take 16777216 text) so_far.2 c.take.new.self piece next.0 c.in-Ok-false.field-0
+                (omega (arith, taken, c.in-Ok.ensures.bound.0)) next.2 c.in-Ok-false.field-0-test takes,
           );
     }

@@ -1,5 +1,5 @@
-use Rattle.std.proofs.Common.{◌≡◌, ℕ, List, map, ap, subst, sym}
-use Rattle.mc_run.specs.TaskRuns.{IsAnswered, names_of, options_of}
+use Rattle.std.proofs.Common.{◌≡◌, ℕ, List, map, ap, subst}
+use Rattle.mc_run.specs.TaskRuns.{IsAnswered, names_of}
 use Rattle.mc_run.specs.declared.audit_options.AuditOptions.{AuditOptions}
 use Rattle.mc_run.proofs.task_files.audit_as_asked.Goals as goal
 

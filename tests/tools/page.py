@@ -23,6 +23,7 @@ import re
 import subprocess
 import sys
 import tempfile
+import types
 
 sys.dont_write_bytecode = True
 HERE = os.path.dirname(os.path.abspath(__file__))
@@ -48,9 +49,12 @@ HOSTILE = ["<script>alert(1)</script>", "</script><img src=x onerror=alert(1)>",
 
 
 def loaded_tool():
-    """The tool as a module."""
+    """The names of the tool's modules."""
     sys.path.insert(0, os.path.join(TOP, "tools"))
-    return importlib.import_module("mcaudit_tools.page")
+    found = {}
+    for name in ("answer", "collected", "graph", "render"):
+        found.update(vars(importlib.import_module(f"mcaudit_tools.page.{name}")))
+    return types.SimpleNamespace(**found)
 
 
 class Read(html.parser.HTMLParser):

@@ -459,7 +459,7 @@ if [ -z "$wanted_cases" ]; then
         "$here"/commands
     run_apart pylint pylint check_python
     run_apart mypy mypy mypy --python-version 3.9 --cache-dir "$scratch/mypy" "$tools/mcaudit_tools"
-    run_apart script node node --check "$tools/mcaudit_tools/page.js"
+    run_apart script node node --check "$tools/mcaudit_tools/page/page.js"
 fi
 for other in dash bash busybox python3; do
     command -v "$other" > /dev/null || echo "failed: $other, which is not there" > "$scratch/results/$other"

@@ -70,6 +70,15 @@ def sync_files(folder):
 
 
 @contextlib.contextmanager
+def printing():
+    """Tells that standard output can't be written, where that fails here."""
+    try:
+        yield
+    except OSError as fault:
+        raise Failed(f"standard output can't be written: {reason_of(fault)}") from fault
+
+
+@contextlib.contextmanager
 def beside(path, mode=None):
     """Gives a file beside the path, or what a link there leads to, to be written. At the end it is put on the disk and
     renamed; where anything fails, the path stays as it was, and nothing is left."""

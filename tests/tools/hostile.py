@@ -412,6 +412,28 @@ head -c 20000000 /dev/zero | tr '\\0' x; printf '.\\n%s table igmp 1\\n.\\n%s en
     assert not os.path.exists(place.at("site/cache-r1"))
 
 
+@case
+def packet_without_end(place):
+    """It is refused as soon as it is longer than any packet of IPv4."""
+    begun = time.monotonic()
+    status, lines = place.reports("--text", text=b"1.5 IP\n" + b"\t0x0001:  00\n" * 2000000)
+    assert status == 3 and lines is None and "a packet of more than 65535 bytes" in place.said, (status, place.said)
+    assert time.monotonic() - begun < 20
+
+
+@case
+def signals_after_what_failed(_):
+    """A signal is heeded again behind steps that no signal may part, even where one of them failed."""
+    script = """from mcaudit_tools.programs import RUNNING
+RUNNING.grace = 7
+try:
+    with RUNNING.unheeded():
+        raise OSError
+except OSError:
+    assert not RUNNING.is_unheeded and RUNNING.grace == 7"""
+    subprocess.run([sys.executable, "-c", script], env={**os.environ, "PYTHONPATH": TOOLS}, check=True)
+
+
 # The same router twice, and those that no topology has
 
 @case

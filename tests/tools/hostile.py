@@ -1,6 +1,6 @@
 #!/usr/bin/env python3
-"""Tries the tools with what hosts, routers, names and other runs may do to them: none of it may end in a false yes, in a
-list that isn't the LAN's, in foreign code, in a wait without end, or in something lost.
+"""Tries the tools with what hosts, routers, names and other runs may do to them: none of it may end in a false yes, in
+a list that isn't the LAN's, in foreign code, in a wait without end, or in something lost.
 
   python3 tests/tools/hostile.py [CASE ...]
 
@@ -186,7 +186,8 @@ def clock_that_was_set(place):
 @case
 def frames_of_other_vlans(place):
     """They never count; those that have a priority alone do."""
-    frames = [(-5, p.frame(p.asked("10.0.1.9", 10), vlan=20)), (-4.5, p.frame(p.wanted("10.0.1.8", "239.9.9.9"), vlan=20)),
+    frames = [(-5, p.frame(p.asked("10.0.1.9", 10), vlan=20)),
+              (-4.5, p.frame(p.wanted("10.0.1.8", "239.9.9.9"), vlan=20)),
               *framed(*GOOD[:2]), (2, p.frame(p.wanted("10.0.1.6", "239.2.2.2"), vlan=0xE000)), *framed(GOOD[2])]
     assert place.captured(frames) == (0, [*LISTED, p.wants("239.2.2.2").hex()]), place.said
 

@@ -153,7 +153,8 @@ def audit_of(objects):
 def judged(path):
     """Returns what mcaudit says of the set that the folder leads to now. What it refuses it has told by itself."""
     folder = os.path.realpath(path)
-    status, objects = audits.run_audit([find_tool("mcaudit"), "audit", "--json", "--unlisted", folder], f"{path}: mcaudit")
+    command = [find_tool("mcaudit"), "audit", "--json", "--unlisted", folder]
+    status, objects = audits.run_audit(command, f"{path}: mcaudit")
     if status not in (0, 1) and not os.path.isdir(folder):
         raise Failed(f"{path}: the set was removed meanwhile")
     if status == 2:

@@ -54,8 +54,7 @@ def address_word(word, order):
     """Returns the address that the kernel prints as a number of its machine, or None."""
     if not re.fullmatch(rb"[0-9A-Fa-f]{8}", word):
         return None
-    octets = bytes.fromhex(word.decode())
-    return ipaddress.IPv4Address(octets[::-1] if order == "little" else octets)
+    return ipaddress.IPv4Address(int(word, 16).to_bytes(4, order))
 
 
 def told_address(local, peer, prefix):

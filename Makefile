@@ -10,9 +10,9 @@
 # make lab        from routers to a verdict and a page, and each kind of fault to its remedy, in network namespaces (it
 #                 needs root; the file `packages` says what else); PAGES=FOLDER keeps the pages there
 # make page-test  tries the page of mcaudit-page in a headless Chromium; PICTURES=FOLDER writes pictures of it there
-# make install    puts the program and its tools into $(PREFIX)/bin, what the tools share, the manual page and the
-#                 completions for bash, zsh and fish into $(PREFIX)/share, and the units of systemd and their user into $(PREFIX)/lib;
-#                 ZSH=FOLDER is where zsh looks for functions
+# make install    puts the program and its tools into $(PREFIX)/bin, what the tools share, the manual pages and the
+#                 completions for bash, zsh and fish into $(PREFIX)/share, and the units of systemd and their user into
+#                 $(PREFIX)/lib; ZSH=FOLDER is where zsh looks for functions
 # make uninstall  takes them away again
 # make dist       makes out/mcaudit-VERSION.tar.gz, the source, and out/mcaudit-VERSION-linux-x86_64.tar.gz, what
 #                 `make install` installs
@@ -27,6 +27,7 @@ UNITS = $(DESTDIR)$(PREFIX)/lib/systemd/system
 BASH_COMPLETIONS = $(DESTDIR)$(PREFIX)/share/bash-completion/completions
 FISH_COMPLETIONS = $(DESTDIR)$(PREFIX)/share/fish/vendor_completions.d
 PACKAGE = $(DESTDIR)$(PREFIX)/share/mcaudit
+PAGES_OF_MANUAL = $(DESTDIR)$(PREFIX)/share/man/man1
 ZSH = $(PREFIX)/share/zsh/site-functions
 # a word of the shell, whatever is in it
 quoted = '$(subst ','\'',$(1))'
@@ -77,7 +78,8 @@ install: $(PROGRAM)
 	install -D -m 644 tools/systemd/mcaudit-monitor.timer $(call quoted,$(UNITS)/mcaudit-monitor.timer)
 	install -D -m 644 tools/systemd/mcaudit-monitor.service $(call quoted,$(UNITS)/mcaudit-monitor.service)
 	python3 -I packaging/unit_prefix.py $(call quoted,$(UNITS)/mcaudit-monitor.service) $(call quoted,$(PREFIX))
-	install -D -m 644 docs/mcaudit.1 $(call quoted,$(DESTDIR)$(PREFIX)/share/man/man1/mcaudit.1)
+	for name in mcaudit $(TOOLS); do \
+		install -D -m 644 "docs/$$name.1" $(call quoted,$(PAGES_OF_MANUAL))/"$$name.1" || exit 1; done
 	install -D -m 644 tools/mcaudit.bash $(call quoted,$(BASH_COMPLETIONS)/mcaudit)
 	install -D -m 644 tools/mcaudit.fish $(call quoted,$(FISH_COMPLETIONS)/mcaudit.fish)
 	install -D -m 644 tools/mcaudit.zsh $(call quoted,$(DESTDIR)$(ZSH)/_mcaudit)
@@ -88,10 +90,9 @@ install: $(PROGRAM)
 uninstall:
 	for name in mcaudit $(TOOLS); do rm -f $(call quoted,$(DESTDIR)$(PREFIX)/bin)/"$$name" \
 		$(call quoted,$(BASH_COMPLETIONS))/"$$name" \
-		$(call quoted,$(FISH_COMPLETIONS))/"$$name.fish" || exit 1; done
+		$(call quoted,$(FISH_COMPLETIONS))/"$$name.fish" $(call quoted,$(PAGES_OF_MANUAL))/"$$name.1" || exit 1; done
 	rm -rf $(call quoted,$(PACKAGE)/mcaudit_tools)
-	rm -f $(call quoted,$(DESTDIR)$(PREFIX)/share/man/man1/mcaudit.1) \
-		$(call quoted,$(DESTDIR)$(PREFIX)/lib/sysusers.d/mcaudit.conf) $(call quoted,$(DESTDIR)$(ZSH)/_mcaudit) \
+	rm -f $(call quoted,$(DESTDIR)$(PREFIX)/lib/sysusers.d/mcaudit.conf) $(call quoted,$(DESTDIR)$(ZSH)/_mcaudit) \
 		$(call quoted,$(UNITS)/mcaudit-monitor.timer) $(call quoted,$(UNITS)/mcaudit-monitor.service)
 
 dist: $(PROGRAM)

@@ -9,7 +9,7 @@ trap 'rm -rf "$room"' EXIT
 chmod 755 "$room"
 mkdir -p out "$room/DEBIAN" "$room/usr/share/doc/mcaudit"
 make -s install DESTDIR="$room" PREFIX=/usr ZSH=/usr/share/zsh/vendor-completions
-gzip -9n "$room/usr/share/man/man1/mcaudit.1"
+gzip -9n "$room"/usr/share/man/man1/*.1
 cp README.md docs/GUIDE.md docs/FORMATS.md docs/PROMISES.md docs/audit.schema.json "$room/usr/share/doc/mcaudit"
 gzip -9n < CHANGELOG.md > "$room/usr/share/doc/mcaudit/changelog.gz"
 {

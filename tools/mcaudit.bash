@@ -45,7 +45,8 @@ _mcaudit_tool() {
         --all) kind=directory ;;
         --readings | --pause | --timeout | --at-once | --ssh | --wait | --slack \
         | --queries | --network | --querier | --interface) return ;;
-        --tries | --static | --empty-lan | --by | --shell | --ttl | --measure | --count | --tenths | --without) return ;;
+        --tries | --static | --empty-lan | --by | --shell | --ttl | --measure | --count | --tenths \
+        | --without) return ;;
         --keep | --warn-age | --warn-reports | --label) return ;;
     esac
     case $word in
@@ -100,8 +101,8 @@ _mcaudit_site() {
 
 _mcaudit_reports() {
     _mcaudit_tool "${COMP_WORDS[COMP_CWORD]}" "${COMP_WORDS[COMP_CWORD - 1]}" file \
-        -o --by --capture --text --static --all --empty --empty-lan --ask --ask-routers --tries --queries --wait --slack --network --querier --interface \
-        --routers --ssh --version --help
+        -o --by --capture --text --static --all --empty --empty-lan --ask --ask-routers --tries --queries --wait \
+        --slack --network --querier --interface --routers --ssh --version --help
 }
 
 complete -F _mcaudit mcaudit

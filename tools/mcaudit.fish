@@ -138,5 +138,6 @@ __mcaudit_options mcaudit-reports true $routers $asking \
 __mcaudit_commands mcaudit-site 'init:draft, collect, gather and judge' 'lans:print each LAN with each interface on it'
 __mcaudit_options mcaudit-site __fish_use_subcommand $about
 __mcaudit_options mcaudit-site 'not __fish_use_subcommand' $help
-__mcaudit_options mcaudit-site '__fish_seen_subcommand_from init' $routers $asking '--ttl:value:the time to live of all flows'
+__mcaudit_options mcaudit-site '__fish_seen_subcommand_from init' $routers $asking \
+    '--ttl:value:the time to live of all flows'
 __mcaudit_folders mcaudit-site 'not __fish_use_subcommand'

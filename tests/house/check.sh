@@ -1,5 +1,5 @@
 #!/bin/sh
-# Looks whether each thing of a domain, a run and a flow still stands once.
+# Looks whether each thing of a domain, a run and a flow still stands once, and each thing of the operators' tools.
 #
 #   sh tests/house/check.sh [FOLDER]     at the top of the repository; FOLDER is where the edits that must fail stand, as
 #                                        FOLDER/mc_run/must-fail, if not in crates
@@ -88,6 +88,29 @@ others=$(cd "$edits" && ls -d */must-fail | sed 's|/must-fail||' | grep -vxF "$(
 rule 'of these five crates those without edits' 0 "$(for name in $told; do [ "$(edited "$name")" -gt 0 ] || echo "$name"; done | wc -l)"
 rule 'edits of the runs, the replayer, the checker and the maker that name no clause' 0 "$(unnamed $told)"
 rule 'edits of the other crates that name no clause' "$(($(edited $others) / 5))" "$(unnamed $others)"
+
+# --- the operators' tools ---
+# (mcaudit-query needs nothing beside itself, since it is sent to routers: it has its own arguments and checksum)
+tools=$(find tools/mcaudit_tools -name '*.py')
+rule 'a file written beside its place, and renamed' 1 "$(lines 'tempfile\.mkstemp\(' $tools)"
+rule 'what is renamed over another: such a file, and the link to a set' 2 "$(lines 'os\.replace\(' $tools)"
+rule 'how a program is run under limits' 1 "$(lines 'subprocess\.(Popen|run|call|check_)|os\.(popen|system|fork)' $tools)"
+rule 'what a tool becomes: the shell on a router' 1 "$(lines 'os\.(exec|posix_spawn)' $tools)"
+rule 'how a session of programs is ended' 1 "$(lines 'os\.killpg\(' $tools)"
+rule 'signals: those that are heeded, those of an end, and that of a closed pipe' 3 "$(lines 'signal\.signal\(' $tools)"
+rule 'a lock: of a site, and of a scratch folder' 2 "$(lines 'fcntl\.flock\(' $tools)"
+rule 'how a file is opened that may be no regular one' 1 "$(lines 'O_RDONLY \| os\.O_NONBLOCK' $tools)"
+rule "a reader of the audit's JSON" 1 "$(lines '\["format"\]' $tools)"
+rule "readers of JSON: an audit's, collected.json, the monitor's, dot's and ip's" 5 "$(lines 'json\.loads?\(' $tools)"
+rule 'a reader of TOML' 1 "$(lines 'tomllib\.loads?\(' $tools)"
+rule 'a decoder of hexadecimal digits' 1 "$(lines 'fromhex|unhexlify|b16decode' $tools)"
+rule "a reader of arguments: all tools', and mcaudit-query's" 2 "$(lines '\(argparse\.ArgumentParser\)' tools)"
+rule "the Internet checksum: all tools', and mcaudit-query's" 2 "$(lines 'while total >> 16' tools)"
+rule "text of others made clean" 1 "$(lines '" " <= it <= "~" and' $tools)"
+rule 'a failure with its status' 2 "$(lines '^class Failed\(' tools)"
+rule 'blocks of code in two functions: the checksum' 1 "$(python3 tests/house/tools.py copies | wc -l)"
+rule 'functions of more than 40 lines' 0 "$(python3 tests/house/tools.py functions | wc -l)"
+rule 'modules of more than 340 lines: the monitor' 1 "$(python3 tests/house/tools.py modules | wc -l)"
 
 printf '%s passed, %s failed\n' "$passed" "$failed"
 [ "$failed" -eq 0 ] && [ "$passed" -gt 0 ]

@@ -44,8 +44,8 @@ in_room mcaudit audit /tmp/network | grep -qx 'verdict yes' || fail 'an audit of
 for tool in collect diff draft monitor page query reports site; do
     in_room "mcaudit-$tool" --version
 done
-for file in man/man1/mcaudit.1.gz bash-completion/completions/mcaudit-site fish/vendor_completions.d/mcaudit-site.fish \
-    zsh/vendor-completions/_mcaudit; do
+for file in man/man1/mcaudit.1.gz man/man1/mcaudit-site.1.gz bash-completion/completions/mcaudit-site \
+    fish/vendor_completions.d/mcaudit-site.fish zsh/vendor-completions/_mcaudit; do
     in_room test -s "/usr/share/$file" || fail "no $file"
 done
 [ -n "$(print_files)" ] || fail 'nothing was installed'

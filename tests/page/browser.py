@@ -1,8 +1,10 @@
 """A headless Chromium that tests lead by its debugging protocol, over two pipes: Python's own library is enough."""
 import base64
+import contextlib
 import json
 import os
 import shutil
+import signal
 import subprocess
 import tempfile
 import time
@@ -21,13 +23,13 @@ class Page:
         program = next(filter(None, map(shutil.which, NAMES)), None)
         if program is None:
             raise SystemExit("there is no chromium: the package chromium has it")
-        self.folder = tempfile.TemporaryDirectory(prefix="mcaudit-page-")
+        self.folder = tempfile.TemporaryDirectory(prefix="mcaudit-page-", ignore_cleanup_errors=True)
         take, self.to = os.pipe()
         self.of, give = os.pipe()
         self.process = subprocess.Popen(
             ["sh", "-c", f'exec 3<&{take} 4>&{give}; exec "$@"', "sh", program, *WORDS, f"--user-data-dir={self.folder.name}",
              f"--window-size={width},{height}"],
-            pass_fds=(take, give), stdout=subprocess.DEVNULL, stderr=subprocess.DEVNULL)
+            pass_fds=(take, give), stdout=subprocess.DEVNULL, stderr=subprocess.DEVNULL, start_new_session=True)
         os.close(take)
         os.close(give)
         self.rest, self.number, self.session, self.said, self.asked = b"", 0, None, [], []
@@ -46,6 +48,8 @@ class Page:
         """Ends the browser."""
         self.process.terminate()
         self.process.wait()
+        with contextlib.suppress(ProcessLookupError):  # what it began may still write into its folder
+            os.killpg(self.process.pid, signal.SIGKILL)
         os.close(self.to)
         os.close(self.of)
         self.folder.cleanup()

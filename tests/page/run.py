@@ -6,7 +6,7 @@
 Of each folder of examples/faults the page has to open without a complaint and without asking for anything else, and to
 show each line that explains its fault. Then: the search narrows the table; a click on a flow, and the keys alone, draw
 its way and show what explains it; the steps of a travel go back and forth; names that are markup are text; the policy
-lets no other script run; it prints; and a page of 4,096 flows is there in 2 s, the best of three times: of a processor,
+lets no other script run; it prints; what it shows can be read on a light page, a dark one and printed; and a page of 4,096 flows is there in 2 s, the best of three times: of a processor,
 and by the clock too where the machine has nothing else to do. What audits the folders is tests/audited/answers.py. With PICTURES, the pictures of docs/ are written into that folder.
 
 The last line counts: `N passed, M failed`. The status is 0 if none failed.
@@ -32,6 +32,36 @@ TEXT = "document.getElementById('explained').innerText"
 COUNT = "document.getElementById('count').textContent"
 SHOWN = "[...document.querySelectorAll('#rows tbody tr')].filter(row => !row.hidden).map(row => row.innerText)"
 TITLE = "document.getElementById('title').textContent"
+GROUND = "Number(getComputedStyle(document.body).backgroundColor.match(/\\d+/)[0])"
+BY_HAND = "[...document.querySelectorAll('form, .tools, .stepper')].filter(it => it.getClientRects().length).length"
+WIDE = "document.getElementById('flow').offsetWidth > 0.95 * document.body.offsetWidth"
+CUT = "[...document.querySelectorAll('.scroll, #view, .steps')].filter(it => it.scrollHeight > it.clientHeight + 2).length"
+# the least contrast of a text that is shown, what has it, and how many texts there are (WCAG 2, section 1.4.3)
+LEAST_CONTRAST = """(() => {
+  const numbers = text => text.match(/[\\d.]+/g).map(Number);
+  const curve = it => (it /= 255) <= 0.04045 ? it / 12.92 : ((it + 0.055) / 1.055) ** 2.4;
+  const light = ([red, green, blue]) => 0.2126 * curve(red) + 0.7152 * curve(green) + 0.0722 * curve(blue) + 0.05;
+  function ground(element) {
+    const box = element.closest("#drawing .lan, #drawing .router");
+    if (box) return numbers(getComputedStyle(box.querySelector("rect")).fill);
+    for (let it = element; it; it = it.parentElement) {
+      const colour = numbers(getComputedStyle(it).backgroundColor);
+      if (colour[3] !== 0) return colour;
+    }
+    return [255, 255, 255];
+  }
+  const walk = document.createTreeWalker(document.body, NodeFilter.SHOW_TEXT);
+  let least = 21, where = "", count = 0;
+  while (walk.nextNode()) {
+    const element = walk.currentNode.parentElement;
+    if (!walk.currentNode.data.trim() || !element.getClientRects().length || element.closest(":disabled, title")) continue;
+    const style = getComputedStyle(element), colour = numbers(element.closest("svg") ? style.fill : style.color);
+    const [low, high] = [light(colour), light(ground(element))].sort((one, other) => one - other);
+    count++;
+    if (high / low < least) [least, where] = [high / low, walk.currentNode.data.trim().slice(0, 40)];
+  }
+  return [least, where, count];
+})()"""
 MARKED = "[...document.querySelectorAll('#drawing .{0}:is(g, path)')].map(it => it.id)"
 
 
@@ -184,6 +214,23 @@ def look_at_prints(check, browser):
     check.that("with what explains each fault that was found", told == len(browser.run(SHOWN)))
 
 
+def look_at_modes(check, browser):
+    """Looks whether all that is shown can be read on a light page, a dark one, and printed from a dark one."""
+    for name in "loop-of-three-routers", "missed-by-the-wrong-way", "nobody-wants-it":
+        for media, scheme, is_dark in ("screen", "light", False), ("screen", "dark", True), ("print", "dark", False):
+            browser.call("Emulation.setEmulatedMedia", media=media,
+                         features=[{"name": "prefers-color-scheme", "value": scheme}])
+            browser.open(os.path.join(check.folder, f"{name}.html"))
+            told = f"{name}, {media} of a {scheme} page"
+            least, where, count = browser.run(LEAST_CONTRAST)
+            check.that(f"{told}: {where} has a contrast of {least:.2f}", count > 30 and least >= 4.5)
+            check.that(f"{told}: its ground", (browser.run(GROUND) < 128) == is_dark)
+            check.that(f"{told}: what is used by hand alone", bool(browser.run(BY_HAND)) == (media != "print"))
+            check.that(f"{told}: nothing is cut", media != "print" or not browser.run(CUT))
+            check.that(f"{told}: it has the whole width", media != "print" or browser.run(WIDE))
+    browser.call("Emulation.setEmulatedMedia", media="", features=[])
+
+
 def look_at_most_flows(check, browser):
     """Opens the page of the most flows there can be, thrice."""
     path = check.made("most", [json.dumps(line) + "\n" for line in large.lines(4096)])
@@ -216,7 +263,7 @@ def main():
     with tempfile.TemporaryDirectory(prefix="mcaudit-page-") as folder, Page(1440, 940) as browser:
         check = Check(folder)
         for look in (look_at_faults, look_at_steps, look_at_table, look_at_hostile_names, look_at_policy, look_at_prints,
-                     look_at_most_flows):
+                     look_at_modes, look_at_most_flows):
             look(check, browser)
         if len(sys.argv) > 1:
             take_pictures(check, browser, sys.argv[1])

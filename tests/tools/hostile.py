@@ -1,6 +1,6 @@
 #!/usr/bin/env python3
-"""Tries the tools with what hosts, routers, names and other runs may do to them: none of it may end in a false yes, in a
-list that isn't the LAN's, in foreign code, in a wait without end, or in something lost.
+"""Tries the tools with what hosts, routers, names and other runs may do to them: none of it may end in a false yes, in
+a list that isn't the LAN's, in foreign code, in a wait without end, or in something lost.
 
   python3 tests/tools/hostile.py [CASE ...]
 
@@ -186,7 +186,8 @@ def clock_that_was_set(place):
 @case
 def frames_of_other_vlans(place):
     """They never count; those that have a priority alone do."""
-    frames = [(-5, p.frame(p.asked("10.0.1.9", 10), vlan=20)), (-4.5, p.frame(p.wanted("10.0.1.8", "239.9.9.9"), vlan=20)),
+    frames = [(-5, p.frame(p.asked("10.0.1.9", 10), vlan=20)),
+              (-4.5, p.frame(p.wanted("10.0.1.8", "239.9.9.9"), vlan=20)),
               *framed(*GOOD[:2]), (2, p.frame(p.wanted("10.0.1.6", "239.2.2.2"), vlan=0xE000)), *framed(GOOD[2])]
     assert place.captured(frames) == (0, [*LISTED, p.wants("239.2.2.2").hex()]), place.said
 
@@ -410,6 +411,28 @@ printf '%s table ip_mr_vif 1\\n.\\n%s table ip_mr_cache 20000001\\n' "$word" "$w
 head -c 20000000 /dev/zero | tr '\\0' x; printf '.\\n%s table igmp 1\\n.\\n%s end\\n' "$word" "$word\"""")
     assert place.run("collect", "--pause", "0", "site", "r1=!large; :") == 1 and "ip_mr_cache" in place.said, place.said
     assert not os.path.exists(place.at("site/cache-r1"))
+
+
+@case
+def packet_without_end(place):
+    """It is refused as soon as it is longer than any packet of IPv4."""
+    begun = time.monotonic()
+    status, lines = place.reports("--text", text=b"1.5 IP\n" + b"\t0x0001:  00\n" * 2000000)
+    assert status == 3 and lines is None and "a packet of more than 65535 bytes" in place.said, (status, place.said)
+    assert time.monotonic() - begun < 20
+
+
+@case
+def signals_after_what_failed(_):
+    """A signal is heeded again behind steps that no signal may part, even where one of them failed."""
+    script = """from mcaudit_tools.programs import RUNNING
+RUNNING.grace = 7
+try:
+    with RUNNING.unheeded():
+        raise OSError
+except OSError:
+    assert not RUNNING.is_unheeded and RUNNING.grace == 7"""
+    subprocess.run([sys.executable, "-c", script], env={**os.environ, "PYTHONPATH": TOOLS}, check=True)
 
 
 # The same router twice, and those that no topology has

@@ -7,7 +7,7 @@ The page of each folder of examples/faults has to have the verdict, each flow, e
 its travel and each unlisted flow, as tests/audited/answers.py works the text out. It has to be one file that asks for
 nothing from elsewhere, with no elements but its own, whatever the names of the domain are. An answer of which something
 is turned at random makes a page or is refused. And of random domains each arrow that a travel's steps show is one that
-the packet took.
+the packet took. Each colour of its style has another one for a dark page, and texts can be read in both.
 
 PROGRAM audits the folders. Without it that is the built program, where that is there and knows the words, and else
 answers.py. The last line counts: `N passed, M failed`. The status is 0 if none failed.
@@ -23,6 +23,7 @@ import re
 import subprocess
 import sys
 import tempfile
+import types
 
 sys.dont_write_bytecode = True
 HERE = os.path.dirname(os.path.abspath(__file__))
@@ -38,19 +39,28 @@ WORDS = {"left-out-router": ["--without", "r2"]}
 DOMAINS = 400
 TURNS = 600
 ELEMENTS = {
-    "html", "head", "meta", "title", "style", "body", "script", "header", "p", "div", "h1", "h2", "dl", "dt", "dd", "strong",
-    "main", "section", "form", "label", "input", "fieldset", "legend", "span", "table", "thead", "tbody", "tr", "th", "td", "a",
-    "b", "figure", "button", "svg", "defs", "marker", "path", "g", "rect", "text", "figcaption", "noscript", "ul", "li",
-    "details", "summary", "code", "footer"}
+    "html", "head", "meta", "title", "style", "body", "script", "header", "p", "div", "h1", "h2", "dl", "dt", "dd",
+    "strong", "main", "section", "form", "label", "input", "fieldset", "legend", "span", "table", "thead", "tbody",
+    "tr", "th", "td", "a", "b", "figure", "button", "svg", "defs", "marker", "path", "g", "rect", "text", "figcaption",
+    "noscript", "ul", "li", "details", "summary", "code", "footer"}
+READ_ON = {  # the colours of texts, by those of what they stand on
+    "sheet": "ink soft way fault mend doubt yes later", "ground": "ink soft", "over": "ink way fault doubt yes later",
+    "chosen": "ink way fault doubt yes", "yes": "on", "fault": "on", "ink": "on", "canvas": "way fault mend doubt yes",
+    "router": "ink device absent fault mend", "lan": "ink", "carries": "ink", "fault-ground": "ink", "why-fault": "ink",
+    "why-mend": "ink", "why-doubt": "ink", "why-way": "ink", "why-lit": "ink"}
 ELSEWHERE = re.compile(r"https?:|//[a-z]|\bsrc\s*=|@import|<link|url\((?!#)", re.I)
-HOSTILE = ["<script>alert(1)</script>", "</script><img src=x onerror=alert(1)>", "<!--", "-->", "]]>", "\"><svg onload=alert(1)>",
-           "'; alert(1); '", "\u2028\u2029", "&lt;b&gt;", "\ud800", "__proto__", "%s {0} ${1} \\u003c", "\x00\x01\x1b", "ü"]
+HOSTILE = ["<script>alert(1)</script>", "</script><img src=x onerror=alert(1)>", "<!--", "-->", "]]>",
+           "\"><svg onload=alert(1)>", "'; alert(1); '", "\u2028\u2029", "&lt;b&gt;", "\ud800", "__proto__",
+           "%s {0} ${1} \\u003c", "\x00\x01\x1b", "ü"]
 
 
 def loaded_tool():
-    """The tool as a module."""
+    """The names of the tool's modules."""
     sys.path.insert(0, os.path.join(TOP, "tools"))
-    return importlib.import_module("mcaudit_tools.page")
+    found = {}
+    for name in ("answer", "collected", "graph", "render"):
+        found.update(vars(importlib.import_module(f"mcaudit_tools.page.{name}")))
+    return types.SimpleNamespace(**found)
 
 
 class Read(html.parser.HTMLParser):
@@ -115,7 +125,8 @@ class Check:
         words = {(key, value) for _, attrs in read.elements for key, value in attrs.items()
                  if key.startswith("on") or key in ("style", "src") or key.endswith("href") and value[:1] != "#"}
         self.that(f"{name}: nothing that runs or is fetched: {words}", not words)
-        policy = next(attrs["content"] for _, attrs in read.elements if attrs.get("http-equiv") == "Content-Security-Policy")
+        policy = next(attrs["content"] for _, attrs in read.elements
+                      if attrs.get("http-equiv") == "Content-Security-Policy")
         for (tag, number), inside in read.insides.items():
             told = "'sha256-" + base64.b64encode(hashlib.sha256(inside.encode()).digest()).decode() + "'"
             is_data = read.elements[number - 1][1].get("id") == "data"
@@ -135,7 +146,8 @@ def shown_lines(read):
             lines += [f"{words} {said} copies {flow['copies']}",
                       f"  wanted {len(names)}: " + (answers.some(names) if names else "no report asks for it")]
             continue
-        lines += [f"{words} no certificate", f"found ttl {flow['found_ttl']} {flow['kind']} " + flow["place"].split(" (")[0]]
+        place = flow["place"].split(" (")[0]
+        lines += [f"{words} no certificate", f"found ttl {flow['found_ttl']} {flow['kind']} {place}"]
         reason = data["reasons"][flow["why"]][1:]
         lines += ["  " + text.replace(data["mark"], f"({flow['source']},{flow['group']})") for text, _ in reason]
         for port, ttl, outcome, copies, strays, _ in data["travels"][flow["travel"]][1:]:
@@ -217,10 +229,12 @@ def places_in(value):
 def look_at_turned_answers(check, tool):
     """Looks whether each answer of which something is turned makes a page or is refused."""
     pick = random.Random(TURNS)
-    strange = [None, True, 0, -1, 255, 10 ** 30, 1.5, float("nan"), "", "*", [], {}, [1], {"a": 1}, "r1", "hall", "eth1", "\ud800"]
+    strange = [None, True, 0, -1, 255, 10 ** 30, 1.5, float("nan"), "", "*", [], {}, [1], {"a": 1}, "r1", "hall",
+               "eth1", "\ud800"]
     for number in range(TURNS):
         example = pick.choice(["loop-of-three-routers", "missed-by-the-wrong-way", "a-flow-that-is-not-listed"])
-        lines = list(map(json.loads, answers.audit([os.path.join(FAULTS, example), "--json", "--travel"]).output().splitlines()))
+        answer = answers.audit([os.path.join(FAULTS, example), "--json", "--travel"])
+        lines = list(map(json.loads, answer.output().splitlines()))
         for _ in range(pick.randint(1, 3)):
             value, key = pick.choice(list(places_in(lines)))
             if pick.random() < 0.2:
@@ -259,13 +273,55 @@ def look_at_travels(check, tool):
     check.that("most arrows are known", known > all_sent * 0.8 > 0)
 
 
+def colours_of(block):
+    """The colours that a block of the style has, by name."""
+    found = {}
+    for name, digits in re.findall(r"--([-a-z]+): #([0-9a-f]+);", block):
+        digits = "".join(2 * it for it in digits) if len(digits) == 3 else digits
+        found[name] = tuple(int(digits[at:at + 2], 16) / 255 for at in (0, 2, 4))
+    return found
+
+
+def contrast(one, other):
+    """How far two colours are apart, from 1 to 21 (WCAG 2, section 1.4.3)."""
+    def light(colour):
+        red, green, blue = (it / 12.92 if it <= 0.04045 else ((it + 0.055) / 1.055) ** 2.4 for it in colour)
+        return 0.2126 * red + 0.7152 * green + 0.0722 * blue + 0.05
+    lower, higher = sorted((light(one), light(other)))
+    return higher / lower
+
+
+def look_at_colours(check):
+    """Looks at the colours of the page's style: of a light page, which is printed too, and of a dark one."""
+    with open(os.path.join(TOP, "tools", "mcaudit_tools", "page", "page.css"), encoding="utf-8") as file:
+        style = file.read()
+    blocks = re.findall(r":root \{(.*?)\}", style, re.DOTALL)
+    check.that("two sets of colours", len(blocks) == 2)
+    light, dark = map(colours_of, blocks)
+    rest = style.replace(blocks[0], "").replace(blocks[1], "")
+    check.that("the same names in both", light and light.keys() == dark.keys())
+    is_for_screens = re.search(r"@media screen and \(prefers-color-scheme: dark\) \{\s*:root", style)
+    check.that("the dark one is for screens alone", is_for_screens)
+    check.that("no colour but these", not re.search(r":[^;{}]*(#[0-9a-f]{3,8}\b|rgba?\(|\b(white|black)\b)", rest))
+    used = set(re.findall(r"var\(--([-a-z]+)\)", rest))
+    check.that("each is used, and each that is used is there", used == set(light))
+    for kind, colours in ("light", light), ("dark", dark):
+        is_dark = contrast(colours["ground"], (0, 0, 0)) < 2
+        check.that(f"the {kind} page is {kind}", is_dark == (kind == "dark"))
+        for ground, texts in READ_ON.items():
+            for text in texts.split():
+                apart = contrast(colours[text], colours[ground])
+                check.that(f"{kind}: {text} on {ground}: {apart:.2f}", apart >= 4.5)
+
+
 def program_in(folder):
     """The program that audits: the one of the words, the built one, or answers.py in its place."""
     if len(sys.argv) > 1:
         return os.path.abspath(sys.argv[1])
     example = os.path.join(FAULTS, "nobody-wants-it")
     if os.access(BUILT, os.X_OK):
-        done = subprocess.run([BUILT, "audit", example, "--json", "--travel", "--unlisted"], capture_output=True, check=False)
+        words = [BUILT, "audit", example, "--json", "--travel", "--unlisted"]
+        done = subprocess.run(words, capture_output=True, check=False)
         if done.returncode in (0, 1):
             return BUILT
     path = os.path.join(folder, "mcaudit")
@@ -278,6 +334,7 @@ def program_in(folder):
 def main():
     with tempfile.TemporaryDirectory(prefix="mcaudit-page-") as folder:
         check, tool = Check(folder, program_in(folder)), loaded_tool()
+        look_at_colours(check)
         look_at_faults(check)
         look_at_hostile_names(check, tool)
         look_at_turned_answers(check, tool)

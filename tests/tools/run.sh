@@ -6,7 +6,7 @@
 # program, crates/mcaudit/out/mcaudit or what PROGRAM names. The words of the file completion, and those that
 # help_words.sh takes from the help of the program and of its tools, are completed by bash, zsh and fish
 # alike. All tools are to tell one version and to be installed, and shellcheck reads all shell of the tools
-# and of their cases. page.py looks at the pages that mcaudit-page makes. What it needs that is not there is
+# and of their cases. Their manual pages are those that packaging/man_pages.py writes. page.py looks at the pages that mcaudit-page makes. What it needs that is not there is
 # named, and is a failure; but promtool reads the files for Prometheus, and systemd-analyze the units, only
 # where they are. hostile.py tries what hosts, routers and names may do to the tools; flake8, pylint and mypy
 # read their Python, as that of 3.9.
@@ -402,6 +402,7 @@ install_all() {
         for file in bash-completion/completions/"${tool##*/}" fish/vendor_completions.d/"${tool##*/}.fish"; do
             [ -s "$place/share/$file" ] || { echo "$file is not installed"; return 1; }
         done
+        cmp "$here/../../docs/${tool##*/}.1" "$place/share/man/man1/${tool##*/}.1" || return 1
     done
     cmp "$tools/mcaudit.zsh" "$place/share/zsh/site-functions/_mcaudit" || return 1
     [ -z "$systemd" ] || judge_units "$place" || return 1
@@ -409,6 +410,20 @@ install_all() {
     find "$place" ! -type d > left
     cat left
     [ ! -s left ]
+}
+
+# Writes the tools' manual pages anew: they are those of docs/, and each has all options that the help has, and no others.
+compare_pages() {
+    mkdir pages && "$python" "$here/../../packaging/man_pages.py" pages || return 1
+    for tool in "$tools"/mcaudit-*; do
+        page=${tool##*/}.1
+        diff "$here/../../docs/$page" "pages/$page" || return 1
+        "$tool" --help | sed -n 's/^ \{2,6\}\(-[-a-z, ]*[-a-z]\).*/\1/p' | grep -o -e '--*[a-z][-a-z]*' > options
+        [ "$page" != mcaudit-site.1 ] || { "$tool" init --help && "$tool" lans --help; } |
+            sed -n 's/^ \{2,6\}\(-[-a-z, ]*[-a-z]\).*/\1/p' | grep -o -e '--*[a-z][-a-z]*' >> options
+        sed -n '/^\\fB/s/\\-/-/gp' "pages/$page" | grep -o 'fB-[-a-z]*' | cut -c 3- | sort -u > told
+        sort -u options | diff - told || return 1
+    done
 }
 
 # Has systemd take the units that are installed below this place, and their user.
@@ -451,6 +466,7 @@ if [ -z "$wanted_cases" ]; then
     run_apart completion-zsh zsh complete_words zsh -f
     run_apart completion-fish fish complete_words fish --no-config
     run_apart versions python3 compare_versions
+    run_apart manual python3 compare_pages
     run_apart packages sh want_package
     run_apart shellcheck shellcheck check_shell
     run_apart pages dot "$python" "$here/page.py"
@@ -459,7 +475,7 @@ if [ -z "$wanted_cases" ]; then
         "$here"/commands
     run_apart pylint pylint check_python
     run_apart mypy mypy mypy --python-version 3.9 --cache-dir "$scratch/mypy" "$tools/mcaudit_tools"
-    run_apart script node node --check "$tools/mcaudit_tools/page.js"
+    run_apart script node node --check "$tools/mcaudit_tools/page/page.js"
 fi
 for other in dash bash busybox python3; do
     command -v "$other" > /dev/null || echo "failed: $other, which is not there" > "$scratch/results/$other"

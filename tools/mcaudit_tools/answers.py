@@ -1,5 +1,5 @@
-"""What a router is asked, and what its answer is believed: tables of its own, each named, in their order, and as long as
-they are told to be.
+"""What a router is asked, and what its answer is believed: tables of its own, each named, in their order, and as long
+as they are told to be.
 
 A router is asked by a shell script that holds a random word, which no greeting has. The lines that begin with the word
 are believed; where a table goes is made of our own name of it.
@@ -88,7 +88,7 @@ class Answer:
         return f"/proc/net/{table} could not be read"
 
     def first_line(self):
-        """Returns the fields of the first line that the word begins, whatever a greeting said before; None at the end."""
+        """Returns the fields of the first line that the word begins, whatever was said before; None at the end."""
         while True:
             line = self.file.readline(MOST_LINE)
             if not line:
@@ -172,8 +172,8 @@ def rows_of(path, deadline):
 
 
 def order_of(path, deadline):
-    """Returns the router's byte order. The kernel prints the group 224.0.0.1, which every interface that is up has joined,
-    in /proc/net/igmp as it prints addresses in ip_mr_cache: as a number of the machine."""
+    """Returns the router's byte order. The kernel prints the group 224.0.0.1, which every interface that is up has
+    joined, in /proc/net/igmp as it prints addresses in ip_mr_cache: as a number of the machine."""
     order = "order not known: no interface is up"
     for line in lines_of(path, deadline):
         first = line.split()[:1]

@@ -1,9 +1,14 @@
 """What `mcaudit audit --json` prints, read in one place: line by line, in bounds, and whole or not at all."""
+import contextlib
+import io
 import json
+import sys
 
 from mcaudit_tools.common import Failed, Refused
 from mcaudit_tools.files import open_regular, reason_of
+from mcaudit_tools.programs import run
 
+AUDITING = 300  # seconds that an audit may take
 MOST_BYTES = 256 << 20
 MOST_LINE = 16 << 20
 MOST_DIGITS = 20
@@ -107,3 +112,33 @@ def lines_of_file(path):
             yield from lines_of(file)
         except OSError as fault:
             raise Failed(f"{path} can't be read: {reason_of(fault)}") from fault
+
+
+def objects_of(path, standard):
+    """Yields the objects of a file of what an audit printed, or of standard input, which has this name."""
+    if path != standard:
+        yield from lines_of_file(path)
+    elif sys.stdin is None:
+        raise Failed("standard input is closed")
+    else:
+        yield from lines_of(sys.stdin.buffer)
+
+
+@contextlib.contextmanager
+def telling(path):
+    """Tells by its path what is refused here, or can't be read."""
+    try:
+        yield
+    except Refused as fault:
+        raise Refused(f"refused: {path}: {fault}") from fault
+    except OSError as fault:
+        raise Failed(f"{path} can't be read: {reason_of(fault)}") from fault
+
+
+def run_audit(words, named):
+    """Runs `mcaudit audit` with these words. Returns its status, and the objects that it printed, which are none of an
+    audit where the status is no verdict's. It is told by this name; what it says of a refusal is seen as it is."""
+    came = run(words, seconds=AUDITING, most=MOST_BYTES, keeps_words=False)
+    if came.is_late or came.is_long:
+        raise Failed(f"{named} took more than {AUDITING} s, or printed more than {MOST_BYTES} bytes")
+    return came.status, lines_of(io.BytesIO(came.printed))

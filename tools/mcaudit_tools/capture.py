@@ -83,7 +83,8 @@ class Decoder:
             self.seen.add(frame.interface)
             if len(self.seen) > 1:
                 numbers = " and ".join(map(str, sorted(self.seen)))
-                raise Broken(f"the capture is of several interfaces, {numbers} among them: name the LAN's one by --interface")
+                raise Broken(f"the capture is of several interfaces, {numbers} among them: name the LAN's one by "
+                             "--interface")
         return frame
 
     # pcap

@@ -104,7 +104,8 @@ class Parser(argparse.ArgumentParser):
 
     def add_version(self):
         """Adds the option that prints the version."""
-        self.add_argument("--version", action="version", version=f"%(prog)s {PROGRAM.version}", help="print the version")
+        version = f"%(prog)s {PROGRAM.version}"
+        self.add_argument("--version", action="version", version=version, help="print the version")
 
     def error(self, message):
         """Tells what is wrong."""

@@ -4,7 +4,6 @@ An audit is a folder, which `mcaudit audit --json --unlisted` judges, or a file 
 compared by LANs, routers and devices: the numbers of vifs change as a routing daemon starts anew.
 """
 import dataclasses
-import io
 import ipaddress
 import json
 import os
@@ -12,10 +11,8 @@ import sys
 
 from mcaudit_tools import audit as audits
 from mcaudit_tools.common import Failed, Parser, Refused, find_tool, say
-from mcaudit_tools.files import reason_of
-from mcaudit_tools.programs import run
+from mcaudit_tools.files import printing
 
-AUDITING = 300  # seconds that an audit may take
 UNKNOWN = "no fault known"  # of a flow without a fault, where routers are left out
 ABOUT = """Tells what changed from OLD to NEW, a line each: faults that came or went, which stand first, flows that are
 listed now or no longer, the LANs that a flow reaches and who forwards onto them, how many LANs carry a copy, which LANs
@@ -156,31 +153,21 @@ def audit_of(objects):
 def judged(path):
     """Returns what mcaudit says of the set that the folder leads to now. What it refuses it has told by itself."""
     folder = os.path.realpath(path)
-    came = run([find_tool("mcaudit"), "audit", "--json", "--unlisted", folder], seconds=AUDITING, most=audits.MOST_BYTES,
-               keeps_words=False)
-    if came.is_late or came.is_long:
-        raise Failed(f"{path}: mcaudit took more than {AUDITING} s, or printed more than {audits.MOST_BYTES} bytes")
-    if came.status not in (0, 1) and not os.path.isdir(folder):
+    command = [find_tool("mcaudit"), "audit", "--json", "--unlisted", folder]
+    status, objects = audits.run_audit(command, f"{path}: mcaudit")
+    if status not in (0, 1) and not os.path.isdir(folder):
         raise Failed(f"{path}: the set was removed meanwhile")
-    if came.status == 2:
+    if status == 2:
         raise Refused("mcaudit refuses it")
-    if came.status not in (0, 1):
-        raise Failed(f"{path}: mcaudit ended with status {came.status}")
-    return audits.lines_of(io.BytesIO(came.printed))
+    if status not in (0, 1):
+        raise Failed(f"{path}: mcaudit ended with status {status}")
+    return objects
 
 
 def read_audit(path):
     """Reads the audit of a folder, or that which a file has; of standard input by its path alone."""
-    try:
-        if os.path.isdir(path):
-            return audit_of(judged(path))
-        if path == "/dev/stdin":
-            return audit_of(audits.lines_of(sys.stdin.buffer))
-        return audit_of(audits.lines_of_file(path))
-    except Refused as fault:
-        raise Refused(f"refused: {path}: {fault}") from fault
-    except OSError as fault:
-        raise Failed(f"{path} can't be read: {reason_of(fault)}") from fault
+    with audits.telling(path):
+        return audit_of(judged(path) if os.path.isdir(path) else audits.objects_of(path, "/dev/stdin"))
 
 
 # What changed
@@ -324,12 +311,10 @@ def main():
     if not (old.is_whole and new.is_whole):
         say("only the lowest sources and groups that are no flow's are compared: --unlisted tells all")
     changes = faults_first(all_changes(old, new))
-    try:
+    with printing():
         for whose, change, was, now in changes:
             line = {**whose, "change": change, "was": was, "now": now}
             print(json.dumps(line, sort_keys=True, separators=(",", ":")) if words.json else
                   tell(whose, change, was, now))
         sys.stdout.flush()
-    except OSError as fault:
-        raise Failed(f"standard output can't be written: {reason_of(fault)}") from fault
     return 1 if changes else 0

@@ -16,8 +16,8 @@ def reason_of(fault):
 
 
 def open_regular(path, named=None):
-    """Opens a file to be read as bytes, where it is a regular one: a pipe, a device or a folder is never waited for. It is
-    told by its path, or by another name."""
+    """Opens a file to be read as bytes, where it is a regular one: a pipe, a device or a folder is never waited for. It
+    is told by its path, or by another name."""
     opened = None
     try:
         opened = os.open(path, os.O_RDONLY | os.O_NONBLOCK | os.O_CLOEXEC | os.O_NOCTTY)
@@ -70,10 +70,19 @@ def sync_files(folder):
 
 
 @contextlib.contextmanager
-def beside(path, mode=None):
+def printing():
+    """Tells that standard output can't be written, where that fails here."""
+    try:
+        yield
+    except OSError as fault:
+        raise Failed(f"standard output can't be written: {reason_of(fault)}") from fault
+
+
+@contextlib.contextmanager
+def beside(path, mode=None, is_new=False):
     """Gives a file beside the path, or what a link there leads to, to be written. At the end it is put on the disk and
-    renamed; where anything fails, the path stays as it was, and nothing is left."""
-    folder, name = os.path.split(os.path.realpath(path))
+    renamed; where anything fails, the path stays as it was, and nothing is left. Nothing may be there of a new one."""
+    folder, name = os.path.split(path if is_new else os.path.realpath(path))
     made = None
     try:
         opened, made = tempfile.mkstemp(prefix=f".{name[:80]}.", dir=folder)
@@ -84,9 +93,13 @@ def beside(path, mode=None):
             os.fsync(file.fileno())
             if os.fstat(file.fileno()).st_size != file.tell():
                 raise Failed(f"{path} can't be written: the disk has not what was written")
-        if os.path.lexists(path) and not os.path.isfile(path):
+        if is_new:
+            os.link(made, path)
+            os.unlink(made)
+        elif os.path.lexists(path) and not os.path.isfile(path):
             raise Failed(f"{path} is no plain file")
-        os.replace(made, os.path.join(folder, name))
+        else:
+            os.replace(made, os.path.join(folder, name))
         made = None
         sync_folder(folder)
     except OSError as fault:

@@ -48,7 +48,8 @@ class Packet:
 def packet_of(data):
     """Reads an IPv4 packet; None where it is none of IGMP."""
     if len(data) < 20:
-        return Packet(bytes(4), bytes(4), 0, b"", f"a packet was cut to {len(data)} bytes") if data[:1] >= b"\x40" else None
+        fault = f"a packet was cut to {len(data)} bytes"
+        return Packet(bytes(4), bytes(4), 0, b"", fault) if data[:1] >= b"\x40" else None
     header, total = (data[0] & 15) * 4, int.from_bytes(data[2:4], "big")
     if data[0] >> 4 != 4 or data[9] != IGMP or header < 20 or total < header:
         return None
@@ -85,7 +86,7 @@ class Record:
 
 
 def records_of(report):
-    """Returns the records of a version 3 report, and the number of the first one that doesn't end within it, or None."""
+    """Returns the records of a version 3 report, and the number of the first that doesn't end within it, or None."""
     found, at = [], 8
     for number in range(1, int.from_bytes(report[6:8], "big") + 1):
         if at + 8 > len(report):

@@ -105,16 +105,17 @@ class Live:
         return True
 
     def ask_hosts(self, session):
-        """Asks the hosts, where no querier was heard, and waits for the end of the answers. Returns whether that was done."""
+        """Asks the hosts, where no querier was heard, and waits for the end of the answers. Returns whether it did."""
         device, wait = self.task.device, self.words.wait
         if not self.task.is_asking:
             self.say(f"no General Query came on {device} in {wait} s; by default one comes every 125 s")
             if self.task.others:
-                self.say(f"{self.task.others} routers lie on this LAN, and a switch that snoops could keep streams from one of "
-                         "them while another asks: --ask-routers asks here all the same")
+                self.say(f"{self.task.others} routers lie on this LAN, and a switch that snoops could keep streams "
+                         "from one of them while another asks: --ask-routers asks here all the same")
             return False
         if self.gathering.others:
-            self.say(f"{igmp.dotted(self.gathering.others)} asks on {device}, so nothing is asked: wait for its General Query")
+            querier = igmp.dotted(self.gathering.others)
+            self.say(f"{querier} asks on {device}, so nothing is asked: wait for its General Query")
             return False
         self.say(f"no querier was heard on {device} in {wait} s, so its own address asks: routers may take it for the "
                  "querier for 255 s")
@@ -143,7 +144,8 @@ class Live:
         asking.start()
         session.pump(time.monotonic() + QUERY_SECONDS + 5, lambda: not asking.is_alive())
         asking.join(5)
-        found = came and not isinstance(came[0], Failed) and re.search(rb"^asked from ([0-9.]+)$", came[0].printed, re.M)
+        is_asked = came and not isinstance(came[0], Failed)
+        found = is_asked and re.search(rb"^asked from ([0-9.]+)$", came[0].printed, re.M)
         try:
             return ipaddress.IPv4Address(found[1].decode()).packed
         except (TypeError, ValueError) as fault:

@@ -42,7 +42,7 @@ class Running:
         """Begins with none."""
         self.lock = threading.RLock()
         self.processes = set()
-        self.is_beginning = False  # the main thread is between a fork and the moment from which its program can be ended
+        self.is_beginning = False  # the main thread is between a fork and the moment when its program can be ended
         self.grace = GRACE  # seconds that all that runs has to end by itself where the tool ends
         self.is_unheeded = False  # signals are not heeded now
         self.ended = threading.Event()  # set once no program is to begin any more
@@ -69,8 +69,7 @@ class Running:
         try:
             yield
         finally:
-            self.grace = GRACE  # seconds that all that runs has to end by itself where the tool ends
-        self.is_unheeded = False
+            self.is_unheeded = False
 
     def begin(self, words, **how):
         """Begins a program, in a session of its own."""
@@ -140,8 +139,9 @@ def signal_session(process, number):
 
 
 def run(words, text=b"", seconds=None, most=None, into=None, grace=GRACE, keeps_words=True):
-    """Runs a program to its end with the text as its standard input, for at most so many seconds, while it prints at most
-    so many bytes: into the file, or else kept. Of what it says the first is kept, unless that is to be seen at once."""
+    """Runs a program to its end with the text as its standard input, for at most so many seconds, while it prints at
+    most so many bytes: into the file, or else kept. Of what it says the first is kept, unless that is to be seen at
+    once."""
     process = RUNNING.begin(words, stdin=subprocess.PIPE if text else subprocess.DEVNULL, stdout=subprocess.PIPE,
                             stderr=subprocess.PIPE if keeps_words else None)
     came = Came(0, b"", b"")

@@ -5,6 +5,7 @@ from mcaudit_tools.capture import ALL_HOSTS_MAC, MOST_BYTES, SECOND, Frame
 from mcaudit_tools.common import Failed
 
 MOST_LINE = 65536
+MOST_PACKET = 65535  # bytes of an IPv4 packet
 DIGITS = re.compile(rb"[ \t]+0x([0-9a-f]+):  ?(.*)", re.DOTALL)
 SECONDS = re.compile(rb"[0-9]{1,12}(\.[0-9]{1,9})?")
 CLOCK = re.compile(rb"([0-9]{2}):([0-9]{2}):([0-9]{2})(?:\.([0-9]{1,9}))?")
@@ -61,6 +62,8 @@ class Recording:
             if self.frame is None:
                 self.frame = Frame(None, line=self.count)
             self.frame.data += bytes_of(digits[2])
+            if len(self.frame.data) > MOST_PACKET:
+                raise Failed(f"the text has a packet of more than {MOST_PACKET} bytes")
             return ended
         if not line.strip() or line[:1] in b" \t":
             return None

@@ -1,4 +1,4 @@
-"""A capture on an interface, here or on a router: tcpdump runs there in a shell, and its capture comes over the same way.
+"""A capture on an interface, here or on a router: tcpdump runs there in a shell, and its capture comes the same way.
 
 The shell is handed a script that says which addresses the interface has, and then becomes the capture, until its input
 ends. What comes before the random word is a greeting, and is passed over.
@@ -105,7 +105,8 @@ class Session:
                 if len(self.head) > MOST_GREETING:
                     raise NoCapture("the answer is not what was asked for")
                 return
-            self.take = self.make_take(networks_of(bytes(self.head[:at]).partition(f"{self.word} addresses\n".encode())[2]))
+            addresses = bytes(self.head[:at]).partition(f"{self.word} addresses\n".encode())[2]
+            self.take = self.make_take(networks_of(addresses))
             piece = bytes(self.head[at + len(mark):])
             self.head.clear()
         for frame in self.decoder.feed(piece):
@@ -135,7 +136,7 @@ class Session:
             raise self.failed()
 
     def end(self):
-        """Ends the capture, and takes all that it still has. Returns the sentence that tells how much was dropped, or None."""
+        """Ends the capture, and takes all that it still has. Returns what tells how much was dropped, or None."""
         with contextlib.suppress(OSError):
             self.process.stdin.close()
         self.pump(time.monotonic() + END)

@@ -42,7 +42,7 @@ def drop_output():
 
 
 def buffer_output():
-    """Sees that what is printed is written whole or fails: without a buffer (PYTHONUNBUFFERED) a part of it may be lost."""
+    """Sees that what is printed is written whole or fails: without a buffer (PYTHONUNBUFFERED) a part may be lost."""
     if sys.stdout is not None and isinstance(sys.stdout.buffer, io.RawIOBase):
         buffer = io.BufferedWriter(io.FileIO(sys.stdout.fileno(), "wb", closefd=False))
         sys.stdout = io.TextIOWrapper(buffer, encoding=sys.stdout.encoding, errors=sys.stdout.errors)

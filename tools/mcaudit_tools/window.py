@@ -1,7 +1,7 @@
 """The window of one General Query: which query counts, and whether what came in its answers' time is the LAN's list.
 
-A query counts that all hosts of the LAN have heard, and that one of the LAN sent: what a single host could have forged so
-that the others stay silent doesn't. The list is spoilt where it may lack an answer, or has what is none.
+A query counts that all hosts of the LAN have heard, and that one of the LAN sent: what a single host could have forged
+so that the others stay silent doesn't. The list is spoilt where it may lack an answer, or has what is none.
 """
 import dataclasses
 import ipaddress
@@ -223,8 +223,8 @@ class Gathering:
             self.spoil(packet.fault)
         elif not igmp.is_whole(message):
             if window.ignore(packet.sender) and not window.is_spoilt:
-                self.spoil(f"more than {MOST_IGNORED} packets, or of more than {MOST_IGNORED_SENDERS} senders, are too short "
-                           "or have a wrong checksum")
+                self.spoil(f"more than {MOST_IGNORED} packets, or of more than {MOST_IGNORED_SENDERS} senders, are too "
+                           "short or have a wrong checksum")
         elif message[0] in igmp.REPORTS:
             self.take_report(sender, packet)
         else:
@@ -291,7 +291,7 @@ class List:
 
 
 def list_of(gathering, statics, is_empty_allowed, option):
-    """Makes the list of what was gathered, and of the hosts that can't be asked. Tells what it has, or why there is none."""
+    """Makes the list of what was gathered, and of the hosts that can't be asked. Tells it, or why there is none."""
     status, say = gathering.finish(), gathering.say
     if status is not None:
         return List(status)
@@ -326,5 +326,5 @@ def tell_ignored(window, say):
 def tell_unheeded(window, say):
     """Names the groups of SSM that are asked for in vain."""
     for (kind, group), count in window.unheeded.items():
-        say(f"SSM group {dotted(group)}: reports of IGMP version {kind}, which ask for every source, so that SSM routers "
-            f"ignore them: {count}")
+        say(f"SSM group {dotted(group)}: reports of IGMP version {kind}, which ask for every source, so that SSM "
+            f"routers ignore them: {count}")

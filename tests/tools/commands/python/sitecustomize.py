@@ -2,8 +2,8 @@
 
 With the file sync.fails nothing can be put on the disk; with sync.forgets only the first line of a file is there then.
 With tables.limit a router's tables can be written into files of only so many blocks, as where the disk is full once an
-answer is there. Where the file mv.fails has the last name of what something is renamed to, that fails once; where mv.term
-has it, the tool gets a TERM just before.
+answer is there. Where the file mv.fails has the last name of what something is renamed to, that fails once; where
+mv.term has it, the tool gets a TERM just before.
 """
 import builtins
 import errno

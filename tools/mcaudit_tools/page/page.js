@@ -55,7 +55,8 @@ function placeOf(id, isOver) {
   if (!isPort) return [x + width / 2, isOver ? y - 4 : y + height + 13, "middle"];
   const line = numbersOf(at(id).querySelector("text"), "y")[0] + by[1];
   if (lan === null) return [x + width + 12, line, "start"];
-  const above = boxOf(at("l" + lan))[1] + (shiftOf("l" + lan) || by)[1], beside = above + 15 < line - 12 ? line + 10 : line - 10;
+  const above = boxOf(at("l" + lan))[1] + (shiftOf("l" + lan) || by)[1];
+  const beside = above + 15 < line - 12 ? line + 10 : line - 10;
   return isLeft ? [x - 12, beside, "end"] : [x + width + 12, beside, "start"];
 }
 
@@ -67,8 +68,8 @@ function putSigns() {
     const place = placeOf(id, isOver);
     if (!place) continue;
     const made = document.createElementNS(drawing.namespaceURI, "text"), count = isOver ? 0 : counts.get(id) || 0;
-    for (const [name, value] of [["x", place[0]], ["y", place[1] + 14 * count], ["text-anchor", place[2]], ["class", kind]])
-      made.setAttribute(name, value);
+    const attributes = { x: place[0], y: place[1] + 14 * count, "text-anchor": place[2], class: kind };
+    for (const [name, value] of Object.entries(attributes)) made.setAttribute(name, value);
     made.textContent = words;
     at("signs").append(made);
     if (!isOver) counts.set(id, count + 1);
@@ -76,7 +77,8 @@ function putSigns() {
 }
 
 function sign(id, kind, words, isOver) {
-  if (drawing && at(id) && words && !signs.some(it => it[0] === id && it[2] === words)) signs.push([id, kind, words, isOver]);
+  if (!drawing || !at(id) || !words || signs.some(it => it[0] === id && it[2] === words)) return;
+  signs.push([id, kind, words, isOver]);
 }
 
 const SIGNS = { fault: "✗ ", mend: "✂ ", doubt: "? " };
@@ -192,7 +194,8 @@ function putColumn(column, most, wish) {
   }
 }
 
-// Puts the columns: the tallest one as close as it can be, and the others beside what they are linked with. Returns the height.
+// Puts the columns: the tallest one as close as it can be, and the others beside what they are linked with. Returns the
+// height.
 function putColumns(columns) {
   const heights = columns.map(column => column.reduce((sum, it) => sum + it.height + ABOVE + BELOW, 0));
   const most = Math.max(...heights), first = heights.indexOf(most), middles = new Map();
@@ -200,7 +203,8 @@ function putColumns(columns) {
     const known = links.filter(id => middles.has(id)).map(id => middles.get(id));
     return known.length ? known.reduce((sum, it) => sum + it, 0) / known.length : 0;
   };
-  const order = columns.map((_, number) => number).sort((one, other) => Math.abs(one - first) - Math.abs(other - first));
+  const order = columns.map((_, number) => number);
+  order.sort((one, other) => Math.abs(one - first) - Math.abs(other - first));
   for (const number of order) {
     putColumn(columns[number], most, wish);
     for (const it of columns[number]) middles.set(it.id, it.top + it.height / 2);
@@ -240,7 +244,8 @@ function showWhole() {
 // Shows what is marked alone, without the room that others take.
 function showPart(part) {
   const moveX = squeezing(part.map(boxOf).map(([x, , width]) => [x - 70, x + width + 70]));
-  const columns = columnsOf(part), height = putColumns(columns), tops = new Map(columns.flat().map(it => [it.id, it.top]));
+  const columns = columnsOf(part), height = putColumns(columns);
+  const tops = new Map(columns.flat().map(it => [it.id, it.top]));
   shifts = new Map(part.map(node => {
     const [x, y] = boxOf(node);
     return [node.id, [moveX(x) - x, tops.get(node.id) - y]];
@@ -307,7 +312,8 @@ function stepText([port, ttl, outcome, copies, strays, sent]) {
     "its row takes from another interface: it ends here"][outcome];
   const onto = sent.map(it => `${data.lans[data.ports[it][2]]} by ${data.ports[it][1]}`).join(", ");
   const told = sent.length === copies ? " onto " : ", among them onto ";
-  return begin + (copies ? "sends " + count(copies, "copy", "copies") : strays ? "" : "sends no copy") + (onto && told + onto)
+  const sends = copies ? "sends " + count(copies, "copy", "copies") : strays ? "" : "sends no copy";
+  return begin + sends + (onto && told + onto)
     + (strays ? `${copies ? ", and " : ""}${count(strays, "copy leaves", "copies leave")} the known domain` : "");
 }
 
@@ -335,9 +341,10 @@ function travelWords(flow) {
     if (now && !isFirst) items[now - 1].scrollIntoView({ block: "nearest" });
   }
   show(last, true);
-  const more = steps[0] > last ? [make("p", {}, `${steps[0] - last} more steps are told by mcaudit audit --travel.`)] : [];
-  return [make("h3", {}, `Travel of one packet sent with ttl ${flow.found_ttl}`), make("div", { class: "stepper" }, ...buttons, said),
-    make("ol", { class: "steps" }, ...items), ...more];
+  const told = `${steps[0] - last} more steps are told by mcaudit audit --travel.`;
+  const more = steps[0] > last ? [make("p", {}, told)] : [];
+  return [make("h3", {}, `Travel of one packet sent with ttl ${flow.found_ttl}`),
+    make("div", { class: "stepper" }, ...buttons, said), make("ol", { class: "steps" }, ...items), ...more];
 }
 
 function treeList(flow) {
@@ -362,9 +369,13 @@ function treeList(flow) {
 }
 
 function findingWords(flow) {
-  if (flow.kind) return ["no", `✗ not right: ${flow.kind} ${flow.place}, found with ttl ${flow.found_ttl}`, data.means[flow.kind]];
+  if (flow.kind) {
+    const said = `✗ not right: ${flow.kind} ${flow.place}, found with ttl ${flow.found_ttl}`;
+    return ["no", said, data.means[flow.kind]];
+  }
   const copies = `at most ${count(flow.copies, "LAN carries", "LANs carry")} each packet`;
-  if (!flow.wanted.length) return ["unwanted", `○ ${data.right}, and wanted by nobody`, `No report asks for it; ${copies}.`];
+  if (!flow.wanted.length)
+    return ["unwanted", `○ ${data.right}, and wanted by nobody`, `No report asks for it; ${copies}.`];
   return ["yes", `✓ ${data.right}`, `Each LAN that wants it gets it once; ${copies}.`];
 }
 
@@ -451,7 +462,8 @@ function printFaults() {
   const told = found.filter(number => number !== chosen && data.flows[number].kind).map(number => data.flows[number]);
   at("printed").replaceChildren(...told.flatMap(flow => [
     make("h3", {}, `Flow ${flow.number}: ${flow.source} to ${flow.group}, ttl ${flow.ttl}: ${flow.kind} ${flow.place}`),
-    make("ol", { class: "why" }, ...data.reasons[flow.why].slice(1).map(([line]) => make("li", {}, lineText(flow, line))))]));
+    make("ol", { class: "why" },
+      ...data.reasons[flow.why].slice(1).map(([line]) => make("li", {}, lineText(flow, line))))]));
   if (told.length) at("printed").prepend(make("h2", {}, "What explains the other faults"));
 }
 

@@ -1,0 +1,143 @@
+"""mcaudit-draft: drafts the topology of a domain of what its routers say, for an operator to read.
+
+mcaudit-collect brings each router's vifs, rows, addresses and routes, and its rows again 5 seconds later. A LAN
+is a network that vifs have addresses in; a flow is a row of one source. The time to live of a flow is measured: it
+is that of packets which tcpdump sees come in on the source's LAN. What isn't sure is a comment in the file, and
+never a line: a router is believed of itself alone, and what it says is written as addresses, as numbers, as
+the names of its own devices in escapes, or as printable letters of a comment.
+"""
+import contextlib
+import os
+import sys
+import tempfile
+
+from mcaudit_tools.common import Failed, Parser, clean, whole_number
+from mcaudit_tools.draft.ask import ask_routers
+from mcaudit_tools.draft.changes import print_changes, take_interfaces
+from mcaudit_tools.draft.flows import find_flows
+from mcaudit_tools.draft.lans import place_vifs
+from mcaudit_tools.draft.measure import IDLE, measure_flows
+from mcaudit_tools.draft.shape import Draft
+from mcaudit_tools.draft.text import measuring_words, text_of
+from mcaudit_tools.files import beside, reason_of
+from mcaudit_tools.programs import RUNNING
+from mcaudit_tools.sets import site_of
+from mcaudit_tools.topology import read_toml
+
+GRACE = 3  # seconds that what it runs has to end what that began
+ABOUT = """Drafts SITE/topology of what the routers say, to be read before anything is judged by it.
+
+The routers are told as for mcaudit-collect. LANs are the networks of their vifs, flows the rows of one source,
+with their rates. What isn't sure is a comment: an interface of an unnumbered link, of a tunnel or a register vif, of
+a network that the router has twice, of a link whose other end no router has. The time to live of a flow is measured
+on a router of the source's LAN, which needs tcpdump and root there. A flow that couldn't be measured is a comment with
+the command that measures it, and is named at the end as not judged. A topology that is there is never changed."""
+MORE = """Statuses: 0 drafted, and all is sure; 1 drafted, and something is missing or isn't sure. With --update 0
+nothing differs, 1 something does, a router is missing, or the time to live of a flow that isn't idle isn't known. 3 the
+topology is there already or can't be written, or nothing could be asked, 5 wrong words.
+
+Examples:
+  mcaudit-draft --routers routers --ssh 'ssh -l root' site
+  mcaudit-draft --ttl 16 site r1=10.9.0.1 r2=admin@10.9.0.2"""
+
+
+def write_topology(site, text):
+    """Writes the topology whole, and not over another."""
+    path = os.path.join(site, "topology")
+    is_made, is_written = not os.path.isdir(site), False
+    try:
+        if is_made:
+            os.makedirs(site)
+        locked = site_of(site)
+        with locked.writing() if locked else contextlib.nullcontext(), beside(path, is_new=True) as file:
+            file.write(text.encode("ascii"))
+        is_written = True
+    except OSError as fault:
+        raise Failed(f"{path} can't be written: {reason_of(fault)}") from fault
+    finally:
+        if is_made and not is_written:
+            with contextlib.suppress(OSError):  # it holds something else by now
+                os.rmdir(site)
+
+
+def read_arguments():
+    """Reads the arguments."""
+    words = Parser(description=ABOUT, epilog=MORE)
+    words.add_argument("site", metavar="SITE")
+    words.add_argument("ways", metavar="NAME=WAY", nargs="*", help="a router and the way to it")
+    words.add_argument("--routers", metavar="FILE", help="take the routers of FILE too: NAME=WAY, a line each")
+    words.add_argument("--ssh", metavar="COMMAND", help="reach a HOST by `COMMAND HOST sh`")
+    words.add_argument("--timeout", metavar="SECONDS", type=whole_number(1, 999), default=60,
+                       help="give a router up when a reading takes longer (60)")
+    words.add_argument("--ttl", metavar="N", type=whole_number(1, 255),
+                       help="the time to live of all flows: none is measured")
+    words.add_argument("--measure", metavar="SECONDS", type=whole_number(1, 600), default=5,
+                       help="wait so long for packets of a flow (5)")
+    words.add_argument("--update", action="store_true", help="change nothing, and print what differs from the topology "
+                       "that is there, which gives the names and the times to live that weren't measured")
+    words.add_version()
+    found = words.parse_args()
+    found.timeout = str(found.timeout)
+    found.reach = [it for name in ("routers", "ssh") if getattr(found, name) is not None
+                   for it in (f"--{name}", getattr(found, name))]
+    return found
+
+
+def tell(draft, is_update):
+    """Says what the draft lacks, and last which flows aren't judged. Returns whether it lacks anything; beside a
+    topology that is there, which an operator has read, interfaces that aren't sure and idle flows are told alone."""
+    others = [it for it in draft.flows if it.ttl is None]
+    unsure = [it for it in draft.unsure if not it[2].startswith("a register vif")]
+    for it in draft.doubts:
+        print(f"mcaudit-draft: missing: {it}", file=sys.stderr)
+    for router, device, why, _ in unsure:
+        print(f"mcaudit-draft: unsure: {router} {clean(device)}: {why}", file=sys.stderr)
+    for it in others:
+        print(f"mcaudit-draft: not judged: {it.source} {it.group}: {it.said}{measuring_words(it)}", file=sys.stderr)
+    if is_update:
+        return bool(draft.doubts or any(it.said != IDLE for it in others))
+    return bool(draft.doubts or unsure or others)
+
+
+def draft_flows(words, draft):
+    """Gives the draft its flows, with their times to live."""
+    find_flows(draft)
+    measure_flows(words, draft)
+
+
+def compare(words, draft, path, topology):
+    """Compares the draft with the topology that is there. Returns whether something differs."""
+    try:
+        take_interfaces(draft, topology)
+        draft_flows(words, draft)
+        return print_changes(draft, topology)
+    except (KeyError, TypeError, AttributeError) as fault:
+        raise Failed(f"{path} is no topology: see what mcaudit says of it") from fault
+
+
+def draft_topology(words, scratch):
+    """Drafts the topology, or compares it with the one that is there. Returns the status."""
+    path = os.path.join(words.site, "topology")
+    if os.path.lexists(path) and not words.update:
+        raise Failed(f"{path} is there already: --update prints what has changed")
+    topology = read_toml(os.path.realpath(words.site), words.site) if words.update else None
+    routers, doubts = ask_routers(words, scratch)
+    draft = Draft(routers, doubts=doubts)
+    place_vifs(draft)
+    if words.update:
+        differs = compare(words, draft, path, topology)
+        return 1 if tell(draft, True) or differs else 0
+    draft_flows(words, draft)
+    write_topology(words.site, text_of(draft))
+    judged = sum(it.ttl is not None for it in draft.flows)
+    interfaces = sum(map(len, draft.lans.values()))
+    print(f"{path}: LANs {len(draft.lans)}, routers {len(routers)}, interfaces {interfaces}, flows {judged}")
+    return 1 if tell(draft, False) else 0
+
+
+def main():
+    """Drafts. Returns the status."""
+    words = read_arguments()
+    RUNNING.grace = GRACE
+    with tempfile.TemporaryDirectory(prefix="mcaudit-draft-") as scratch:
+        return draft_topology(words, scratch)

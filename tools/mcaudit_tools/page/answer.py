@@ -1,0 +1,170 @@
+"""What an audit answers, as a page needs it: by numbers, and each thing once."""
+import collections
+import json
+
+from mcaudit_tools import audit as audits
+from mcaudit_tools.common import Failed, Refused, find_tool
+from mcaudit_tools.page.explain import FLOW, SEEN, device_text, explanation, some
+from mcaudit_tools.page.travel import Travel, tree_of
+
+Port = collections.namedtuple("Port", "router device vif lan")
+
+
+class Domain:
+    """The LANs, routers and vifs of an audit, each told by its number."""
+
+    def __init__(self, line):
+        """Takes the domain of the first line."""
+        self.lans = [str(it) for it in line["lans"]]
+        self.routers = [str(it) for it in line["routers"]]
+        self.lan_numbers = {name: number for number, name in enumerate(self.lans)}
+        self.router_numbers = {name: number for number, name in enumerate(self.routers)}
+        self.sources = {it["address"]: self.lan_numbers[it["lan"]] for it in line["sources"]}
+        self.ports, self.by_vif = [], {}
+        for it in line["interfaces"]:
+            lan = None if it["lan"] is None and it["vif"] is not None else self.lan_numbers[it["lan"]]
+            self.add(Port(self.router_numbers[it["router"]], device_text(it["device"], it["vif"]), it["vif"], lan))
+        self.of_router = collections.defaultdict(list)
+        for number, port in enumerate(self.ports):
+            if port.lan is not None and port.vif is not None:
+                self.of_router[port.router].append(number)
+
+    def add(self, port):
+        """Adds a vif, or an interface that has none."""
+        if port.vif is not None:
+            self.by_vif[port.router, port.vif] = len(self.ports)
+        self.ports.append(port)
+
+    def port(self, router, vif):
+        """Returns the number of the router's vif. One that its table has no line for is on no LAN."""
+        key = self.router_numbers[router], int(vif)
+        if key not in self.by_vif:
+            self.add(Port(key[0], device_text(None, vif), vif, None))
+        return self.by_vif[key]
+
+    def port_of_device(self, router, device):
+        """Returns the number of the router's interface of this name."""
+        router = self.router_numbers[router]
+        return next(number for number, it in enumerate(self.ports) if (it.router, it.device) == (router, device))
+
+
+class Audit:
+    """What an audit answers, taken line by line, which `audit` has seen to be all and in their order."""
+
+    def __init__(self):
+        """Begins with nothing."""
+        self.domain = self.summary = self.verdict = None
+        self.trees, self.flows, self.unlisted, self.without = [], [], [], []
+        self.reasons, self.travels = Once(), Once()
+        self.unlisted_more = 0
+
+    def take(self, line):
+        """Takes a line's object."""
+        if self.domain is None:
+            self.domain = Domain(line["domain"])
+        elif "entries" in line:
+            self.trees.append(tree_of(self.domain, line["entries"]))
+        elif "flow" in line:
+            self.flows.append(self.wrong_flow(line) if line["right"] is False else self.right_flow(line))
+        elif "unlisted" in line:
+            pair = line["unlisted"]
+            self.unlisted.append((str(pair["source"]), str(pair["group"]), [str(it) for it in pair["routers"]]))
+        elif "unlisted_more" in line:
+            self.unlisted_more = int(line["unlisted_more"]["rows"])
+        elif "without" in line:
+            self.without = [str(it) for it in line["without"]]
+        elif "summary" in line:
+            self.summary = {key: int(line["summary"][key]) for key in ("flows", "right", "wrong", "unwanted")}
+        else:
+            self.verdict = {"yes": "yes", "no": "no"}[line["verdict"]]
+
+    def flow(self, line):
+        """Returns what each flow has."""
+        return {"number": int(line["flow"]), "source": str(line["source"]), "group": str(line["group"]),
+                "ttl": int(line["ttl"]), "lan": self.domain.sources[line["source"]]}
+
+    def right_flow(self, line):
+        """Returns a flow that is right, by its tree."""
+        return self.flow(line) | {"copies": int(line["copies"]), "tree": range(len(self.trees))[line["tree"]],
+                                  "wanted": [self.domain.lan_numbers[lan] for lan in line["wanted"]]}
+
+    def wrong_flow(self, line):
+        """Returns a flow that is not right, with what explains it."""
+        domain, flow, finding = self.domain, self.flow(line), line["finding"]
+        told = [[text.replace(f"({flow['source']},{flow['group']})", FLOW), marks]
+                for text, marks in explanation(domain, line["why"])]
+        also = [str(lan) for lan in line["also"]]
+        if also:
+            marks = [[f"l{domain.lan_numbers[lan]}", "fault", "missed"] for lan in also]
+            told.append([f"also missed: {some(also)}", marks])
+        travel = Travel(domain, line.get("events", []), line["why"], finding["kind"], flow["lan"], line["found_ttl"])
+        if finding["kind"] == "Stray":
+            port = domain.port(finding["router"], finding["vif"])
+            place, words = f"p{port}", f"{finding['router']} {finding['vif']} ({domain.ports[port].device})"
+        else:
+            place, words = f"l{domain.lan_numbers[finding['lan']]}", finding["lan"]
+        told.insert(0, ["", [[place, "fault", SEEN[finding["kind"]]]]])
+        return flow | {"kind": finding["kind"], "place": str(words), "found_ttl": int(line["found_ttl"]),
+                       "why": self.reasons.number(told), "travel": self.travels.number(travel.steps())}
+
+
+class Once:
+    """Values, each different one once."""
+
+    def __init__(self):
+        """Begins with none."""
+        self.numbers, self.values = {}, []
+
+    def number(self, value):
+        """Returns the number of the value."""
+        key = json.dumps(value)
+        if key not in self.numbers:
+            self.numbers[key] = len(self.values)
+            self.values.append(value)
+        return self.numbers[key]
+
+
+def audit_of(objects):
+    """Returns what the objects of an audit's lines say."""
+    audit = Audit()
+    for number, it in enumerate(objects, 1):
+        try:
+            audit.take(it)
+        except (AttributeError, LookupError, RecursionError, StopIteration, TypeError, ValueError) as fault:
+            raise Refused(f"line {number} is none of an audit in JSON: {type(fault).__name__} {fault}") from fault
+    return audit
+
+
+def run_audit(words, folder):
+    """Runs the audit that the words ask for of the folder, and returns what it answers."""
+    command = [words.program or find_tool("mcaudit"), "audit", folder.path, "--json", "--travel", "--unlisted"]
+    for router in words.without:
+        command += ["--without", router]
+    status, objects = audits.run_audit(command, "mcaudit audit")
+    if status in (2, 3):
+        folder.check()
+    if 2 <= status <= 5:
+        raise Silent(status)
+    if status not in (0, 1):
+        raise Failed(f"mcaudit audit ended with status {status}")
+    try:
+        answer = audit_of(objects)
+    except Refused as fault:
+        raise Failed(f"what mcaudit audit answers can't be read: {fault}") from fault
+    if (answer.verdict == "yes") != (status == 0):
+        raise Failed(f"mcaudit audit printed another verdict than that of its status {status}")
+    return answer
+
+
+class Silent(Failed):
+    """The audit ended with a status that is no verdict's, and has said why."""
+
+    def __init__(self, status):
+        """Takes the status."""
+        super().__init__(f"mcaudit audit ended with status {status}", status)
+
+
+def read_audit(path):
+    """Returns what the file says that an audit answered; `-` is standard input."""
+    with audits.telling(path):
+        return audit_of(audits.objects_of(path, "-"))

@@ -1,0 +1,100 @@
+"""The folder that a page is of, and when what lies in it was collected."""
+import contextlib
+import dataclasses
+import os
+import time
+
+from mcaudit_tools import origins
+from mcaudit_tools.common import Failed, say
+from mcaudit_tools.page.explain import some
+from mcaudit_tools.page.markup import table_of, tag
+
+
+@dataclasses.dataclass
+class Folder:
+    """The folder that a page is of: its name as it was given, and the set that it led to when the page was begun."""
+
+    named: str
+    path: str
+    is_set: bool
+    was_there: bool = True
+
+    def check(self):
+        """Fails where the set is gone."""
+        if self.was_there and not os.path.isdir(self.path):
+            raise Failed(f"{self.named}: the set was removed meanwhile")
+
+
+def folder_of(site):
+    """Returns the folder of this name, as it is now; None where none was given."""
+    if site is None:
+        return None
+    named = site.rstrip("/") or site
+    path = os.path.realpath(named)
+    return Folder(named, path, os.path.islink(named), os.path.isdir(path))
+
+
+def file_about(domain, name):
+    """Returns the rank of a file of the folder among the others, and what it is."""
+    prefix, _, rest = name.partition("-")
+    if name == "topology":
+        return 0, 0, "the topology"
+    if prefix in ("vif", "cache") and rest in domain.router_numbers:
+        return 1, domain.router_numbers[rest], f"{'vifs' if prefix == 'vif' else 'rows'} of the router {rest}"
+    if prefix == "igmp" and rest in domain.lan_numbers:
+        return 2, domain.lan_numbers[rest], f"reports of the LAN {rest}"
+    return 3, 0, "not read by an audit"
+
+
+def text_of_time(seconds):
+    """Returns a time as it is shown."""
+    return time.strftime("%Y-%m-%dT%H:%M:%SZ", time.gmtime(seconds))
+
+
+def collected_times(folder):
+    """Returns when each file of the folder was written, by name, as its collected.json says."""
+    try:
+        return {name: text_of_time(it.time) for name, it in origins.read(folder.path, folder.named).items()}
+    except (Failed, OverflowError, ValueError, OSError) as fault:
+        say(str(fault))
+        return {}
+
+
+def own_times(folder, names):
+    """Returns when those of the files that the folder has were written, by name, as the files themselves say."""
+    found = {}
+    for name in names:
+        with contextlib.suppress(OSError, ValueError):  # no such file, or no name of one
+            found[name] = text_of_time(os.stat(os.path.join(folder, name)).st_mtime)
+    return found
+
+
+def collected_section(domain, folder):
+    """Returns when what was judged was collected."""
+    times = collected_times(folder) if folder else {}
+    if not times:
+        return [tag("p", "When the files were written isn't known: there is no list of times beside them, as "
+                         "mcaudit-collect writes it.")]
+    needed = ["topology", *(f"{kind}-{router}" for router in domain.routers for kind in ("vif", "cache")),
+              *(f"igmp-{lan}" for lan in domain.lans)]
+    is_set, own = folder.is_set, own_times(folder.path, needed)
+    later = {name: when for name, when in own.items()
+             if name not in times or (is_set and name.startswith("igmp-") and when > times[name])}
+    absent = [name for name in needed if name not in times and name not in own]
+    all_times = {**times, **{name: f"{when}, by the file itself" for name, when in later.items()}}
+    about = {name: file_about(domain, name) for name in all_times}
+    order = sorted(all_times, key=lambda name: (about[name][:2], name))
+    tables = sorted(times[name] for name in times if about[name][0] == 1)
+    said = [f"Set {os.path.basename(folder.path)}"] if is_set else []
+    said += [f"{len(order)} files"]
+    said += [f"the routers' tables were written from {tables[0]} to {tables[-1]}"] if tables else []
+    said = ["; ".join(said) + "."]
+    said += ["Gathered or written after the tables, so that collected.json doesn't have their times, but read by the "
+             f"audit all the same: {some(list(later))}."] if later else []
+    said += [f"Not in the folder: {some(absent)}."] if absent else []
+    rows = [tag("tr", tag("td", tag("code", name)), tag("td", about[name][2]), tag("td", all_times[name]))
+            for name in order]
+    return [tag("p", " ".join(said)),
+            tag("details", tag("summary", "Each file, and when it was written"),
+                table_of(("File", "What it is", "Written, by collected.json"), rows),
+                open=None if len(rows) > 40 else "")]

@@ -1,0 +1,152 @@
+"""The page: one file of HTML with the verdict, the flows, the graph, and what its script draws on demand."""
+import collections
+import os
+
+from mcaudit_tools.common import PROGRAM
+from mcaudit_tools.page.explain import FLOW, MEANS, MISSED_PERHAPS, SEEN, some
+from mcaudit_tools.page.graph import DRAWING
+from mcaudit_tools.page.markup import Markup, digest, json_markup, table_of, tag
+from mcaudit_tools.page.collected import collected_section
+from mcaudit_tools.page.remarks import unjudged_section, unlisted_section
+from mcaudit_tools.page.travel import OUTCOMES
+
+# Where the page's script runs, the table is laid out once, when it is whole, and not again and again
+WAIT = 'document.documentElement.dataset.ready = "no";'
+SIGNS = {"yes": "✓", "no": "✗", "unwanted": "○"}
+KEY = [("lan", "LAN"), ("router", "router, with its devices"), ("way", "the way of the flow"),
+       ("fault", "✗ fault"), ("mend", "✂ can be taken out"), ("doubt", "? waits, or not judged")]
+
+
+def plural(count, one, many):
+    """Returns the count with the word for it."""
+    return f"{count} {one if count == 1 else many}"
+
+
+def verdict_words(audit):
+    """Returns what the verdict says, in a sentence or two."""
+    flows, wrong, unwanted = (audit.summary[key] for key in ("flows", "wrong", "unwanted"))
+    if audit.verdict == "yes":
+        said = ("However the routers take turns, no LAN carries a packet of a listed flow twice, no copy leaves the "
+                "listed LANs, and each LAN that wants a flow gets it, once, where no copy is lost.")
+    elif wrong:
+        said = f"{wrong} of {flows} flows {'is' if wrong == 1 else 'are'} not right."
+        said = "The flow is not right." if flows == 1 else said
+    else:
+        said = "No fault is known."
+    if audit.without:
+        said += f" Left out: {some(audit.without)}. A yes is said of whole domains only."
+    if unwanted:
+        said += f" {plural(unwanted, 'flow is', 'flows are')} wanted by no LAN, as far as the reports show."
+    return said
+
+
+def header(audit, site):
+    """Returns the verdict and what it is about."""
+    summary, domain = audit.summary, audit.domain
+    right = "No fault known" if audit.without else "Right"
+    facts = [("Flows", summary["flows"]), (right, summary["right"]), ("Not right", summary["wrong"]),
+             ("Wanted by nobody", summary["unwanted"]), ("LANs", len(domain.lans)), ("Routers", len(domain.routers)),
+             ("Not listed", len(audit.unlisted))]
+    return tag("header", tag("p", SIGNS[audit.verdict], class_="sign", aria_hidden="true"),
+               tag("div", tag("h1", f"Verdict: {audit.verdict}"), tag("p", verdict_words(audit)), class_="said"),
+               tag("dl", *(tag("div", tag("dt", name), tag("dd", value)) for name, value in facts)),
+               tag("p", "Multicast audit of ", tag("strong", site), class_="site") if site else "",
+               class_=f"verdict {audit.verdict}")
+
+
+def row_words(audit, flow):
+    """Returns the flow's kinds, by which it can be chosen, and its sign and words."""
+    if "kind" in flow:
+        return f"wrong {flow['kind']}", SIGNS["no"], f"{flow['kind']} {flow['place']}"
+    right = "no fault known" if audit.without else "right"
+    if not flow["wanted"]:
+        return "right unwanted", SIGNS["unwanted"], f"{right}, wanted by nobody"
+    wanted = [audit.domain.lans[it] for it in flow["wanted"]]
+    by = " ".join(wanted) if len(wanted) < 3 else f"{len(wanted)} LANs"
+    return "right", SIGNS["yes"], f"{right}, wanted by {by}"
+
+
+def flow_row(audit, flow):
+    """Returns the flow's row of the table."""
+    kinds, sign, words = row_words(audit, flow)
+    number = flow["number"]
+    link = tag("a", number, href=f"#flow-{number}", aria_label=f"flow {number}")
+    return tag("tr", tag("td", link), tag("td", flow["source"]), tag("td", flow["group"]), tag("td", flow["ttl"]),
+               tag("td", tag("b", sign, aria_hidden="true"), f" {words}"), class_=kinds)
+
+
+def choices(audit):
+    """Returns the kinds of flows to choose from, with how many there are."""
+    counts = collections.Counter(kind for flow in audit.flows for kind in row_words(audit, flow)[0].split())
+    right = "no fault known" if audit.without else "right"
+    found = [("all", "all", len(audit.flows)), ("wrong", "not right", counts["wrong"])]
+    found += [(kind, kind, counts[kind]) for kind in SEEN] + [("right", right, counts["right"]),
+                                                              ("unwanted", "wanted by nobody", counts["unwanted"])]
+    return [tag("label", tag("input", type="radio", name="kind", value=value, checked="" if value == "all" else None),
+                tag("span", f"{words} {count}")) for value, words, count in found if count or value == "all"]
+
+
+def flows_section(audit):
+    """Returns the table of flows, with what searches it."""
+    return tag("section", tag("h2", "Flows"),
+               tag("form", tag("label", "Search ", tag("input", type="search", id="search", autocomplete="off",
+                                                       placeholder="an address, a LAN, a router, a finding")),
+                   tag("fieldset", tag("legend", "Show"), *choices(audit)), role="search"),
+               tag("p", plural(len(audit.flows), "flow", "flows"), id="count", role="status"),
+               tag("div", table_of(("No.", "Source", "Group", "TTL", "Verdict"),
+                                   [flow_row(audit, flow) for flow in audit.flows], id="rows"),
+                   class_="scroll", id="list"), id="flows")
+
+
+def flow_section(graph):
+    """Returns where a flow's way or fault is shown."""
+    tools = [tag("button", words, type="button", id=name, aria_label=label) for name, words, label in (
+        ("closer", "+", "larger"), ("farther", "−", "smaller"), ("fit", "whole domain", "show the whole domain"),
+        ("focus", "this flow", "show what is marked"))]
+    picture = [tag("div", *tools, class_="tools"), tag("div", graph.markup(), id="view", tabindex="0", role="region",
+                                                       aria_label="Graph of the domain"),
+               tag("figcaption", *(tag("span", words, class_=kind) for kind, words in KEY))] if graph else [
+                   tag("p", f"The domain was not drawn in {DRAWING} s: its flows are told in words alone.")]
+    return tag("section", tag("h2", "The domain", id="title"), tag("p", id="finding", role="status"),
+               tag("div", tag("figure", *picture), tag("div", id="explained"), class_="beside"),
+               tag("noscript", tag("p", "This page shows a flow's way and what explains its fault by its own script, "
+                                        "which doesn't run here. mcaudit audit says the same as text.")), id="flow")
+
+
+def page_data(audit, graph):
+    """Returns what the page's script draws on demand."""
+    left = {it for ports in graph.left.values() for it in ports} if graph else set()
+    domain = audit.domain
+    return {"lans": domain.lans, "routers": domain.routers, "outcomes": OUTCOMES, "mark": FLOW,
+            "means": MEANS | ({"Missed": MISSED_PERHAPS} if audit.without else {}),
+            "ports": [[it.router, it.device, it.lan, number in left] for number, it in enumerate(domain.ports)],
+            "trees": audit.trees, "reasons": audit.reasons.values, "travels": audit.travels.values,
+            "right": "no fault known" if audit.without else "right", "flows": audit.flows}
+
+
+def data_of(name):
+    """Returns the text of a file of this package."""
+    with open(os.path.join(os.path.dirname(__file__), name), encoding="utf-8") as file:
+        return file.read()
+
+
+def page_of(audit, graph, folder):
+    """Returns the page."""
+    style, script = data_of("page.css"), data_of("page.js")
+    policy = (f"default-src 'none'; base-uri 'none'; form-action 'none'; style-src {digest(style)}; "
+              f"script-src {digest(WAIT)} {digest(script)}")
+    site = folder.named if folder else None
+    named = f" of {site}" if site else ""
+    sections = [("Flows that are not listed", unlisted_section(audit)),
+                ("What was collected, and when", collected_section(audit.domain, folder)),
+                ("What is not judged", unjudged_section(audit, folder))]
+    head = [tag("meta", charset="utf-8"), tag("meta", http_equiv="Content-Security-Policy", content=policy),
+            tag("meta", name="viewport", content="width=device-width, initial-scale=1"),
+            tag("title", f"Verdict {audit.verdict}: multicast audit{named}"), tag("style", Markup(style))]
+    body = [tag("script", Markup(WAIT)), header(audit, site), tag("main", flows_section(audit), flow_section(graph)),
+            *(tag("section", tag("h2", title), *inner) for title, inner in sections),
+            tag("section", id="printed"),
+            tag("footer", f"Made by mcaudit-page {PROGRAM.version} of what mcaudit audit answered."),
+            tag("script", json_markup(page_data(audit, graph)), type="application/json", id="data"),
+            tag("script", Markup(script))]
+    return "<!DOCTYPE html>\n" + tag("html", tag("head", *head), "\n", tag("body", *body), lang="en") + "\n"

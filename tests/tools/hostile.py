@@ -322,6 +322,73 @@ def list_that_comes_while_a_set_is_made(place):
     assert json.loads(place.read("site/collected.json"))["files"]["igmp-l2"]["by"] == "static"
 
 
+def collected(place, ways):
+    """Makes a set of these routers. Returns the path of the set before it."""
+    before = os.path.realpath(place.at("site"))
+    assert place.run("collect", "--pause", "0", "site", *ways) == 0, place.said
+    assert os.path.realpath(place.at("site")) != before
+    return before
+
+
+@case
+def files_written_late_into_the_set_before(place):
+    """They come into the next set: of an open file, of a new one and of a folder; each is named once."""
+    ways = place.routers("r1", "r2")
+    place.site()
+    with open(place.at("site/igmp-l2"), "a", encoding="ascii") as written:
+        before = collected(place, ways)
+        assert "late" not in place.said and "had been made" not in place.said, place.said
+        written.write(p.wants("239.1.2.3").hex() + "\n")
+    place.write(f"{before}/notes", "n")
+    place.write(f"{before}/old/notes", "o")
+    collected(place, ways)
+    assert place.read("site/igmp-l2").endswith(p.wants("239.1.2.3").hex() + "\n"), "the list is lost"
+    assert place.read("site/notes") == "n" and place.read("site/old/notes") == "o"
+    assert place.said.count("had been made of it") == 3 and "./site/igmp-l2 is what" in place.said, place.said
+    assert json.loads(place.read("site/collected.json"))["files"]["igmp-l2"]["by"] == "operator"
+    collected(place, ways)
+    assert "had been made" not in place.said and place.read("site/notes") == "n", place.said
+
+
+@case
+def files_written_into_both_sets(place):
+    """What the newer one has stays, and the other is named; where both have the same there is nothing to say."""
+    ways = place.routers("r1", "r2")
+    place.site()
+    before = collected(place, ways)
+    for name, old, new in (("igmp-l1", "a\n", "b\n"), ("igmp-l2", "c\n", "c\n"), ("notes", "x", "y")):
+        place.write(f"{before}/{name}", old)
+        place.write(f"site/{name}", new)
+    os.unlink(place.at("site/igmp-l0"))
+    place.write(f"{before}/igmp-l0", "d\n")
+    collected(place, ways)
+    assert [place.read(f"site/{it}") for it in ("igmp-l1", "igmp-l2", "notes")] == ["b\n", "c\n", "y"]
+    for name, is_named in (("igmp-l1", True), ("igmp-l2", False), ("notes", True), ("igmp-l0", True)):
+        assert (f"./site/{name} was written in" in place.said) == is_named, place.said
+    assert not os.path.exists(place.at("site/igmp-l0"))
+
+
+@case
+def file_written_between_its_copy_and_the_swap(place):
+    """It comes into the set after the new one."""
+    ways = place.routers("r1", "r2")
+    place.site()
+    place.write("slow/sitecustomize.py", "import os, time\nfsync = os.fsync\n"
+                "def slowly(opened):\n    time.sleep(.1)\n    fsync(opened)\nos.fsync = slowly\n")
+    place.environment["PYTHONPATH"] = place.at("slow")
+    with place.begin("collect", "--pause", "0", "site", *ways) as collecting:
+        until = time.monotonic() + 20
+        while not glob.glob(place.at("site.sets/.reading.*/set/.carried")) and time.monotonic() < until:
+            time.sleep(0.01)
+        place.write("site.sets/20260101T000000Z/igmp-l2", "late\n")
+        assert os.path.realpath(place.at("site")).endswith("20260101T000000Z"), "the swap was before"
+        assert collecting.wait(30) == 0
+    assert place.read("site/igmp-l2") != "late\n"
+    del place.environment["PYTHONPATH"]
+    collected(place, ways)
+    assert place.read("site/igmp-l2") == "late\n" and "igmp-l2 is what was written" in place.said, place.said
+
+
 @case
 def adopts_at_once(place):
     """One waits for the other, or is refused, and nothing is lost."""

@@ -99,10 +99,11 @@ judge_output() {
     fi
 }
 
-# Compares the folder $2 with the folder $1, but for the times in its lists of times, and for its locks.
+# Compares the folder $2 with the folder $1, but for the times in its lists of times, for its locks, and
+# for what it keeps of the set before it.
 same_folder() {
     cp -RL "$2/." "$place.copy" || return 1
-    find "$place.copy" -name '*.write.lock' -exec rm {} +
+    find "$place.copy" '(' -name '*.write.lock' -o -name .carried ')' -exec rm {} +
     find "$place.copy" -name collected.json -o -name topology > "$place.timed"
     while read -r file; do
         without_times "$file" > "$place.untimed" && mv "$place.untimed" "$file"

@@ -69,8 +69,7 @@ class Running:
         try:
             yield
         finally:
-            self.grace = GRACE  # seconds that all that runs has to end by itself where the tool ends
-        self.is_unheeded = False
+            self.is_unheeded = False
 
     def begin(self, words, **how):
         """Begins a program, in a session of its own."""

@@ -213,6 +213,73 @@ def packets_that_receivers_ignore(place):
         assert place.captured(framed(*GOOD[:2], *some, GOOD[2])) == (1, None), place.said
 
 
+def bad_of(*hosts):
+    """Returns packets that receivers ignore, of these hosts: too short, or with a wrong sum of the message or the header."""
+    kinds = (b"\x22", b"\x22\0\x12\x34\0\0\0\0", None)
+    made = [(host, kinds[turn % 3]) for turn, host in enumerate(hosts)]
+    return [(2 + turn / 10, with_a_bad_header(p.wanted(host, "239.6.6.6")) if message is None
+             else p.packet(host, p.ROUTERS, message)) for turn, (host, message) in enumerate(made)]
+
+
+def with_a_bad_header(packet):
+    """Returns the packet with a wrong checksum of its header."""
+    return packet[:10] + bytes([packet[10] ^ 255]) + packet[11:]
+
+
+@case
+def ignored_packets_at_their_limits(place):
+    """8 of 2 senders are left aside, and not 9, nor those of 3 senders; before and after the answers none counts."""
+    one, two, three = "10.0.1.66", "10.0.1.67", "10.0.1.68"
+    outside = [(-1 - turn / 10, it) for turn, (_, it) in enumerate(bad_of(*[three] * 20))][::-1]
+    for hosts, expected in (([one] * 8, (0, LISTED)), ([one, two] * 4, (0, LISTED)), ([one] * 9, (1, None)),
+                            ([one, two] * 4 + [one], (1, None)), ([one, two, three], (1, None))):
+        for gather in (lambda some: place.captured(framed(*some)), lambda some: place.reports("--text", text=p.text(some))):
+            os.path.exists(place.at("list")) and os.unlink(place.at("list"))
+            found = gather((*outside, *GOOD[:2], *bad_of(*hosts), GOOD[2]))
+            assert found == expected, (hosts, found, place.said)
+            for host in set(hosts) if found[0] == 0 else ():
+                assert f"left aside of {host}, too short or with a wrong checksum: {hosts.count(host)}" in place.said
+
+
+@case
+def list_marked_with_who_sent_nothing_whole(place):
+    """collected.json names the senders of whom only such came that receivers ignore, and no others."""
+    place.site()
+    frames = framed(*GOOD[:2], *bad_of("10.0.1.66", "10.0.1.5"), GOOD[2])
+    place.write("l1.pcap", p.pcap(frames))
+    for options, unchecked in ((["--network", "10.0.1.0/24"], ["sender 10.0.1.66"]), ([], ["sender 10.0.1.66", "network"])):
+        assert place.run("reports", "-o", "site/igmp-l1", "--capture", "l1.pcap", *options) == 0, place.said
+        assert json.loads(place.read("site/collected.json"))["files"]["igmp-l1"]["unchecked"] == unchecked
+    assert place.said.count("and nothing else of it came") == 1, place.said
+    text = p.text((*GOOD[:2], *bad_of("10.0.1.66"), GOOD[2]))
+    assert place.run("reports", "-o", "site/igmp-l1", "--text", text=text) == 0, place.said
+    assert set(json.loads(place.read("site/collected.json"))["files"]["igmp-l1"]["unchecked"]) == {
+        "sender 10.0.1.66", "network", "link"}
+
+
+@case
+def live_list_marked_with_who_sent_nothing_whole(place):
+    """So are those of an interface, and of all LANs, whose networks are known."""
+    place.site()
+    place.script("ip", 'echo "    inet 10.0.1.9/24 scope global l1"')
+    place.write("window", p.pcap(framed((0, p.asked(tenths=10)), *GOOD[1:2], *bad_of("10.0.1.66"))))
+    place.script("tcpdump", 'echo "listening on l1" >&2; trap "echo 3 packets captured >&2; exit 0" TERM; cat window\n'
+                 "while :; do sleep .1; done")
+    for words in (["-o", "site/igmp-l1", "l1"], ["--all", "site", "r1=!env", "r2=!env"]):
+        assert place.run("reports", "--wait", "3", *words) == 0, place.said
+        found = json.loads(place.read("site/collected.json"))["files"]["igmp-l1"]
+        assert found["unchecked"] == ["sender 10.0.1.66"] and "nothing else of it came" in place.said, place.said
+
+
+@case
+def query_with_a_header_that_hosts_drop(place):
+    """It counts for nobody, and doesn't spoil what another one asked for."""
+    forged = with_a_bad_header(p.asked("10.0.1.66"))
+    assert place.captured(framed((0, forged), (1, p.wanted("10.0.1.66", "239.9.9.9")), (13, p.later()))) == (1, None)
+    frames = framed((-30, forged), (-29, p.wanted("10.0.1.66", "239.9.9.9")), *GOOD[:2], (2, forged), GOOD[2])
+    assert place.captured(frames) == (0, LISTED), place.said
+
+
 @case
 def lists_that_mcaudit_refuses(place):
     """Never with status 0: a record that doesn't end, a change, too many messages."""

@@ -46,18 +46,20 @@ class Packet:
 
 
 def packet_of(data):
-    """Reads an IPv4 packet; None where it is none of IGMP."""
+    """Reads an IPv4 packet; None where it is none of IGMP. One whose header has a wrong checksum has an empty message."""
     if len(data) < 20:
         return Packet(bytes(4), bytes(4), 0, b"", f"a packet was cut to {len(data)} bytes") if data[:1] >= b"\x40" else None
     header, total = (data[0] & 15) * 4, int.from_bytes(data[2:4], "big")
     if data[0] >> 4 != 4 or data[9] != IGMP or header < 20 or total < header:
         return None
-    sender, fault = data[12:16], None
-    if int.from_bytes(data[6:8], "big") & 0x3FFF:
+    sender, fault, message = data[12:16], None, data[header:total]
+    if len(data) >= header and sum_of(data[:header]):
+        message = b""  # its receivers drop the packet, whatever it has
+    elif int.from_bytes(data[6:8], "big") & 0x3FFF:
         fault = f"a fragment of {dotted(sender)}, which is not put together"
     elif len(data) < total:
         fault = f"a packet of {dotted(sender)} was cut to {len(data)} of {total} bytes"
-    return Packet(sender, data[16:20], data[8], data[header:total], fault)
+    return Packet(sender, data[16:20], data[8], message, fault)
 
 
 def is_general_query(message):

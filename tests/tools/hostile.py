@@ -631,6 +631,25 @@ def topologies_and_audits_that_are_none(place):
 
 
 @case
+def packets_that_a_draft_measures(place):
+    """Their times to live are read as those of a recorded text: no other packet's, and of no line that has no digits."""
+    def lives_of(text):
+        """Returns the times to live that are read, as text, or why none is."""
+        code = ("import sys\nfrom mcaudit_tools import common, draft\ntry:\n    lives = draft.times_to_live(sys.stdin.buffer.read())\n"
+                "except common.Failed as fault:\n    sys.exit(print(fault))\n"
+                "print(sorted((*map(str, key), *sorted(it)) for key, it in lives.items()))")
+        done = subprocess.run([sys.executable, "-c", code], input=text, cwd=TOOLS, env=place.environment, capture_output=True,
+                              check=True)
+        return done.stdout.decode().strip()
+    sent = [p.packet("10.0.0.5", "239.1.2.3", b"x" * 30, ttl, 17) for ttl in (7, 9)]
+    assert lives_of(p.text(((0, sent[0]), (1, sent[1])))) == "[('10.0.0.5', '239.1.2.3', 7, 9)]"
+    assert lives_of(p.text(((0, sent[0]), (1, with_a_bad_header(sent[1]))))) == "[('10.0.0.5', '239.1.2.3', 7)]"
+    assert lives_of(p.text(((0, sent[0][:19]), (1, b"\x60" + sent[1][1:]), (2, b"")))) == "[]"
+    assert lives_of(b"1.0 IP\n\t0x0000:  45zz\n") == "the text has a line of digits that are none"
+    assert "65536" in lives_of(b"x" * 70000)
+
+
+@case
 def diff_that_crashes(place):
     """What changed is then unknown, and not nothing."""
     ways = place.routers("r1", "r2")

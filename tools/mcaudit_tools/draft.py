@@ -10,6 +10,7 @@ import concurrent.futures
 import contextlib
 import dataclasses
 import difflib
+import io
 import ipaddress
 import itertools
 import json
@@ -18,6 +19,7 @@ import re
 import sys
 import tempfile
 
+from mcaudit_tools import igmp, recording
 from mcaudit_tools.common import Failed, Parser, find_tool, whole_number
 from mcaudit_tools.files import read_regular, reason_of, sync_folder, umask
 from mcaudit_tools.programs import RUNNING, run
@@ -33,7 +35,6 @@ MOST_FLOWS = 4096
 MOST_NETWORKS = 16  # on one interface
 REGISTER, TUNNEL = 4, 1  # flags of a vif
 GROUPS = ipaddress.IPv4Address("224.0.1.0"), ipaddress.IPv4Address("239.255.255.255")
-PACKET_LINE = re.compile(r"^\s+0x([0-9a-f]+):\s+([0-9a-f ]+)")
 ADDRESS_LINE = re.compile(r"\d+: +(\S+) +inet ([0-9.]+)(?: peer ([0-9.]+))?/(\d+) ")
 COLLECTED = re.compile(r"([A-Za-z0-9_.-]+): vifs \d+, .*, order (little|big|not known)")
 GRACE = 3  # seconds that what it runs has to end what that began
@@ -525,20 +526,15 @@ def measure_words(flows, seconds):
     return "\n".join(lines) + "\n"
 
 
-def times_to_live(text):
-    """Returns for each source and group the times to live of the packets that a text of `tcpdump -x` has."""
-    packets = []
-    for line in text.split("\n"):
-        found = PACKET_LINE.match(line)
-        if found and int(found[1], 16) == 0:
-            packets.append("")
-        if found and packets:
-            packets[-1] += found[2].replace(" ", "")
+def times_to_live(printed):
+    """Returns for each source and group the times to live of the packets that `tcpdump -x` printed, but for those that
+    routers drop."""
     lives = {}
-    for packet in packets:
-        if len(packet) >= 40 and packet[0] == "4":
-            ends = (ipaddress.IPv4Address(int(packet[at:at + 8], 16)) for at in (24, 32))
-            lives.setdefault(tuple(ends), set()).add(int(packet[16:18], 16))
+    for frame in recording.Recording().frames(io.BytesIO(printed)):
+        header = igmp.header_of(frame.data)
+        if header is not None and not header.is_dropped:
+            ends = ipaddress.IPv4Address(header.sender), ipaddress.IPv4Address(header.target)
+            lives.setdefault(ends, set()).add(header.ttl)
     return lives
 
 
@@ -547,8 +543,8 @@ def ask_packets(words, router, flows):
     command = [find_tool("mcaudit-collect"), *words.reach, "--shell", router, *words.ways]
     came = run(command, measure_words(flows, words.measure).encode(), len(flows) * (words.measure + 2) + 20, MOST_PACKETS)
     if came.is_late or came.is_long:
-        return "", ["it did not answer" if came.is_late else f"it printed more than {MOST_PACKETS} bytes"]
-    return came.printed.decode("ascii", "replace"), came.sentences()
+        return b"", ["it did not answer" if came.is_late else f"it printed more than {MOST_PACKETS} bytes"]
+    return came.printed, came.sentences()
 
 
 def judge_flow(flow, router, device, lives):
@@ -566,8 +562,11 @@ def judge_flow(flow, router, device, lives):
 def measure_on(words, router, flows):
     """Measures the flows on the router. Returns doubts."""
     print(f"{router}: measuring the times to live of {len(flows)} flows", flush=True)
-    told, said = ask_packets(words, router, flows)
-    lives = times_to_live(told)
+    printed, said = ask_packets(words, router, flows)
+    try:
+        lives = times_to_live(printed)
+    except Failed as fault:
+        lives, said = {}, [str(fault)]
     for flow, device in flows:
         judge_flow(flow, router, device, lives)
     if any(flow.ttl is None for flow, _ in flows):

@@ -603,6 +603,60 @@ def ages_of_a_site(place):
     assert "tables of r2" in place.said and "tables of r1" not in place.said, place.said
 
 
+def told_of_ages(place, *lost):
+    """Makes a site whose tables are 5,000 s old, whose list of l1 is 9,000 s old, and whose list of l2 was decided."""
+    shutil.rmtree(place.at("site.sets"), ignore_errors=True)
+    os.path.islink(place.at("site")) and os.unlink(place.at("site"))
+    place.site(*lost)
+    now = int(time.time())
+    tables = {f"{kind}-{it}": {"by": "collect", "of": it, "time": now - 5000} for kind in ("vif", "cache") for it in ("r1", "r2")}
+    lists = {f"igmp-l{it}": {"by": by, "of": None, "time": now - 9000} for it, by in enumerate(("capture", "capture", "static"))}
+    place.write("site/collected.json", json.dumps({"version": 2, "files": {**tables, **lists}}))
+    for name in (*tables, *lists):
+        os.utime(place.at("site", name), (0, now - 20000))
+
+
+@case
+def ages_of_each_answer(place):
+    """A yes and a no of the plugin, the text and the page say how old it is and what was decided, and so do the metrics."""
+    def is_told():
+        """Whether what was said has the ages, which grow as the case runs, and the decided list."""
+        return any(f"tables {5000 + it} s old, reports {9000 + it} s old, decided, not gathered: l2" in place.said
+                   for it in range(60))
+    ways = place.routers("r1", "r2")
+    for lost, status in (((), 1), (("r2",), 2)):
+        told_of_ages(place, *lost)
+        assert place.run("monitor", "--plugin", "--no-collect", "site") == status and is_told(), place.said
+        place.run("page", "--program", PROGRAM, "site")
+        assert is_told() and "When this page was made, at 2" in place.said
+        place.run("monitor", "--no-collect", "site")
+        place.said = ", ".join(place.said.splitlines())
+        assert is_told(), place.said
+    told_of_ages(place)
+    place.run("monitor", "--pause", "0", "--prometheus", "m.prom", "site", *ways)
+    metrics = dict(it.rsplit(" ", 1) for it in place.read("m.prom").splitlines() if it[0] != "#")
+    assert 0 <= int(metrics['mcaudit_table_age_seconds{router="r1"}']) < 60
+    assert 9000 <= int(metrics['mcaudit_reports_age_seconds{lan="l1"}']) < 9060, metrics
+    assert metrics['mcaudit_reports_decided{lan="l2"}'] == "1" and 'mcaudit_reports_age_seconds{lan="l2"}' not in metrics
+
+
+@case
+def plugin_line_of_many_decided_lists(place):
+    """It names what it has room for, and never lacks what is wrong or how old that is."""
+    told_of_ages(place, "r2")
+    found = json.loads(place.read("site/collected.json"))
+    names = [f"lan-with-a-long-name-{it}" for it in range(40)]
+    for name in names:
+        place.write(f"site/igmp-{name}", "")
+        found["files"][f"igmp-{name}"] = {"by": "static", "of": None, "time": int(time.time())}
+    place.write("site/collected.json", json.dumps(found))
+    topology = place.read("site/topology").replace("lans = [", "lans = [" + "".join(f'"{it}", ' for it in names), 1)
+    place.write("site/topology", topology)
+    assert place.run("monitor", "--plugin", "--no-collect", "site") == 2, place.said
+    assert "1 of 1 flows wrong: " in place.said and "reports 90" in place.said and len(place.said) < 600, place.said
+    assert "decided, not gathered: l" in place.said and " .. | right=0" in place.said, place.said
+
+
 @case
 def times_that_are_none(place):
     """A collected.json of another version, or of a later time, warns."""
@@ -635,7 +689,8 @@ def packets_that_a_draft_measures(place):
     """Their times to live are read as those of a recorded text: no other packet's, and of no line that has no digits."""
     def lives_of(text):
         """Returns the times to live that are read, as text, or why none is."""
-        code = ("import sys\nfrom mcaudit_tools import common, draft\ntry:\n    lives = draft.times_to_live(sys.stdin.buffer.read())\n"
+        code = ("import sys\nfrom mcaudit_tools import common, draft\n"
+                "try:\n    lives = draft.times_to_live(sys.stdin.buffer.read())\n"
                 "except common.Failed as fault:\n    sys.exit(print(fault))\n"
                 "print(sorted((*map(str, key), *sorted(it)) for key, it in lives.items()))")
         done = subprocess.run([sys.executable, "-c", code], input=text, cwd=TOOLS, env=place.environment, capture_output=True,

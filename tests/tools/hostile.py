@@ -11,6 +11,7 @@ import concurrent.futures
 import glob
 import json
 import os
+import re
 import shutil
 import signal
 import subprocess
@@ -665,6 +666,74 @@ def times_that_are_none(place):
         shutil.copytree(NETWORK, place.at("site"))
         place.write("site/collected.json", json.dumps({"version": version, "files": files}))
         assert place.run("monitor", "--plugin", "--no-collect", "site") == 1, place.said
+
+
+# What 0.2.0 wrote
+
+LAST = "20251128T014025Z"  # the set that its monitor judged last
+TOLD = 1764294024  # when that set's tables were read
+
+
+def kept(place):
+    """Writes the site that the monitor of 0.2.0 left: four sets, three of which it judged, yes, no and yes."""
+    with open(os.path.join(HERE, "kept_by_0.2.0.json"), encoding="utf-8") as file:
+        for name, one in json.load(file).items():
+            if "link" in one:
+                os.symlink(one["link"], place.at(name))
+            else:
+                place.write(name, one["text"])
+                os.utime(place.at(name), (one["time"], one["time"]))
+    for folder in glob.glob(place.at("site.sets/*")):
+        os.utime(folder, (TOLD, TOLD))
+
+
+@case
+def times_that_0_2_0_kept(place):
+    """collected.json of version 1 is read: by the monitor and the page, of a copy too, and carried as version 2."""
+    ways = place.routers("r1", "r2")
+    kept(place)
+    shutil.copytree(place.at("site"), place.at("copy"), copy_function=shutil.copyfile)
+    for site in ("site", "copy"):
+        assert place.run("monitor", "--plugin", "--no-collect", site) == 1, place.said
+        told = re.findall("tables of r[12] are ([0-9]+) s old", place.said)
+        assert len(told) == 2 and all(0 <= time.time() - TOLD - int(it) < 60 for it in told), place.said
+    assert place.run("page", "--program", PROGRAM, "site") == 0 and "2025-11-28T01:40:24Z</td>" in place.said
+    assert place.run("reports", "-o", "site/igmp-l1", "--static", "239.1.2.3") == 0, place.said
+    files = json.loads(place.read("site/collected.json"))["files"]
+    assert files["cache-r2"] == {"by": "collect", "of": "r2", "time": TOLD} and files["igmp-l1"]["by"] == "static", files
+    collected(place, ways)
+    found = json.loads(place.read("site/collected.json"))
+    assert found["version"] == 2 and found["files"]["igmp-l2"] == {"by": "operator", "of": None, "time": TOLD - 2}, found
+    assert found["files"]["vif-r1"]["time"] > TOLD + 60 and found["files"]["igmp-l1"]["by"] == "static", found
+
+
+@case
+def audits_that_0_2_0_kept(place):
+    """They are compared with each other, shown, and with what is found now."""
+    ways = place.routers("r1", "r2")
+    kept(place)
+    older = f"site.sets/{LAST.replace('25Z', '24Z')}/audit.json"
+    assert place.run("diff", older, "site/audit.json") == 1, place.said
+    assert place.said == "flow 10.0.0.5 239.1.2.3: fault gone: Missed l2\nverdict yes, was no\n", place.said
+    assert place.run("diff", older.replace("24Z", "23Z"), "site/audit.json") == 0 and not place.said, place.said
+    place.write("r2/ip_mr_cache", place.read("r2/ip_mr_cache").splitlines()[0] + "\n")
+    assert place.run("monitor", "--pause", "0", "site", *ways) == 1, place.said
+    assert f"changed since {LAST}:\nflow 10.0.0.5 239.1.2.3: new fault: Missed l2\n" in place.said, place.said
+
+
+@case
+def state_that_0_2_0_kept(place):
+    """The monitor goes on from it: what it judged last, when anything changed, and in which order the sets came."""
+    ways = place.routers("r1", "r2")
+    kept(place)
+    before = json.loads(place.read("site.monitor.json"))
+    assert place.run("monitor", "--pause", "0", "--keep", "2", "site", *ways) == 0, place.said
+    assert f"nothing changed since {LAST}" in place.said and "can't be read" not in place.said, place.said
+    after = json.loads(place.read("site.monitor.json"))
+    new = os.path.basename(os.path.realpath(place.at("site")))
+    assert after["sets"] == [LAST, new] == sorted(os.listdir(place.at("site.sets"))), after
+    assert [after[it] for it in ("last_change", "last_fault_change", "judged")] == [
+        before["last_change"], before["last_fault_change"], new], (before, after)
 
 
 # Statuses

@@ -11,6 +11,7 @@ import concurrent.futures
 import glob
 import json
 import os
+import re
 import shutil
 import signal
 import subprocess
@@ -214,6 +215,73 @@ def packets_that_receivers_ignore(place):
         assert place.captured(framed(*GOOD[:2], *some, GOOD[2])) == (1, None), place.said
 
 
+def bad_of(*hosts):
+    """Returns packets that receivers ignore, of these hosts: too short, or with a wrong sum of the message or the header."""
+    kinds = (b"\x22", b"\x22\0\x12\x34\0\0\0\0", None)
+    made = [(host, kinds[turn % 3]) for turn, host in enumerate(hosts)]
+    return [(2 + turn / 10, with_a_bad_header(p.wanted(host, "239.6.6.6")) if message is None
+             else p.packet(host, p.ROUTERS, message)) for turn, (host, message) in enumerate(made)]
+
+
+def with_a_bad_header(packet):
+    """Returns the packet with a wrong checksum of its header."""
+    return packet[:10] + bytes([packet[10] ^ 255]) + packet[11:]
+
+
+@case
+def ignored_packets_at_their_limits(place):
+    """8 of 2 senders are left aside, and not 9, nor those of 3 senders; before and after the answers none counts."""
+    one, two, three = "10.0.1.66", "10.0.1.67", "10.0.1.68"
+    outside = [(-1 - turn / 10, it) for turn, (_, it) in enumerate(bad_of(*[three] * 20))][::-1]
+    for hosts, expected in (([one] * 8, (0, LISTED)), ([one, two] * 4, (0, LISTED)), ([one] * 9, (1, None)),
+                            ([one, two] * 4 + [one], (1, None)), ([one, two, three], (1, None))):
+        for gather in (lambda some: place.captured(framed(*some)), lambda some: place.reports("--text", text=p.text(some))):
+            os.path.exists(place.at("list")) and os.unlink(place.at("list"))
+            found = gather((*outside, *GOOD[:2], *bad_of(*hosts), GOOD[2]))
+            assert found == expected, (hosts, found, place.said)
+            for host in set(hosts) if found[0] == 0 else ():
+                assert f"left aside of {host}, too short or with a wrong checksum: {hosts.count(host)}" in place.said
+
+
+@case
+def list_marked_with_who_sent_nothing_whole(place):
+    """collected.json names the senders of whom only such came that receivers ignore, and no others."""
+    place.site()
+    frames = framed(*GOOD[:2], *bad_of("10.0.1.66", "10.0.1.5"), GOOD[2])
+    place.write("l1.pcap", p.pcap(frames))
+    for options, unchecked in ((["--network", "10.0.1.0/24"], ["sender 10.0.1.66"]), ([], ["sender 10.0.1.66", "network"])):
+        assert place.run("reports", "-o", "site/igmp-l1", "--capture", "l1.pcap", *options) == 0, place.said
+        assert json.loads(place.read("site/collected.json"))["files"]["igmp-l1"]["unchecked"] == unchecked
+    assert place.said.count("and nothing else of it came") == 1, place.said
+    text = p.text((*GOOD[:2], *bad_of("10.0.1.66"), GOOD[2]))
+    assert place.run("reports", "-o", "site/igmp-l1", "--text", text=text) == 0, place.said
+    assert set(json.loads(place.read("site/collected.json"))["files"]["igmp-l1"]["unchecked"]) == {
+        "sender 10.0.1.66", "network", "link"}
+
+
+@case
+def live_list_marked_with_who_sent_nothing_whole(place):
+    """So are those of an interface, and of all LANs, whose networks are known."""
+    place.site()
+    place.script("ip", 'echo "    inet 10.0.1.9/24 scope global l1"')
+    place.write("window", p.pcap(framed((0, p.asked(tenths=10)), *GOOD[1:2], *bad_of("10.0.1.66"))))
+    place.script("tcpdump", 'echo "listening on l1" >&2; trap "echo 3 packets captured >&2; exit 0" TERM; cat window\n'
+                 "while :; do sleep .1; done")
+    for words in (["-o", "site/igmp-l1", "l1"], ["--all", "site", "r1=!env", "r2=!env"]):
+        assert place.run("reports", "--wait", "3", *words) == 0, place.said
+        found = json.loads(place.read("site/collected.json"))["files"]["igmp-l1"]
+        assert found["unchecked"] == ["sender 10.0.1.66"] and "nothing else of it came" in place.said, place.said
+
+
+@case
+def query_with_a_header_that_hosts_drop(place):
+    """It counts for nobody, and doesn't spoil what another one asked for."""
+    forged = with_a_bad_header(p.asked("10.0.1.66"))
+    assert place.captured(framed((0, forged), (1, p.wanted("10.0.1.66", "239.9.9.9")), (13, p.later()))) == (1, None)
+    frames = framed((-30, forged), (-29, p.wanted("10.0.1.66", "239.9.9.9")), *GOOD[:2], (2, forged), GOOD[2])
+    assert place.captured(frames) == (0, LISTED), place.said
+
+
 @case
 def lists_that_mcaudit_refuses(place):
     """Never with status 0: a record that doesn't end, a change, too many messages."""
@@ -321,6 +389,73 @@ def list_that_comes_while_a_set_is_made(place):
         assert collecting.wait(30) == 0
     assert place.read("site/igmp-l2") != "", "the list is lost"
     assert json.loads(place.read("site/collected.json"))["files"]["igmp-l2"]["by"] == "static"
+
+
+def collected(place, ways):
+    """Makes a set of these routers. Returns the path of the set before it."""
+    before = os.path.realpath(place.at("site"))
+    assert place.run("collect", "--pause", "0", "site", *ways) == 0, place.said
+    assert os.path.realpath(place.at("site")) != before
+    return before
+
+
+@case
+def files_written_late_into_the_set_before(place):
+    """They come into the next set: of an open file, of a new one and of a folder; each is named once."""
+    ways = place.routers("r1", "r2")
+    place.site()
+    with open(place.at("site/igmp-l2"), "a", encoding="ascii") as written:
+        before = collected(place, ways)
+        assert "late" not in place.said and "had been made" not in place.said, place.said
+        written.write(p.wants("239.1.2.3").hex() + "\n")
+    place.write(f"{before}/notes", "n")
+    place.write(f"{before}/old/notes", "o")
+    collected(place, ways)
+    assert place.read("site/igmp-l2").endswith(p.wants("239.1.2.3").hex() + "\n"), "the list is lost"
+    assert place.read("site/notes") == "n" and place.read("site/old/notes") == "o"
+    assert place.said.count("had been made of it") == 3 and "./site/igmp-l2 is what" in place.said, place.said
+    assert json.loads(place.read("site/collected.json"))["files"]["igmp-l2"]["by"] == "operator"
+    collected(place, ways)
+    assert "had been made" not in place.said and place.read("site/notes") == "n", place.said
+
+
+@case
+def files_written_into_both_sets(place):
+    """What the newer one has stays, and the other is named; where both have the same there is nothing to say."""
+    ways = place.routers("r1", "r2")
+    place.site()
+    before = collected(place, ways)
+    for name, old, new in (("igmp-l1", "a\n", "b\n"), ("igmp-l2", "c\n", "c\n"), ("notes", "x", "y")):
+        place.write(f"{before}/{name}", old)
+        place.write(f"site/{name}", new)
+    os.unlink(place.at("site/igmp-l0"))
+    place.write(f"{before}/igmp-l0", "d\n")
+    collected(place, ways)
+    assert [place.read(f"site/{it}") for it in ("igmp-l1", "igmp-l2", "notes")] == ["b\n", "c\n", "y"]
+    for name, is_named in (("igmp-l1", True), ("igmp-l2", False), ("notes", True), ("igmp-l0", True)):
+        assert (f"./site/{name} was written in" in place.said) == is_named, place.said
+    assert not os.path.exists(place.at("site/igmp-l0"))
+
+
+@case
+def file_written_between_its_copy_and_the_swap(place):
+    """It comes into the set after the new one."""
+    ways = place.routers("r1", "r2")
+    place.site()
+    place.write("slow/sitecustomize.py", "import os, time\nfsync = os.fsync\n"
+                "def slowly(opened):\n    time.sleep(.1)\n    fsync(opened)\nos.fsync = slowly\n")
+    place.environment["PYTHONPATH"] = place.at("slow")
+    with place.begin("collect", "--pause", "0", "site", *ways) as collecting:
+        until = time.monotonic() + 20
+        while not glob.glob(place.at("site.sets/.reading.*/set/.carried")) and time.monotonic() < until:
+            time.sleep(0.01)
+        place.write("site.sets/20260101T000000Z/igmp-l2", "late\n")
+        assert os.path.realpath(place.at("site")).endswith("20260101T000000Z"), "the swap was before"
+        assert collecting.wait(30) == 0
+    assert place.read("site/igmp-l2") != "late\n"
+    del place.environment["PYTHONPATH"]
+    collected(place, ways)
+    assert place.read("site/igmp-l2") == "late\n" and "igmp-l2 is what was written" in place.said, place.said
 
 
 @case
@@ -492,6 +627,60 @@ def ages_of_a_site(place):
     assert "tables of r2" in place.said and "tables of r1" not in place.said, place.said
 
 
+def told_of_ages(place, *lost):
+    """Makes a site whose tables are 5,000 s old, whose list of l1 is 9,000 s old, and whose list of l2 was decided."""
+    shutil.rmtree(place.at("site.sets"), ignore_errors=True)
+    os.path.islink(place.at("site")) and os.unlink(place.at("site"))
+    place.site(*lost)
+    now = int(time.time())
+    tables = {f"{kind}-{it}": {"by": "collect", "of": it, "time": now - 5000} for kind in ("vif", "cache") for it in ("r1", "r2")}
+    lists = {f"igmp-l{it}": {"by": by, "of": None, "time": now - 9000} for it, by in enumerate(("capture", "capture", "static"))}
+    place.write("site/collected.json", json.dumps({"version": 2, "files": {**tables, **lists}}))
+    for name in (*tables, *lists):
+        os.utime(place.at("site", name), (0, now - 20000))
+
+
+@case
+def ages_of_each_answer(place):
+    """A yes and a no of the plugin, the text and the page say how old it is and what was decided, and so do the metrics."""
+    def is_told():
+        """Whether what was said has the ages, which grow as the case runs, and the decided list."""
+        return any(f"tables {5000 + it} s old, reports {9000 + it} s old, decided, not gathered: l2" in place.said
+                   for it in range(60))
+    ways = place.routers("r1", "r2")
+    for lost, status in (((), 1), (("r2",), 2)):
+        told_of_ages(place, *lost)
+        assert place.run("monitor", "--plugin", "--no-collect", "site") == status and is_told(), place.said
+        place.run("page", "--program", PROGRAM, "site")
+        assert is_told() and "When this page was made, at 2" in place.said
+        place.run("monitor", "--no-collect", "site")
+        place.said = ", ".join(place.said.splitlines())
+        assert is_told(), place.said
+    told_of_ages(place)
+    place.run("monitor", "--pause", "0", "--prometheus", "m.prom", "site", *ways)
+    metrics = dict(it.rsplit(" ", 1) for it in place.read("m.prom").splitlines() if it[0] != "#")
+    assert 0 <= int(metrics['mcaudit_table_age_seconds{router="r1"}']) < 60
+    assert 9000 <= int(metrics['mcaudit_reports_age_seconds{lan="l1"}']) < 9060, metrics
+    assert metrics['mcaudit_reports_decided{lan="l2"}'] == "1" and 'mcaudit_reports_age_seconds{lan="l2"}' not in metrics
+
+
+@case
+def plugin_line_of_many_decided_lists(place):
+    """It names what it has room for, and never lacks what is wrong or how old that is."""
+    told_of_ages(place, "r2")
+    found = json.loads(place.read("site/collected.json"))
+    names = [f"lan-with-a-long-name-{it}" for it in range(40)]
+    for name in names:
+        place.write(f"site/igmp-{name}", "")
+        found["files"][f"igmp-{name}"] = {"by": "static", "of": None, "time": int(time.time())}
+    place.write("site/collected.json", json.dumps(found))
+    topology = place.read("site/topology").replace("lans = [", "lans = [" + "".join(f'"{it}", ' for it in names), 1)
+    place.write("site/topology", topology)
+    assert place.run("monitor", "--plugin", "--no-collect", "site") == 2, place.said
+    assert "1 of 1 flows wrong: " in place.said and "reports 90" in place.said and len(place.said) < 600, place.said
+    assert "decided, not gathered: l" in place.said and " .. | right=0" in place.said, place.said
+
+
 @case
 def times_that_are_none(place):
     """A collected.json of another version, or of a later time, warns."""
@@ -500,6 +689,74 @@ def times_that_are_none(place):
         shutil.copytree(NETWORK, place.at("site"))
         place.write("site/collected.json", json.dumps({"version": version, "files": files}))
         assert place.run("monitor", "--plugin", "--no-collect", "site") == 1, place.said
+
+
+# What 0.2.0 wrote
+
+LAST = "20251128T014025Z"  # the set that its monitor judged last
+TOLD = 1764294024  # when that set's tables were read
+
+
+def kept(place):
+    """Writes the site that the monitor of 0.2.0 left: four sets, three of which it judged, yes, no and yes."""
+    with open(os.path.join(HERE, "kept_by_0.2.0.json"), encoding="utf-8") as file:
+        for name, one in json.load(file).items():
+            if "link" in one:
+                os.symlink(one["link"], place.at(name))
+            else:
+                place.write(name, one["text"])
+                os.utime(place.at(name), (one["time"], one["time"]))
+    for folder in glob.glob(place.at("site.sets/*")):
+        os.utime(folder, (TOLD, TOLD))
+
+
+@case
+def times_that_0_2_0_kept(place):
+    """collected.json of version 1 is read: by the monitor and the page, of a copy too, and carried as version 2."""
+    ways = place.routers("r1", "r2")
+    kept(place)
+    shutil.copytree(place.at("site"), place.at("copy"), copy_function=shutil.copyfile)
+    for site in ("site", "copy"):
+        assert place.run("monitor", "--plugin", "--no-collect", site) == 1, place.said
+        told = re.findall("tables of r[12] are ([0-9]+) s old", place.said)
+        assert len(told) == 2 and all(0 <= time.time() - TOLD - int(it) < 60 for it in told), place.said
+    assert place.run("page", "--program", PROGRAM, "site") == 0 and "2025-11-28T01:40:24Z</td>" in place.said
+    assert place.run("reports", "-o", "site/igmp-l1", "--static", "239.1.2.3") == 0, place.said
+    files = json.loads(place.read("site/collected.json"))["files"]
+    assert files["cache-r2"] == {"by": "collect", "of": "r2", "time": TOLD} and files["igmp-l1"]["by"] == "static", files
+    collected(place, ways)
+    found = json.loads(place.read("site/collected.json"))
+    assert found["version"] == 2 and found["files"]["igmp-l2"] == {"by": "operator", "of": None, "time": TOLD - 2}, found
+    assert found["files"]["vif-r1"]["time"] > TOLD + 60 and found["files"]["igmp-l1"]["by"] == "static", found
+
+
+@case
+def audits_that_0_2_0_kept(place):
+    """They are compared with each other, shown, and with what is found now."""
+    ways = place.routers("r1", "r2")
+    kept(place)
+    older = f"site.sets/{LAST.replace('25Z', '24Z')}/audit.json"
+    assert place.run("diff", older, "site/audit.json") == 1, place.said
+    assert place.said == "flow 10.0.0.5 239.1.2.3: fault gone: Missed l2\nverdict yes, was no\n", place.said
+    assert place.run("diff", older.replace("24Z", "23Z"), "site/audit.json") == 0 and not place.said, place.said
+    place.write("r2/ip_mr_cache", place.read("r2/ip_mr_cache").splitlines()[0] + "\n")
+    assert place.run("monitor", "--pause", "0", "site", *ways) == 1, place.said
+    assert f"changed since {LAST}:\nflow 10.0.0.5 239.1.2.3: new fault: Missed l2\n" in place.said, place.said
+
+
+@case
+def state_that_0_2_0_kept(place):
+    """The monitor goes on from it: what it judged last, when anything changed, and in which order the sets came."""
+    ways = place.routers("r1", "r2")
+    kept(place)
+    before = json.loads(place.read("site.monitor.json"))
+    assert place.run("monitor", "--pause", "0", "--keep", "2", "site", *ways) == 0, place.said
+    assert f"nothing changed since {LAST}" in place.said and "can't be read" not in place.said, place.said
+    after = json.loads(place.read("site.monitor.json"))
+    new = os.path.basename(os.path.realpath(place.at("site")))
+    assert after["sets"] == [LAST, new] == sorted(os.listdir(place.at("site.sets"))), after
+    assert [after[it] for it in ("last_change", "last_fault_change", "judged")] == [
+        before["last_change"], before["last_fault_change"], new], (before, after)
 
 
 # Statuses
@@ -517,6 +774,26 @@ def topologies_and_audits_that_are_none(place):
         assert place.run("diff", "audit", "audit") == 2, place.said
     place.write("audit", head + '{"summary":{"flows":0,"right":0,"unwanted":0,"wrong":0}}\n')
     assert place.run("page", "--audit", "audit", "-o", "page.html") == 2 and place.run("diff", "audit", "audit") == 2
+
+
+@case
+def packets_that_a_draft_measures(place):
+    """Their times to live are read as those of a recorded text: no other packet's, and of no line that has no digits."""
+    def lives_of(text):
+        """Returns the times to live that are read, as text, or why none is."""
+        code = ("import sys\nfrom mcaudit_tools import common, draft\n"
+                "try:\n    lives = draft.times_to_live(sys.stdin.buffer.read())\n"
+                "except common.Failed as fault:\n    sys.exit(print(fault))\n"
+                "print(sorted((*map(str, key), *sorted(it)) for key, it in lives.items()))")
+        done = subprocess.run([sys.executable, "-c", code], input=text, cwd=TOOLS, env=place.environment, capture_output=True,
+                              check=True)
+        return done.stdout.decode().strip()
+    sent = [p.packet("10.0.0.5", "239.1.2.3", b"x" * 30, ttl, 17) for ttl in (7, 9)]
+    assert lives_of(p.text(((0, sent[0]), (1, sent[1])))) == "[('10.0.0.5', '239.1.2.3', 7, 9)]"
+    assert lives_of(p.text(((0, sent[0]), (1, with_a_bad_header(sent[1]))))) == "[('10.0.0.5', '239.1.2.3', 7)]"
+    assert lives_of(p.text(((0, sent[0][:19]), (1, b"\x60" + sent[1][1:]), (2, b"")))) == "[]"
+    assert lives_of(b"1.0 IP\n\t0x0000:  45zz\n") == "the text has a line of digits that are none"
+    assert "65536" in lives_of(b"x" * 70000)
 
 
 @case

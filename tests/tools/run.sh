@@ -8,8 +8,9 @@
 # alike. All tools are to tell one version and to be installed, and shellcheck reads all shell of the tools
 # and of their cases. Their manual pages are those that packaging/man_pages.py writes. page.py looks at the pages that mcaudit-page makes. What it needs that is not there is
 # named, and is a failure; but promtool reads the files for Prometheus, and systemd-analyze the units, only
-# where they are. hostile.py tries what hosts, routers and names may do to the tools; flake8, pylint and mypy
-# read their Python, as that of 3.9.
+# where they are. hostile.py tries what hosts, routers and names may do to the tools, and loops.py ends them at
+# random moments, fills their disks and forges answers, and prints its seed; flake8, pylint and mypy read their
+# Python, as that of 3.9.
 # Usage: run.sh [CASE ...], as collect/unreachable
 #
 # A case has, beside its note:
@@ -99,10 +100,11 @@ judge_output() {
     fi
 }
 
-# Compares the folder $2 with the folder $1, but for the times in its lists of times, and for its locks.
+# Compares the folder $2 with the folder $1, but for the times in its lists of times, for its locks, and
+# for what it keeps of the set before it.
 same_folder() {
     cp -RL "$2/." "$place.copy" || return 1
-    find "$place.copy" -name '*.write.lock' -exec rm {} +
+    find "$place.copy" '(' -name '*.write.lock' -o -name .carried ')' -exec rm {} +
     find "$place.copy" -name collected.json -o -name topology > "$place.timed"
     while read -r file; do
         without_times "$file" > "$place.untimed" && mv "$place.untimed" "$file"
@@ -471,8 +473,9 @@ if [ -z "$wanted_cases" ]; then
     run_apart shellcheck shellcheck check_shell
     run_apart pages dot "$python" "$here/page.py"
     run_apart hostile dot "$python" "$here/hostile.py"
-    run_apart flake8 flake8 flake8 --max-line-length 132 "$tools" "$tools"/mcaudit-* "$here"/hostile.py "$here"/packets.py \
-        "$here"/commands
+    run_apart loops dot "$python" "$here/loops.py"
+    run_apart flake8 flake8 flake8 --max-line-length 132 "$tools" "$tools"/mcaudit-* "$here"/hostile.py "$here"/loops.py \
+        "$here"/packets.py "$here"/commands
     run_apart pylint pylint check_python
     run_apart mypy mypy mypy --python-version 3.9 --cache-dir "$scratch/mypy" "$tools/mcaudit_tools"
     run_apart script node node --check "$tools/mcaudit_tools/page/page.js"

@@ -35,6 +35,32 @@ def is_whole(message):
 
 
 @dataclasses.dataclass
+class Header:
+    """The header of an IPv4 packet."""
+
+    sender: bytes
+    target: bytes
+    ttl: int
+    protocol: int
+    length: int  # of the header, in bytes
+    total: int  # of the packet
+    is_fragment: bool
+    is_dropped: bool  # by all who receive it, since its checksum is wrong
+
+
+def header_of(data):
+    """Reads the header of an IPv4 packet; None where it is none."""
+    if len(data) < 20:
+        return None
+    length, total = (data[0] & 15) * 4, int.from_bytes(data[2:4], "big")
+    if data[0] >> 4 != 4 or length < 20 or total < length:
+        return None
+    is_dropped = len(data) >= length and sum_of(data[:length]) != 0
+    is_fragment = int.from_bytes(data[6:8], "big") & 0x3FFF != 0
+    return Header(data[12:16], data[16:20], data[8], data[9], length, total, is_fragment, is_dropped)
+
+
+@dataclasses.dataclass
 class Packet:
     """An IPv4 packet with IGMP in it, or what of it the capture has."""
 
@@ -46,19 +72,21 @@ class Packet:
 
 
 def packet_of(data):
-    """Reads an IPv4 packet; None where it is none of IGMP."""
+    """Reads an IPv4 packet; None where it is none of IGMP. One that its receivers drop has an empty message."""
     if len(data) < 20:
         fault = f"a packet was cut to {len(data)} bytes"
         return Packet(bytes(4), bytes(4), 0, b"", fault) if data[:1] >= b"\x40" else None
-    header, total = (data[0] & 15) * 4, int.from_bytes(data[2:4], "big")
-    if data[0] >> 4 != 4 or data[9] != IGMP or header < 20 or total < header:
+    header = header_of(data)
+    if header is None or header.protocol != IGMP:
         return None
-    sender, fault = data[12:16], None
-    if int.from_bytes(data[6:8], "big") & 0x3FFF:
-        fault = f"a fragment of {dotted(sender)}, which is not put together"
-    elif len(data) < total:
-        fault = f"a packet of {dotted(sender)} was cut to {len(data)} of {total} bytes"
-    return Packet(sender, data[16:20], data[8], data[header:total], fault)
+    fault, message = None, data[header.length:header.total]
+    if header.is_dropped:
+        message = b""
+    elif header.is_fragment:
+        fault = f"a fragment of {dotted(header.sender)}, which is not put together"
+    elif len(data) < header.total:
+        fault = f"a packet of {dotted(header.sender)} was cut to {len(data)} of {header.total} bytes"
+    return Packet(header.sender, header.target, header.ttl, message, fault)
 
 
 def is_general_query(message):

@@ -18,12 +18,14 @@ import time
 
 from mcaudit_tools import audit as audits
 from mcaudit_tools import origins, sets
+from mcaudit_tools.ages import Ages, age_of
 from mcaudit_tools.common import CUT, Failed, Parser, Refused, clean, cut, find_tool
 from mcaudit_tools.files import read_regular, reason_of, write_beside
 from mcaudit_tools.programs import RUNNING, run
 
 MOST_SHOWN = 20  # flows that are wrong
-MOST_LETTERS = 300  # of what a plugin says
+MOST_LETTERS = 300  # of what a plugin says, beside how old that is
+MOST_AGES = 80  # letters of each part of that
 MOST_TEXT = 1 << 20  # bytes of what mcaudit-collect and mcaudit-diff print
 MOST_STATE = 1 << 20  # bytes of what is kept
 AUDITING = 300  # seconds that an audit may take
@@ -33,6 +35,7 @@ NEWEST = 2  # sets that are never removed
 WARN_AGE, WARN_REPORTS = 900, 3600  # seconds
 FAULT_CHANGE = re.compile(r"flow \S+ \S+: (new fault: |fault gone: |fault .*, was )")  # as mcaudit-diff tells it
 LABEL = re.compile(r"(?!__|router=|lan=)[A-Za-z_][A-Za-z0-9_]*=.*", re.DOTALL)
+NAMED = {"router": "router", "lan": "LAN"}  # by label
 WORDS = "OK", "WARNING", "CRITICAL", "UNKNOWN"  # of a plugin's statuses
 ABOUT = """Collects the tables of SITE's routers (mcaudit-collect), audits them (mcaudit audit --json --unlisted) and
 says what changed since last time (mcaudit-diff). The routers are told as for mcaudit-collect.
@@ -230,7 +233,7 @@ class Run:
         numbers = ", ".join(f"{key} {judged.counts[key]}" for key in ("flows", "right", "wrong", "unwanted"))
         lines = [f"{os.path.basename(self.folder)}: verdict {'yes' if judged.is_right else 'no'}, {numbers}, "
                  f"unlisted {judged.unlisted}"]
-        lines += [f"{it}" for it in self.age_sentences()]
+        lines += self.ages().sentences()
         lines += [f"wrong: {it}" for it in judged.wrong[:MOST_SHOWN]]
         if len(judged.wrong) > MOST_SHOWN:
             lines.append(f"and {len(judged.wrong) - MOST_SHOWN} more")
@@ -300,46 +303,10 @@ class Run:
 
     # How old what is judged is
 
-    def origins_of(self, prefixes, names):
-        """Yields the name of a router or a LAN and the origin of each of its files."""
-        folder = self.folder or os.path.realpath(self.site)
-        with contextlib.suppress(OSError):
-            is_copied = origins.is_copy(folder, self.origins)
-            for entry in sorted(os.scandir(folder), key=lambda it: it.name):
-                prefix, dash, name = entry.name.partition("-")
-                if dash and prefix in prefixes and (names is None or name in names):
-                    yield name, origins.current(entry.path, self.origins.get(entry.name), is_copied)
-
-    def times(self, prefixes, names):
-        """Returns for each name when the oldest of its files was written, in Unix seconds, by name. What an operator decided
-        has no age."""
-        found = {}
-        for name, origin in self.origins_of(prefixes, names):
-            if origin.by != origins.STATIC:
-                found[name] = min(origin.time, found.get(name, origin.time))
-        return dict(sorted(found.items()))
-
-    def table_times(self):
-        """Returns when each router's tables were read."""
-        return self.times(("vif", "cache"), self.judged and set(self.judged.routers))
-
-    def report_times(self):
-        """Returns when each LAN's reports were gathered."""
-        return self.times(("igmp",), self.judged and set(self.judged.lans))
-
-    def decided(self):
-        """Returns the LANs whose lists an operator decided."""
-        names = self.judged and set(self.judged.lans)
-        return sorted({name for name, it in self.origins_of(("igmp",), names) if it.by == origins.STATIC})
-
-    def age_sentences(self):
-        """Returns how old the oldest of the tables and of the lists are, and which lists were decided."""
-        now, found = time.time(), []
-        for what, times in (("tables", self.table_times()), ("reports", self.report_times())):
-            if times:
-                found.append(f"{what} {max(0, int(now - min(times.values())))} s old")
-        decided = self.decided()
-        return found + ([f"decided, not gathered: {' '.join(decided)}"] if decided else [])
+    def ages(self):
+        """Returns how old the files of the set are."""
+        judged = self.judged
+        return Ages(self.folder or os.path.realpath(self.site), self.origins, judged and judged.routers, judged and judged.lans)
 
     # For Prometheus
 
@@ -362,11 +329,20 @@ class Run:
                ("unlisted_pairs", "Sources and groups in the caches that are no listed flow's.",
                 judged and judged.unlisted)]
         metrics = [(name, about, [({}, value)]) for name, about, value in one if value is not None]
-        metrics.append(("table_read_timestamp_seconds", "When the router's tables were read.",
-                        [({"router": name}, when) for name, when in self.table_times().items()]))
-        metrics.append(("reports_read_timestamp_seconds", "When the LAN's reports were gathered.",
-                        [({"lan": name}, when) for name, when in self.report_times().items()]))
-        return metrics
+        return metrics + self.age_samples()
+
+    def age_samples(self):
+        """Returns the metrics of how old the tables and the lists are, and of which lists were decided."""
+        ages, now, found = self.ages(), time.time(), []
+        for of, name, label, times in (("tables were read", "table", "router", ages.tables()),
+                                       ("reports were gathered", "reports", "lan", ages.reports())):
+            found.append((f"{name}_read_timestamp_seconds", f"When the {NAMED[label]}'s {of}.",
+                          [({label: it}, when) for it, when in times.items()]))
+            found.append((f"{name}_age_seconds", f"How long before the end of the last run the {NAMED[label]}'s {of}.",
+                          [({label: it}, age_of(when, now)) for it, when in times.items()]))
+        found.append(("reports_decided", "1 for a LAN whose list an operator decided, so that it has no age.",
+                      [({"lan": it}, 1) for it in ages.decided()]))
+        return found
 
     def write_metrics(self):
         """Writes the file for Prometheus."""
@@ -389,8 +365,8 @@ class Run:
             found.append(f"{len(self.judged.unwanted)} wanted by nobody: {', '.join(self.judged.unwanted)}")
         if self.origins_fault and (self.words.warn_age or self.words.warn_reports):
             found.append(f"how old the files are isn't known: {self.origins_fault}")
-        for what, most, times in (("tables of", self.words.warn_age, self.table_times),
-                                  ("reports of", self.words.warn_reports, self.report_times)):
+        for what, most, times in (("tables of", self.words.warn_age, self.ages().tables),
+                                  ("reports of", self.words.warn_reports, self.ages().reports)):
             now = time.time()
             for name, written in times().items() if most else ():
                 age = int(now - written)
@@ -412,19 +388,21 @@ class Run:
 
     def plugin_line(self):
         """Returns the one line, and the status."""
-        judged = self.judged
+        judged, parts = self.judged, []
         if not self.is_answered():
             status, text = 3, "; ".join(map(str, self.faults))
         elif not judged.is_right:
             status, text = 2, f"{len(judged.wrong)} of {judged.counts['flows']} flows wrong: {'; '.join(judged.wrong)}"
         else:
             warnings = self.warnings()
-            status = int(bool(warnings))
-            text = ", ".join([f"{judged.counts['right']} flows right", *warnings, *self.age_sentences()])
+            status, text = int(bool(warnings)), ", ".join([f"{judged.counts['right']} flows right", *warnings])
+        if status != 3:
+            parts = [cut(it, MOST_AGES) for it in self.ages().sentences()]
+        most = MOST_LETTERS
         if status != 3 and self.changes:
-            changes = self.changes_text()
-            text = f"{cut(text, MOST_LETTERS - len(changes) - len(', ' + CUT))}, {changes}"
-        line = f"MCAUDIT {WORDS[status]} - {cut(clean(text, '|'), MOST_LETTERS)}"
+            parts.append(self.changes_text())
+            most -= len(parts[-1]) + len(", " + CUT)
+        line = f"MCAUDIT {WORDS[status]} - {clean(', '.join([cut(text, most), *parts]), '|')}"
         if status != 3:
             counts = judged.counts
             line += f" | right={counts['right']} wrong={counts['wrong']};;0 unwanted={counts['unwanted']};0"

@@ -51,6 +51,16 @@ class Recording:
         self.clock, self.frame, self.count = Clock(), None, 0
         self.has_links, self.lacks_links = False, False
 
+    def frames(self, file):
+        """Yields the frames of a text."""
+        for line in lines_of(file):
+            frame = self.take(line)
+            if frame is not None:
+                yield frame
+        frame = self.end()
+        if frame is not None:
+            yield frame
+
     def take(self, line):
         """Takes a line. Returns the frame that it ends, or None."""
         self.count += 1

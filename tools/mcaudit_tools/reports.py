@@ -233,12 +233,7 @@ def text_list(task):
     """Reads a recorded text on standard input. Returns its list."""
     reader = recording.Recording()
     gathering = Gathering(task.rules(None, False), task.say)
-    for line in recording.lines_of(sys.stdin.buffer):
-        frame = reader.take(line)
-        if frame is not None:
-            gathering.take(frame)
-    frame = reader.end()
-    if frame is not None:
+    for frame in reader.frames(sys.stdin.buffer):
         gathering.take(frame)
     found = task.list_of(gathering)
     if reader.lacks_links and found.status in (WRITTEN, REFUSED):

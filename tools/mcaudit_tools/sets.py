@@ -3,7 +3,8 @@
 What is there at one time is a set, a folder SITE.sets/TIME. SITE is a symbolic link to one, and a rename of a new link
 over it is all that ever changes it: it leads to the old set or to the new one, whole. Whoever makes a set copies what
 the last one has and swaps the link under the lock SITE.write.lock, and so does whoever writes a file into SITE: what is
-written comes into the set before it is copied, or into the new one.
+written comes into the set before it is copied, or into the new one. What others write into a set that was copied already
+comes into the one after the new one (late.py).
 """
 import contextlib
 import fcntl
@@ -14,8 +15,8 @@ import stat
 import tempfile
 import time
 
-from mcaudit_tools import origins
-from mcaudit_tools.common import Failed
+from mcaudit_tools import late, origins
+from mcaudit_tools.common import Failed, say
 from mcaudit_tools.files import reason_of, sync_files, sync_folder, write_beside
 from mcaudit_tools.programs import RUNNING
 
@@ -44,6 +45,7 @@ class Site:
             raise BadName("the site is wanted by its folder's name")
         self.path = stripped if stripped.startswith(("/", "./", "../")) else f"./{stripped}"
         self.sets = f"{self.path}.sets"
+        self.states = {}  # of the last set's files, as they were before they were copied
 
     # The lock
 
@@ -195,15 +197,18 @@ class Site:
         made = os.path.join(scratch, "set")
         with self.writing():
             self.check(False)
+            last = self.folder() if os.path.lexists(self.path) else None
             try:
                 os.mkdir(made)
-                told = self.carry(made, lambda name: name in new or is_replaced(name))
+                told, sentences = self.carry(last, made, lambda name: name in new or is_replaced(name))
                 for name, (path, origin) in new.items():
                     os.rename(path, os.path.join(made, name))
                     origins.keep_time(os.path.join(made, name), origin)
                     told[name] = origin
                 with open(os.path.join(made, origins.FILE), "wb") as file:
                     file.write(origins.text_of(told))
+                if last is not None:
+                    self.note_states(last, made)
                 sync_files(made)
                 folder = self.free_folder()
                 announce(folder)
@@ -211,6 +216,8 @@ class Site:
                     self.take_set(made, folder)
             except OSError as fault:
                 raise self.unwritable(fault) from fault
+        for sentence in sentences:
+            say(sentence)
         return folder
 
     def take_set(self, made, folder):
@@ -223,28 +230,47 @@ class Site:
             shutil.rmtree(folder, ignore_errors=True)
             raise
 
-    def carry(self, made, is_replaced):
-        """Copies the other files of the last set into the one that is made. Returns where they come from."""
-        if not os.path.lexists(self.path):
-            return {}
-        last, known, told = self.folder(), {}, {}
+    def carry(self, last, made, is_replaced):
+        """Copies the other files of the last set into the one that is made, and what was written late into the set before
+        it. Returns where they come from, and what a person is to know of it."""
+        if last is None:
+            return {}, []
+        found = late.Late(last, lambda name: is_left_out(name) or is_replaced(name))
+        self.states = late.states_of(last, is_left_out)
+        for name in self.states:
+            if is_replaced(name) and os.path.isdir(os.path.join(last, name)):
+                raise Failed(f"{os.path.join(self.path, name)} is a folder")
+        names = [it for it in self.states if not is_replaced(it) and it not in found.written]
+        told = self.carry_files(last, names, made, self.path)
+        if found.written:
+            named = os.path.join(self.sets, os.path.basename(found.earlier))
+            told.update(self.carry_files(found.earlier, found.written, made, named))
+        return told, found.sentences(self.path)
+
+    def carry_files(self, folder, names, made, named):
+        """Copies these files of a set into the one that is made. The set is told by a name. Returns where they come from."""
+        known, told = {}, {}
         with contextlib.suppress(origins.Unknown):
-            known = origins.read(last)
-        is_copied = origins.is_copy(last, known)
-        for name in sorted(os.listdir(last)):
-            if name.startswith(".") or name in NOT_CARRIED:
-                continue
-            path = os.path.join(last, name)
-            if is_replaced(name):
-                if os.path.isdir(path):
-                    raise Failed(f"{os.path.join(self.path, name)} is a folder")
-                continue
-            copy(path, os.path.join(made, name), os.path.join(self.path, name))
+            known = origins.read(folder)
+        is_copied = origins.is_copy(folder, known)
+        for name in names:
+            path = os.path.join(folder, name)
+            copy(path, os.path.join(made, name), os.path.join(named, name))
             if PLAIN_NAME.fullmatch(name) and os.path.isfile(path):
                 told[name] = origins.current(path, known.get(name), is_copied)
                 if is_copied and not os.path.islink(path):
                     origins.keep_time(os.path.join(made, name), told[name])
         return told
+
+    def note_states(self, last, made):
+        """Notes in the set that is made how its files are, and how those of the last one were when they were copied."""
+        with open(os.path.join(made, late.FILE), "wb") as file:
+            file.write(late.text_of(os.path.basename(last), self.states, late.states_of(made, is_left_out)))
+
+
+def is_left_out(name):
+    """Whether a file of a set is never taken into the next one."""
+    return name.startswith(".") or name in NOT_CARRIED
 
 
 def copy(path, target, named):

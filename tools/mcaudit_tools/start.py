@@ -5,7 +5,11 @@ This file alone is read by a Python that is too old for the others, so it has no
 import importlib
 import io
 import os
+import signal
 import sys
+
+if signal.getsignal(signal.SIGINT) is signal.default_int_handler:
+    signal.signal(signal.SIGINT, signal.SIG_DFL)  # until it is heeded it ends the tool as the others do, without a trace
 
 LEAST = (3, 9)
 FAILED = 3

@@ -5,7 +5,7 @@ import ipaddress
 import re
 import shlex
 
-from mcaudit_tools import recording
+from mcaudit_tools import igmp, recording
 from mcaudit_tools.common import Failed, clean, find_tool
 from mcaudit_tools.draft.ask import PAUSE
 from mcaudit_tools.programs import run
@@ -29,25 +29,15 @@ def measure_words(flows, seconds):
     return "\n".join(lines) + "\n"
 
 
-def packets_of(text):
-    """Yields the packets that a text of `tcpdump -x` has."""
-    recorded = recording.Recording()
-    for line in recording.lines_of(io.BytesIO(text)):
-        frame = recorded.take(line)
-        if frame is not None:
-            yield frame.data
-    frame = recorded.end()
-    if frame is not None:
-        yield frame.data
-
-
-def times_to_live(text):
-    """Returns for each source and group the times to live of the packets that a text of `tcpdump -x` has."""
+def times_to_live(printed):
+    """Returns for each source and group the times to live of the packets that `tcpdump -x` printed, but for those that
+    routers drop."""
     lives = {}
-    for packet in packets_of(text):
-        if len(packet) >= 20 and packet[0] >> 4 == 4:
-            ends = ipaddress.IPv4Address(packet[12:16]), ipaddress.IPv4Address(packet[16:20])
-            lives.setdefault(ends, set()).add(packet[8])
+    for frame in recording.Recording().frames(io.BytesIO(printed)):
+        header = igmp.header_of(frame.data)
+        if header is not None and not header.is_dropped:
+            ends = ipaddress.IPv4Address(header.sender), ipaddress.IPv4Address(header.target)
+            lives.setdefault(ends, set()).add(header.ttl)
     return lives
 
 
@@ -76,9 +66,9 @@ def judge_flow(flow, router, device, lives):
 def measure_on(words, router, flows):
     """Measures the flows on the router. Returns doubts."""
     print(f"{router}: measuring the times to live of {len(flows)} flows", flush=True)
-    told, said = ask_packets(words, router, flows)
+    printed, said = ask_packets(words, router, flows)
     try:
-        lives = times_to_live(told)
+        lives = times_to_live(printed)
     except Failed as fault:
         lives, said = {}, [str(fault)]
     for flow, device in flows:

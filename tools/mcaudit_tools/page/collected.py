@@ -5,6 +5,7 @@ import os
 import time
 
 from mcaudit_tools import origins
+from mcaudit_tools.ages import Ages
 from mcaudit_tools.common import Failed, say
 from mcaudit_tools.page.explain import some
 from mcaudit_tools.page.markup import table_of, tag
@@ -69,12 +70,21 @@ def own_times(folder, names):
     return found
 
 
+def ages_text(domain, folder):
+    """Returns a sentence on how old what was judged was when the page was made, or nothing where that isn't known."""
+    with contextlib.suppress(Failed):
+        found = Ages(folder.path, origins.read(folder.path), domain.routers, domain.lans).sentences()
+        return f" When this page was made, at {text_of_time(time.time())}: {', '.join(found)}." if found else ""
+    return ""
+
+
 def collected_section(domain, folder):
     """Returns when what was judged was collected."""
     times = collected_times(folder) if folder else {}
+    ages = ages_text(domain, folder) if folder else ""
     if not times:
         return [tag("p", "When the files were written isn't known: there is no list of times beside them, as "
-                         "mcaudit-collect writes it.")]
+                         "mcaudit-collect writes it.", ages)]
     needed = ["topology", *(f"{kind}-{router}" for router in domain.routers for kind in ("vif", "cache")),
               *(f"igmp-{lan}" for lan in domain.lans)]
     is_set, own = folder.is_set, own_times(folder.path, needed)
@@ -94,7 +104,7 @@ def collected_section(domain, folder):
     said += [f"Not in the folder: {some(absent)}."] if absent else []
     rows = [tag("tr", tag("td", tag("code", name)), tag("td", about[name][2]), tag("td", all_times[name]))
             for name in order]
-    return [tag("p", " ".join(said)),
+    return [tag("p", " ".join(said), ages),
             tag("details", tag("summary", "Each file, and when it was written"),
                 table_of(("File", "What it is", "Written, by collected.json"), rows),
                 open=None if len(rows) > 40 else "")]

@@ -683,12 +683,39 @@ def plugin_line_of_many_decided_lists(place):
 
 @case
 def times_that_are_none(place):
-    """A collected.json of another version, or of a later time, warns."""
-    for files, version in (({}, 3), ({"vif-r1": {"by": "collect", "of": "r1", "time": int(time.time()) + 600}}, 2)):
+    """A collected.json of another version warns, and so does one file that is told or written of a later time, beside
+    others of its router that are young. One of less than a minute ahead doesn't."""
+    def of_r1(name, ahead):
+        """Returns the place of a file, and what collected.json says of it."""
+        return {name: {"by": "collect", "of": "r1", "time": int(time.time()) + ahead}}
+    later, unknown = "tables of r1 are of a later time than now", "how old the files are isn't known"
+    for files, version, by_hand, status, said in (
+            ({}, 3, None, 1, unknown), ({}, 2, None, 0, "tables 30 s old"), (of_r1("vif-r1", 600), 2, None, 1, later),
+            (of_r1("cache-r1", 600), 2, None, 1, later), ({}, 2, "cache-r1", 1, later), ({}, 2, "vif-r1", 1, later),
+            (of_r1("vif-r1", 40), 2, None, 0, "OK"), ({}, 2, "igmp-l1", 1, "reports of l1 are of a later time than now")):
         shutil.rmtree(place.at("site"), ignore_errors=True)
         shutil.copytree(NETWORK, place.at("site"))
         place.write("site/collected.json", json.dumps({"version": version, "files": files}))
-        assert place.run("monitor", "--plugin", "--no-collect", "site") == 1, place.said
+        for name in os.listdir(place.at("site")):
+            when = time.time() + (600 if name == by_hand else -30)
+            os.utime(place.at("site", name), (when, when))
+        assert place.run("monitor", "--plugin", "--no-collect", "site") == status, (files, by_hand, place.said)
+        is_told = re.search(said.replace("30 s", "3[0-9] s"), place.said)
+        assert is_told and (said != later or "tables of a later time than now" in place.said), (files, by_hand, place.said)
+
+
+@case
+def metrics_of_times_that_are_none(place):
+    """A list of a later time has the time 0 and the greatest age, so that whoever watches either is warned."""
+    ways = place.routers("r1", "r2")
+    place.site()
+    for name, ahead in (("igmp-l1", 600), ("igmp-l2", -30)):
+        os.utime(place.at("site", name), (time.time() + ahead, time.time() + ahead))
+    place.run("monitor", "--pause", "0", "--prometheus", "m.prom", "site", *ways)
+    metrics = dict(it.rsplit(" ", 1) for it in place.read("m.prom").splitlines() if it[0] != "#")
+    read, age = ([int(metrics[f'mcaudit_reports_{kind}_seconds{{lan="{lan}"}}']) for lan in ("l1", "l2")]
+                 for kind in ("read_timestamp", "age"))
+    assert read[0] == 0 and age[0] > 1 << 30 and read[1] > 1 << 30 and 30 <= age[1] < 60, (read, age)
 
 
 # What 0.2.0 wrote

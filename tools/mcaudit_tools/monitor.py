@@ -18,7 +18,7 @@ import time
 
 from mcaudit_tools import audit as audits
 from mcaudit_tools import origins, sets
-from mcaudit_tools.ages import Ages, age_of
+from mcaudit_tools.ages import LATER, Ages, age_of
 from mcaudit_tools.common import CUT, Failed, Parser, Refused, clean, cut, find_tool
 from mcaudit_tools.files import read_regular, reason_of, write_beside
 from mcaudit_tools.programs import RUNNING, run
@@ -336,6 +336,7 @@ class Run:
         ages, now, found = self.ages(), time.time(), []
         for of, name, label, times in (("tables were read", "table", "router", ages.tables()),
                                        ("reports were gathered", "reports", "lan", ages.reports())):
+            times = {it: max(0, when) for it, when in times.items()}
             found.append((f"{name}_read_timestamp_seconds", f"When the {NAMED[label]}'s {of}.",
                           [({label: it}, when) for it, when in times.items()]))
             found.append((f"{name}_age_seconds", f"How long before the end of the last run the {NAMED[label]}'s {of}.",
@@ -369,11 +370,10 @@ class Run:
                                   ("reports of", self.words.warn_reports, self.ages().reports)):
             now = time.time()
             for name, written in times().items() if most else ():
-                age = int(now - written)
-                if age > most:
-                    found.append(f"{what} {name} are {age} s old")
-                elif age < -origins.AHEAD:
+                if written == LATER:
                     found.append(f"{what} {name} are of a later time than now")
+                elif age_of(written, now) > most:
+                    found.append(f"{what} {name} are {age_of(written, now)} s old")
         return found
 
     def changes_text(self):

@@ -109,7 +109,7 @@ rule "the Internet checksum: all tools', and mcaudit-query's" 2 "$(lines 'while 
 rule "text of others made clean" 1 "$(lines '" " <= it <= "~" and' $tools)"
 rule 'a failure with its status' 2 "$(lines '^class Failed\(' tools)"
 rule 'blocks of code in two functions: the checksum' 1 "$(python3 tests/house/tools.py copies | wc -l)"
-rule 'lines of more than 120 characters below tools/' 43 "$(python3 tests/house/tools.py lines | wc -l)"
+rule 'lines of more than 120 characters below tools/' 0 "$(python3 tests/house/tools.py lines | wc -l)"
 rule 'functions of more than 40 lines' 0 "$(python3 tests/house/tools.py functions | wc -l)"
 rule 'modules of more than 340 lines: the monitor' 1 "$(python3 tests/house/tools.py modules | wc -l)"
 

@@ -474,7 +474,7 @@ if [ -z "$wanted_cases" ]; then
     run_apart pages dot "$python" "$here/page.py"
     run_apart hostile dot "$python" "$here/hostile.py"
     run_apart loops dot "$python" "$here/loops.py"
-    run_apart flake8 flake8 flake8 --max-line-length 132 "$tools" "$tools"/mcaudit-* "$here"/hostile.py "$here"/loops.py \
+    run_apart flake8 flake8 flake8 --max-line-length 120 "$tools" "$tools"/mcaudit-* "$here"/hostile.py "$here"/loops.py \
         "$here"/packets.py "$here"/commands
     run_apart pylint pylint check_python
     run_apart mypy mypy mypy --python-version 3.9 --cache-dir "$scratch/mypy" "$tools/mcaudit_tools"

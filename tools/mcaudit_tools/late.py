@@ -1,5 +1,5 @@
-"""What was written into a set after the next one was made of it, by whoever had its path before: an editor, or a copy that
-took long. A set keeps in `.carried` of which set it was made, and how each file was in both then.
+"""What was written into a set after the next one was made of it, by whoever had its path before: an editor, or a copy
+that took long. A set keeps in `.carried` of which set it was made, and how each file was in both then.
 """
 import contextlib
 import filecmp
@@ -15,7 +15,8 @@ MOST_BYTES = 16 << 20
 
 
 def state_of(path):
-    """Returns what another writing changes of a file or a link, and of all that a folder has; None where nothing is there."""
+    """Returns what another writing changes of a file or a link, and of all that a folder has; None where nothing is
+    there."""
     try:
         found = os.lstat(path)
         if stat.S_ISDIR(found.st_mode):
@@ -67,9 +68,10 @@ class Late:
         if self.earlier is None:
             return []
         old, new = os.path.basename(self.earlier), os.path.basename(self.folder)
-        return [*(f"{named}/{it} is what was written into {old} after {new} had been made of it" for it in self.written),
-                *(f"{named}/{it} was written in {new} and also in {old}, after {new} had been made of it: what {old} has is "
-                  "not in the new set" for it in self.both)]
+        return [*(f"{named}/{it} is what was written into {old} after {new} had been made of it"
+                  for it in self.written),
+                *(f"{named}/{it} was written in {new} and also in {old}, after {new} had been made of it: what {old} "
+                  "has is not in the new set" for it in self.both)]
 
 
 def is_same(one, two):

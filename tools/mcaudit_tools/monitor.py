@@ -44,8 +44,8 @@ Of what changed, faults that came or went are printed first, and then paths that
 
 Only one run at a time works on SITE: another one ends at once, and writes nothing. Where a router was not read
 nothing is judged. Each set keeps its audit as audit.json, and SITE.monitor.json says which one was judged last."""
-MORE = """Statuses: 0 verdict yes, 1 verdict no, 2 mcaudit refuses the folder, 3 a router was not read, another run is at
-work, or something failed, 4 no memory, 5 wrong words.
+MORE = """Statuses: 0 verdict yes, 1 verdict no, 2 mcaudit refuses the folder, 3 a router was not read, another run is
+at work, or something failed, 4 no memory, 5 wrong words.
 With --plugin: 0 verdict yes; 1 yes, but a flow is wanted by nobody, or files are older than told; 2 verdict no; 3
 all else.
 
@@ -183,8 +183,8 @@ class Run:
         self.check_routers()
 
     def check_routers(self):
-        """Fails where routers were collected that the topology doesn't list: a yes would be said as if they weren't there.
-        mcaudit-collect sees that by itself only where its Python reads TOML."""
+        """Fails where routers were collected that the topology doesn't list: a yes would be said as if they weren't
+        there. mcaudit-collect sees that by itself only where its Python reads TOML."""
         if self.words.no_collect or not self.judged.is_right:
             return
         read = sorted(it.removeprefix("vif-") for it in os.listdir(self.folder) if it.startswith("vif-"))
@@ -206,7 +206,8 @@ class Run:
         path = f"{self.site}.sets/{last}/audit.json"
         if not last or not os.path.exists(path):
             return
-        status, output, said = self.command([find_tool("mcaudit-diff"), path, "/dev/stdin"], MOST_TEXT, self.text, AUDITING)
+        status, output, said = self.command([find_tool("mcaudit-diff"), path, "/dev/stdin"], MOST_TEXT, self.text,
+                                            AUDITING)
         if status == 2:
             self.say(said or f"mcaudit-diff refuses the audit of {last}")
             self.is_comparing = False
@@ -252,9 +253,9 @@ class Run:
     # What stays of a run
 
     def trim(self):
-        """Removes the sets that came before the last ones, but never the newest ones, a young one, that which the site leads
-        to, or which was judged last. The order is that in which runs met them, and not that of their names: a clock can go
-        back."""
+        """Removes the sets that came before the last ones, but never the newest ones, a young one, that which the site
+        leads to, or which was judged last. The order is that in which runs met them, and not that of their names: a
+        clock can go back."""
         if not self.is_locked:
             return
         folder = f"{self.site}.sets"
@@ -306,7 +307,8 @@ class Run:
     def ages(self):
         """Returns how old the files of the set are."""
         judged = self.judged
-        return Ages(self.folder or os.path.realpath(self.site), self.origins, judged and judged.routers, judged and judged.lans)
+        return Ages(self.folder or os.path.realpath(self.site), self.origins, judged and judged.routers,
+                    judged and judged.lans)
 
     # For Prometheus
 
@@ -320,7 +322,8 @@ class Run:
                 self.state.get("last_success")),
                ("last_change_timestamp_seconds", "When something had changed since the run before.",
                 self.state.get("last_change")),
-               ("last_fault_change_timestamp_seconds", "When a fault had come, gone or become another since the run before.",
+               ("last_fault_change_timestamp_seconds",
+                "When a fault had come, gone or become another since the run before.",
                 self.state.get("last_fault_change")),
                ("verdict", "Whether every listed flow is right.", judged and int(judged.is_right)),
                ("flows_right", "Listed flows that are right.", counts and counts["right"]),
@@ -377,7 +380,8 @@ class Run:
         return found
 
     def changes_text(self):
-        """Returns how many changes there are, and the first of them, among which faults that came or went are the first."""
+        """Returns how many changes there are, and the first of them, among which faults that came or went are the
+        first."""
         text = ""
         for change in self.changes:
             if len(text) + len(change) > MOST_LETTERS // 2:

@@ -3,8 +3,8 @@
 What is there at one time is a set, a folder SITE.sets/TIME. SITE is a symbolic link to one, and a rename of a new link
 over it is all that ever changes it: it leads to the old set or to the new one, whole. Whoever makes a set copies what
 the last one has and swaps the link under the lock SITE.write.lock, and so does whoever writes a file into SITE: what is
-written comes into the set before it is copied, or into the new one. What others write into a set that was copied already
-comes into the one after the new one (late.py).
+written comes into the set before it is copied, or into the new one. What others write into a set that was copied
+already comes into the one after the new one (late.py).
 """
 import contextlib
 import fcntl
@@ -192,8 +192,8 @@ class Site:
             shutil.rmtree(made, ignore_errors=True)
 
     def publish(self, new, is_replaced, scratch, announce):
-        """Makes a set of the new files, {name: (path, origin)}, and of those of the last set that aren't replaced, and has
-        the site lead to it. Announces the set's path before that. Returns that path."""
+        """Makes a set of the new files, {name: (path, origin)}, and of those of the last set that aren't replaced, and
+        has the site lead to it. Announces the set's path before that. Returns that path."""
         made = os.path.join(scratch, "set")
         with self.writing():
             self.check(False)
@@ -231,8 +231,8 @@ class Site:
             raise
 
     def carry(self, last, made, is_replaced):
-        """Copies the other files of the last set into the one that is made, and what was written late into the set before
-        it. Returns where they come from, and what a person is to know of it."""
+        """Copies the other files of the last set into the one that is made, and what was written late into the set
+        before it. Returns where they come from, and what a person is to know of it."""
         if last is None:
             return {}, []
         found = late.Late(last, lambda name: is_left_out(name) or is_replaced(name))
@@ -248,7 +248,8 @@ class Site:
         return told, found.sentences(self.path)
 
     def carry_files(self, folder, names, made, named):
-        """Copies these files of a set into the one that is made. The set is told by a name. Returns where they come from."""
+        """Copies these files of a set into the one that is made. The set is told by a name. Returns where they come
+        from."""
         known, told = {}, {}
         with contextlib.suppress(origins.Unknown):
             known = origins.read(folder)
@@ -290,8 +291,8 @@ def copy(path, target, named):
 
 
 def moved_links(folder, place):
-    """Returns the old and the new target of each relative link in the folder, which is to lead from another place to where
-    it leads."""
+    """Returns the old and the new target of each relative link in the folder, which is to lead from another place to
+    where it leads."""
     found = {}
     at = os.path.join(os.path.realpath(os.path.dirname(place)), os.path.basename(place))
     for entry in os.scandir(folder):

@@ -17,7 +17,7 @@ import sys
 import time
 
 from mcaudit_tools import audit as audits
-from mcaudit_tools import origins, sets
+from mcaudit_tools import locks, origins, sets
 from mcaudit_tools.ages import LATER, Ages, age_of
 from mcaudit_tools.common import CUT, Failed, Parser, Refused, clean, cut, find_tool
 from mcaudit_tools.files import read_regular, reason_of, write_beside
@@ -127,8 +127,8 @@ class Run:
         if self.words.no_collect:
             yield
             return
-        with sets.lock_file(f"{self.site}.lock") as opened:
-            if not sets.try_lock(opened):
+        with locks.lock_file(f"{self.site}.lock") as opened:
+            if not locks.try_lock(opened):
                 raise Busy(f"another run is at work on {self.site}")
             self.is_locked = True
             yield

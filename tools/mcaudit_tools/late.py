@@ -8,7 +8,7 @@ import os
 import stat
 
 from mcaudit_tools.common import Failed
-from mcaudit_tools.files import read_regular
+from mcaudit_tools.files import read_json
 
 FILE = ".carried"
 MOST_BYTES = 16 << 20
@@ -45,7 +45,7 @@ class Late:
         self.folder, self.earlier = folder, None
         self.written, self.both = [], []  # names: of what is to be carried, and of what changed in both sets
         with contextlib.suppress(Failed, ValueError, KeyError, TypeError, AttributeError, RecursionError):
-            found = json.loads(read_regular(os.path.join(folder, FILE), MOST_BYTES))
+            found = read_json(os.path.join(folder, FILE), MOST_BYTES)
             name, files = found["from"], {it: (before, after) for it, (before, after) in found["files"].items()}
             if found["version"] == 1 and os.path.basename(name) == name:
                 self.look(os.path.join(os.path.dirname(folder), name), files, is_left_out)

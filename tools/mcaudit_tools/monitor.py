@@ -20,7 +20,7 @@ from mcaudit_tools import audit as audits
 from mcaudit_tools import locks, origins, sets
 from mcaudit_tools.ages import LATER, Ages, age_of
 from mcaudit_tools.common import CUT, Failed, Parser, Refused, clean, cut, find_tool
-from mcaudit_tools.files import read_regular, reason_of, write_beside
+from mcaudit_tools.files import read_json, reason_of, write_beside
 from mcaudit_tools.programs import RUNNING, run
 
 MOST_SHOWN = 20  # flows that are wrong
@@ -136,7 +136,7 @@ class Run:
     def read_state(self):
         """Reads what is known from last time, if that is there."""
         try:
-            state = json.loads(read_regular(f"{self.site}.monitor.json", MOST_STATE))
+            state = read_json(f"{self.site}.monitor.json", MOST_STATE)
             times = [state["last_success"], state["last_change"], state.get("last_fault_change")]
             names = [state["judged"], *state["sets"]]
             if not all(it is None or isinstance(it, int) for it in times):

@@ -11,7 +11,7 @@ import re
 import time
 
 from mcaudit_tools.common import Failed
-from mcaudit_tools.files import read_regular
+from mcaudit_tools.files import read_json
 
 FILE = "collected.json"
 MOST_BYTES = 16 << 20
@@ -74,10 +74,10 @@ def old_origin(name, text):
     return Origin(OPERATOR, None, seconds_of(text))
 
 
-def parse(data):
-    """Reads the text of a collected.json."""
+def parse(path):
+    """Reads a collected.json."""
     try:
-        found = json.loads(data)
+        found = read_json(path, MOST_BYTES)
         if found["version"] not in (1, 2) or isinstance(found["version"], bool):
             raise Unknown("it is of a version that is not known")
         if found["version"] == 1:
@@ -92,7 +92,7 @@ def read(folder, named=None):
     name."""
     path = os.path.join(folder, FILE)
     try:
-        return parse(read_regular(path, MOST_BYTES)) if os.path.lexists(path) else {}
+        return parse(path) if os.path.lexists(path) else {}
     except Unknown as fault:
         raise Unknown(f"{os.path.join(named or folder, FILE)}: {fault}") from fault
 

@@ -97,11 +97,12 @@ rule 'what is renamed over another: such a file, and the link to a set' 2 "$(lin
 rule 'how a program is run under limits' 1 "$(lines 'subprocess\.(Popen|run|call|check_)|os\.(popen|system|fork)' $tools)"
 rule 'what a tool becomes: the shell on a router' 1 "$(lines 'os\.(exec|posix_spawn)' $tools)"
 rule 'how a session of programs is ended' 1 "$(lines 'os\.killpg\(' $tools)"
-rule 'signals: those that are heeded, those of an end, and that of a closed pipe' 3 "$(lines 'signal\.signal\(' $tools)"
+# (an interrupt before any is heeded is start.py's, which a Python reads that is too old for the others)
+rule 'signals: an interrupt before any is heeded, those that are heeded, those of an end, and that of a closed pipe' 4 "$(lines 'signal\.signal\(' $tools)"
 rule 'a lock: of a site, and of a scratch folder' 2 "$(lines 'fcntl\.flock\(' $tools)"
 rule 'how a file is opened that may be no regular one' 1 "$(lines 'O_RDONLY \| os\.O_NONBLOCK' $tools)"
 rule "a reader of the audit's JSON" 1 "$(lines '\["format"\]' $tools)"
-rule "readers of JSON: an audit's, collected.json, the monitor's, dot's and ip's" 5 "$(lines 'json\.loads?\(' $tools)"
+rule "readers of JSON: an audit's, that of files which the tools keep, dot's and ip's" 4 "$(lines 'json\.loads?\(' $tools)"
 rule 'a reader of TOML' 1 "$(lines 'tomllib\.loads?\(' $tools)"
 rule 'a decoder of hexadecimal digits' 1 "$(lines 'fromhex|unhexlify|b16decode' $tools)"
 rule "a reader of arguments: all tools', and mcaudit-query's" 2 "$(lines '\(argparse\.ArgumentParser\)' tools)"
@@ -109,7 +110,7 @@ rule "the Internet checksum: all tools', and mcaudit-query's" 2 "$(lines 'while 
 rule "text of others made clean" 1 "$(lines '" " <= it <= "~" and' $tools)"
 rule 'a failure with its status' 2 "$(lines '^class Failed\(' tools)"
 rule 'blocks of code in two functions: the checksum' 1 "$(python3 tests/house/tools.py copies | wc -l)"
-rule 'lines of more than 120 characters below tools/' 43 "$(python3 tests/house/tools.py lines | wc -l)"
+rule 'lines of more than 120 characters below tools/' 0 "$(python3 tests/house/tools.py lines | wc -l)"
 rule 'functions of more than 40 lines' 0 "$(python3 tests/house/tools.py functions | wc -l)"
 rule 'modules of more than 340 lines: the monitor' 1 "$(python3 tests/house/tools.py modules | wc -l)"
 

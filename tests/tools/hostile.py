@@ -216,7 +216,8 @@ def packets_that_receivers_ignore(place):
 
 
 def bad_of(*hosts):
-    """Returns packets that receivers ignore, of these hosts: too short, or with a wrong sum of the message or the header."""
+    """Returns packets that receivers ignore, of these hosts: too short, or with a wrong sum of the message or the
+    header."""
     kinds = (b"\x22", b"\x22\0\x12\x34\0\0\0\0", None)
     made = [(host, kinds[turn % 3]) for turn, host in enumerate(hosts)]
     return [(2 + turn / 10, with_a_bad_header(p.wanted(host, "239.6.6.6")) if message is None
@@ -235,7 +236,8 @@ def ignored_packets_at_their_limits(place):
     outside = [(-1 - turn / 10, it) for turn, (_, it) in enumerate(bad_of(*[three] * 20))][::-1]
     for hosts, expected in (([one] * 8, (0, LISTED)), ([one, two] * 4, (0, LISTED)), ([one] * 9, (1, None)),
                             ([one, two] * 4 + [one], (1, None)), ([one, two, three], (1, None))):
-        for gather in (lambda some: place.captured(framed(*some)), lambda some: place.reports("--text", text=p.text(some))):
+        for gather in (lambda some: place.captured(framed(*some)),
+                       lambda some: place.reports("--text", text=p.text(some))):
             os.path.exists(place.at("list")) and os.unlink(place.at("list"))
             found = gather((*outside, *GOOD[:2], *bad_of(*hosts), GOOD[2]))
             assert found == expected, (hosts, found, place.said)
@@ -249,7 +251,8 @@ def list_marked_with_who_sent_nothing_whole(place):
     place.site()
     frames = framed(*GOOD[:2], *bad_of("10.0.1.66", "10.0.1.5"), GOOD[2])
     place.write("l1.pcap", p.pcap(frames))
-    for options, unchecked in ((["--network", "10.0.1.0/24"], ["sender 10.0.1.66"]), ([], ["sender 10.0.1.66", "network"])):
+    for options, unchecked in ((["--network", "10.0.1.0/24"], ["sender 10.0.1.66"]),
+                               ([], ["sender 10.0.1.66", "network"])):
         assert place.run("reports", "-o", "site/igmp-l1", "--capture", "l1.pcap", *options) == 0, place.said
         assert json.loads(place.read("site/collected.json"))["files"]["igmp-l1"]["unchecked"] == unchecked
     assert place.said.count("and nothing else of it came") == 1, place.said
@@ -633,8 +636,10 @@ def told_of_ages(place, *lost):
     os.path.islink(place.at("site")) and os.unlink(place.at("site"))
     place.site(*lost)
     now = int(time.time())
-    tables = {f"{kind}-{it}": {"by": "collect", "of": it, "time": now - 5000} for kind in ("vif", "cache") for it in ("r1", "r2")}
-    lists = {f"igmp-l{it}": {"by": by, "of": None, "time": now - 9000} for it, by in enumerate(("capture", "capture", "static"))}
+    tables = {f"{kind}-{it}": {"by": "collect", "of": it, "time": now - 5000}
+              for kind in ("vif", "cache") for it in ("r1", "r2")}
+    lists = {f"igmp-l{it}": {"by": by, "of": None, "time": now - 9000}
+             for it, by in enumerate(("capture", "capture", "static"))}
     place.write("site/collected.json", json.dumps({"version": 2, "files": {**tables, **lists}}))
     for name in (*tables, *lists):
         os.utime(place.at("site", name), (0, now - 20000))
@@ -642,7 +647,8 @@ def told_of_ages(place, *lost):
 
 @case
 def ages_of_each_answer(place):
-    """A yes and a no of the plugin, the text and the page say how old it is and what was decided, and so do the metrics."""
+    """A yes and a no of the plugin, the text and the page say how old it is and what was decided, and so do the
+    metrics."""
     def is_told():
         """Whether what was said has the ages, which grow as the case runs, and the decided list."""
         return any(f"tables {5000 + it} s old, reports {9000 + it} s old, decided, not gathered: l2" in place.said
@@ -661,7 +667,8 @@ def ages_of_each_answer(place):
     metrics = dict(it.rsplit(" ", 1) for it in place.read("m.prom").splitlines() if it[0] != "#")
     assert 0 <= int(metrics['mcaudit_table_age_seconds{router="r1"}']) < 60
     assert 9000 <= int(metrics['mcaudit_reports_age_seconds{lan="l1"}']) < 9060, metrics
-    assert metrics['mcaudit_reports_decided{lan="l2"}'] == "1" and 'mcaudit_reports_age_seconds{lan="l2"}' not in metrics
+    assert metrics['mcaudit_reports_decided{lan="l2"}'] == "1"
+    assert 'mcaudit_reports_age_seconds{lan="l2"}' not in metrics
 
 
 @case
@@ -683,12 +690,40 @@ def plugin_line_of_many_decided_lists(place):
 
 @case
 def times_that_are_none(place):
-    """A collected.json of another version, or of a later time, warns."""
-    for files, version in (({}, 3), ({"vif-r1": {"by": "collect", "of": "r1", "time": int(time.time()) + 600}}, 2)):
+    """A collected.json of another version warns, and so does one file that is told or written of a later time, beside
+    others of its router that are young. One of less than a minute ahead doesn't."""
+    def of_r1(name, ahead):
+        """Returns the place of a file, and what collected.json says of it."""
+        return {name: {"by": "collect", "of": "r1", "time": int(time.time()) + ahead}}
+    later, unknown = "tables of r1 are of a later time than now", "how old the files are isn't known"
+    for files, version, by_hand, status, said in (
+            ({}, 3, None, 1, unknown), ({}, 2, None, 0, "tables 30 s old"), (of_r1("vif-r1", 600), 2, None, 1, later),
+            (of_r1("cache-r1", 600), 2, None, 1, later), ({}, 2, "cache-r1", 1, later), ({}, 2, "vif-r1", 1, later),
+            (of_r1("vif-r1", 40), 2, None, 0, "OK"),
+            ({}, 2, "igmp-l1", 1, "reports of l1 are of a later time than now")):
         shutil.rmtree(place.at("site"), ignore_errors=True)
         shutil.copytree(NETWORK, place.at("site"))
         place.write("site/collected.json", json.dumps({"version": version, "files": files}))
-        assert place.run("monitor", "--plugin", "--no-collect", "site") == 1, place.said
+        for name in os.listdir(place.at("site")):
+            when = time.time() + (600 if name == by_hand else -30)
+            os.utime(place.at("site", name), (when, when))
+        assert place.run("monitor", "--plugin", "--no-collect", "site") == status, (files, by_hand, place.said)
+        assert re.search(said.replace("30 s", "3[0-9] s"), place.said), (files, by_hand, place.said)
+        assert said != later or "tables of a later time than now" in place.said, (files, by_hand, place.said)
+
+
+@case
+def metrics_of_times_that_are_none(place):
+    """A list of a later time has the time 0 and the greatest age, so that whoever watches either is warned."""
+    ways = place.routers("r1", "r2")
+    place.site()
+    for name, ahead in (("igmp-l1", 600), ("igmp-l2", -30)):
+        os.utime(place.at("site", name), (time.time() + ahead, time.time() + ahead))
+    place.run("monitor", "--pause", "0", "--prometheus", "m.prom", "site", *ways)
+    metrics = dict(it.rsplit(" ", 1) for it in place.read("m.prom").splitlines() if it[0] != "#")
+    read, age = ([int(metrics[f'mcaudit_reports_{kind}_seconds{{lan="{lan}"}}']) for lan in ("l1", "l2")]
+                 for kind in ("read_timestamp", "age"))
+    assert read[0] == 0 and age[0] > 1 << 30 and read[1] > 1 << 30 and 30 <= age[1] < 60, (read, age)
 
 
 # What 0.2.0 wrote
@@ -723,10 +758,12 @@ def times_that_0_2_0_kept(place):
     assert place.run("page", "--program", PROGRAM, "site") == 0 and "2025-11-28T01:40:24Z</td>" in place.said
     assert place.run("reports", "-o", "site/igmp-l1", "--static", "239.1.2.3") == 0, place.said
     files = json.loads(place.read("site/collected.json"))["files"]
-    assert files["cache-r2"] == {"by": "collect", "of": "r2", "time": TOLD} and files["igmp-l1"]["by"] == "static", files
+    assert files["cache-r2"] == {"by": "collect", "of": "r2", "time": TOLD}, files
+    assert files["igmp-l1"]["by"] == "static", files
     collected(place, ways)
     found = json.loads(place.read("site/collected.json"))
-    assert found["version"] == 2 and found["files"]["igmp-l2"] == {"by": "operator", "of": None, "time": TOLD - 2}, found
+    assert found["version"] == 2, found
+    assert found["files"]["igmp-l2"] == {"by": "operator", "of": None, "time": TOLD - 2}, found
     assert found["files"]["vif-r1"]["time"] > TOLD + 60 and found["files"]["igmp-l1"]["by"] == "static", found
 
 
@@ -778,15 +815,16 @@ def topologies_and_audits_that_are_none(place):
 
 @case
 def packets_that_a_draft_measures(place):
-    """Their times to live are read as those of a recorded text: no other packet's, and of no line that has no digits."""
+    """Their times to live are read as those of a recorded text: no other packet's, and of no line that has no
+    digits."""
     def lives_of(text):
         """Returns the times to live that are read, as text, or why none is."""
         code = ("import sys\nfrom mcaudit_tools import common\nfrom mcaudit_tools.draft import measure\n"
                 "try:\n    lives = measure.times_to_live(sys.stdin.buffer.read())\n"
                 "except common.Failed as fault:\n    sys.exit(print(fault))\n"
                 "print(sorted((*map(str, key), *sorted(it)) for key, it in lives.items()))")
-        done = subprocess.run([sys.executable, "-c", code], input=text, cwd=TOOLS, env=place.environment, capture_output=True,
-                              check=True)
+        done = subprocess.run([sys.executable, "-c", code], input=text, cwd=TOOLS, env=place.environment,
+                              capture_output=True, check=True)
         return done.stdout.decode().strip()
     sent = [p.packet("10.0.0.5", "239.1.2.3", b"x" * 30, ttl, 17) for ttl in (7, 9)]
     assert lives_of(p.text(((0, sent[0]), (1, sent[1])))) == "[('10.0.0.5', '239.1.2.3', 7, 9)]"

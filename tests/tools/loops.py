@@ -87,14 +87,16 @@ def killed(place, choice):
     ways = place.routers("r1", "r2")
     tool, *words = choice.choice((
         ["collect", "--pause", "0", "site", *ways], ["collect", "--adopt", "--pause", "0", "site", *ways],
-        ["reports", "-o", "site/igmp-l2", "--static", "239.1.2.9"], ["monitor", "--pause", "0", "--keep", "1", "site", *ways]))
+        ["reports", "-o", "site/igmp-l2", "--static", "239.1.2.9"],
+        ["monitor", "--pause", "0", "--keep", "1", "site", *ways]))
     if "--adopt" in words:
         shutil.copytree(NETWORK, place.at("site"))
     else:
         place.site()
         place.write("site/notes", "kept")
     before = text_of(place.at("site/igmp-l2"))
-    number, moment = choice.choice((signal.SIGKILL, signal.SIGKILL, signal.SIGTERM, signal.SIGINT)), choice.random() * 1.2
+    number = choice.choice((signal.SIGKILL, signal.SIGKILL, signal.SIGTERM, signal.SIGINT))
+    moment = choice.random() * 1.2
     with place.begin(tool, *words) as running:
         time.sleep(moment)
         running.send_signal(number)
@@ -106,10 +108,16 @@ def killed(place, choice):
     after = text_of(place.at("site/igmp-l2"))
     assert after == (NEW if tool == "reports" and (running.returncode == 0 or after != before) else before), told
     check_next(place, ways)
-    assert text_of(place.at("site/igmp-l2")) == after and ("--adopt" in words or place.read("site/notes") == "kept"), told
+    assert text_of(place.at("site/igmp-l2")) == after, told
+    assert "--adopt" in words or place.read("site/notes") == "kept", told
 
 
 # Full disks
+
+def site_and_page(place):
+    """Returns what the tools may change on the disk: where the site leads, a list, and the page."""
+    return os.readlink(place.at("disk/site")), text_of(place.at("disk/site/igmp-l2")), place.read("disk/page.html")
+
 
 def filled(place, free):
     """Runs the tools on a disk with so many KB left."""
@@ -125,10 +133,10 @@ def filled(place, free):
                              ["reports", "-o", "disk/site/igmp-l2", "--static", "239.1.2.9"],
                              ["monitor", "--pause", "0", "disk/site", *ways],
                              ["page", "--program", PROGRAM, "-o", "disk/page.html", "disk/site"]):
-            before = os.readlink(place.at("disk/site")), text_of(place.at("disk/site/igmp-l2")), place.read("disk/page.html")
+            before = site_and_page(place)
             status = place.run(tool, *words)
             assert status in (0, 3), f"{tool} with {free} KB: status {status}, {place.said}"
-            after = os.readlink(place.at("disk/site")), text_of(place.at("disk/site/igmp-l2")), place.read("disk/page.html")
+            after = site_and_page(place)
             if status == 3 and tool != "monitor":
                 assert after == before, f"{tool} with {free} KB: {before} {after} {place.said}"
                 assert "can't be" in place.said or "No space" in place.said, place.said

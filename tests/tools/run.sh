@@ -6,9 +6,10 @@
 # program, crates/mcaudit/out/mcaudit or what PROGRAM names. The words of the file completion, and those that
 # help_words.sh takes from the help of the program and of its tools, are completed by bash, zsh and fish
 # alike. All tools are to tell one version and to be installed, and shellcheck reads all shell of the tools
-# and of their cases. Their manual pages are those that packaging/man_pages.py writes. page.py looks at the pages that mcaudit-page makes. What it needs that is not there is
-# named, and is a failure; but promtool reads the files for Prometheus, and systemd-analyze the units, only
-# where they are. hostile.py tries what hosts, routers and names may do to the tools, and loops.py ends them at
+# and of their cases. Their manual pages are those that packaging/man_pages.py writes. page.py looks at the
+# pages that mcaudit-page makes, and rates.py at the words of a rate. What it needs that is not there is named,
+# and is a failure; but promtool reads the files for Prometheus, and systemd-analyze the units, only where they
+# are. hostile.py tries what hosts, routers and names may do to the tools, and loops.py ends them at
 # random moments, fills their disks and forges answers, and prints its seed; flake8, pylint and mypy read their
 # Python, as that of 3.9.
 # Usage: run.sh [CASE ...], as collect/unreachable
@@ -472,10 +473,11 @@ if [ -z "$wanted_cases" ]; then
     run_apart packages sh want_package
     run_apart shellcheck shellcheck check_shell
     run_apart pages dot "$python" "$here/page.py"
+    run_apart rates python3 "$python" "$here/rates.py"
     run_apart hostile dot "$python" "$here/hostile.py"
     run_apart loops dot "$python" "$here/loops.py"
-    run_apart flake8 flake8 flake8 --max-line-length 132 "$tools" "$tools"/mcaudit-* "$here"/hostile.py "$here"/loops.py \
-        "$here"/packets.py "$here"/commands
+    run_apart flake8 flake8 flake8 --max-line-length 120 "$tools" "$tools"/mcaudit-* "$here"/hostile.py "$here"/loops.py \
+        "$here"/packets.py "$here"/rates.py "$here"/commands
     run_apart pylint pylint check_python
     run_apart mypy mypy mypy --python-version 3.9 --cache-dir "$scratch/mypy" "$tools/mcaudit_tools"
     run_apart script node node --check "$tools/mcaudit_tools/page/page.js"

@@ -5,12 +5,15 @@ import time
 
 from mcaudit_tools import origins
 
+LATER = -1  # stands for a time too far ahead, which can't be believed: it is older than all others
+
 
 class Ages:
     """The times of a set's tables and lists, by where its files come from."""
 
     def __init__(self, folder, known, routers=None, lans=None):
-        """Takes the set's folder, what is told of its files, and the names of what is judged; all, where that isn't known."""
+        """Takes the set's folder, what is told of its files, and the names of what is judged; all, where that isn't
+        known."""
         self.folder, self.known, self.routers, self.lans = folder, known, routers, lans
 
     def origins_of(self, prefixes, names):
@@ -23,12 +26,13 @@ class Ages:
                     yield name, origins.current(entry.path, self.known.get(entry.name), is_copied)
 
     def times(self, prefixes, names):
-        """Returns for each name when the oldest of its files was written, in Unix seconds, by name. What an operator decided
-        has no age."""
-        found = {}
+        """Returns for each name when the oldest of its files was written, in Unix seconds, by name; LATER, where one of
+        them has a time too far ahead. What an operator decided has no age."""
+        found, last = {}, time.time() + origins.AHEAD
         for name, origin in self.origins_of(prefixes, names):
             if origin.by != origins.STATIC:
-                found[name] = min(origin.time, found.get(name, origin.time))
+                when = origin.time if origin.time <= last else LATER
+                found[name] = min(when, found.get(name, when))
         return dict(sorted(found.items()))
 
     def tables(self):
@@ -47,7 +51,9 @@ class Ages:
         """Returns how old the oldest of the tables and of the lists are, and which lists were decided."""
         now, found = time.time(), []
         for what, times in (("tables", self.tables()), ("reports", self.reports())):
-            if times:
+            if LATER in times.values():
+                found.append(f"{what} of a later time than now")
+            elif times:
                 found.append(f"{what} {age_of(min(times.values()), now)} s old")
         decided = self.decided()
         return found + ([f"decided, not gathered: {' '.join(decided)}"] if decided else [])

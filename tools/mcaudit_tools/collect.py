@@ -3,9 +3,9 @@
 vif-NAME holds a router's /proc/net/ip_mr_vif, cache-NAME its /proc/net/ip_mr_cache. A router needs nothing but a shell
 and cat.
 
-A read of ip_mr_cache gives about 4 KB at a time. Where rows are deleted between two such reads, a row that stays all the
-while can slip through. So each router is read until two readings one after the other are equal, counters aside. Some
-routers are read side by side: the sooner all are read, the less their tables can change in between.
+A read of ip_mr_cache gives about 4 KB at a time. Where rows are deleted between two such reads, a row that stays all
+the while can slip through. So each router is read until two readings one after the other are equal, counters aside.
+Some routers are read side by side: the sooner all are read, the less their tables can change in between.
 """
 import concurrent.futures
 import dataclasses
@@ -47,8 +47,8 @@ Examples:
   mcaudit-collect --routers routers --timeout 20 site
   mcaudit-collect --ssh 'ssh -p 2222' site r1=10.9.0.1
   mcaudit-collect site here= 'r1=!ip netns exec r1' 'r2=!docker exec -i frr2'"""
-FILES = {"ip_mr_vif": "vif", "ip_mr_cache": "cache", "route": "route", "address": "address"}  # the tables that a set has
-
+FILES = {  # the tables that a set has
+    "ip_mr_vif": "vif", "ip_mr_cache": "cache", "route": "route", "address": "address"}
 
 PRINTING = threading.Lock()
 
@@ -73,21 +73,23 @@ def read_arguments():
                     usage="mcaudit-collect [option ...] SITE [NAME=WAY ...]\n"
                           "       mcaudit-collect [option ...] --shell NAME [NAME=WAY ...]")
     parser.add_argument("words", nargs="*", metavar="SITE [NAME=WAY ...]", help="the folder, and the routers")
-    parser.add_argument("--routers", metavar="FILE", help="take the routers of FILE too: NAME=WAY, a line each; empty lines "
-                        "and those that begin with # are left aside")
-    parser.add_argument("--adopt", action="store_true", help="if SITE is a plain folder, make it the first set; without "
-                        "routers do just that")
+    parser.add_argument("--routers", metavar="FILE", help="take the routers of FILE too: NAME=WAY, a line each; empty "
+                        "lines and those that begin with # are left aside")
+    parser.add_argument("--adopt", action="store_true", help="if SITE is a plain folder, make it the first set; "
+                        "without routers do just that")
     parser.add_argument("--readings", metavar="N", default="5", help="read a router at most N times, 2 to 100 (5)")
-    parser.add_argument("--pause", metavar="SECONDS", default="1", help="wait so long between two readings of a router (1)")
-    parser.add_argument("--timeout", metavar="SECONDS", default="60", help="give a router up when a reading takes longer (60)")
+    parser.add_argument("--pause", metavar="SECONDS", default="1", help="wait so long between two readings of a router "
+                        "(1)")
+    parser.add_argument("--timeout", metavar="SECONDS", default="60", help="give a router up when a reading takes "
+                        "longer (60)")
     parser.add_argument("--at-once", metavar="N", default="8", help="read at most N routers side by side, 1 to 100 (8)")
     parser.add_argument("--ssh", metavar="COMMAND", default=ways.SSH,
                         help=f"reach a HOST by `COMMAND HOST sh` ({ways.SSH})")
-    parser.add_argument("--facts", action="store_true", help="bring the router's addresses and routes too, as address-NAME and "
-                        "route-NAME: what `ip -j address` says, or where it can't, `ip -o -4 address`, and /proc/net/route. "
-                        "mcaudit-draft reads them; what a router has not is empty")
-    parser.add_argument("--shell", metavar="NAME", help="collect nothing: run a shell on the router NAME by its way, with this "
-                        "standard input and output")
+    parser.add_argument("--facts", action="store_true", help="bring the router's addresses and routes too, as "
+                        "address-NAME and route-NAME: what `ip -j address` says, or where it can't, `ip -o -4 "
+                        "address`, and /proc/net/route. mcaudit-draft reads them; what a router has not is empty")
+    parser.add_argument("--shell", metavar="NAME", help="collect nothing: run a shell on the router NAME by its way, "
+                        "with this standard input and output")
     parser.add_version()
     found = parser.parse_intermixed_args()
     found.readings = number(parser, found.readings, 2, 100, "--readings takes 2 to 100")
@@ -127,7 +129,8 @@ def shell_on_router(parser_words):
     for router in parser_words.all:
         if router.name == parser_words.shell:
             ways.become_shell(router, parser_words.ssh)
-    print(f"{PROGRAM.name}: {clean(parser_words.shell)} is none of the routers\nTry: {PROGRAM.name} --help", file=sys.stderr)
+    print(f"{PROGRAM.name}: {clean(parser_words.shell)} is none of the routers\nTry: {PROGRAM.name} --help",
+          file=sys.stderr)
     return 5
 
 
@@ -277,13 +280,14 @@ def new_files(words, found):
 
 
 def is_replaced(words, name):
-    """Whether a file of the last set isn't carried into the new one: the tables of a router that was not collected are not."""
+    """Whether a file of the last set isn't carried into the new one: the tables of a router that was not collected are
+    not."""
     return name.startswith(("vif-", "cache-")) or words.facts and name.startswith(("address-", "route-"))
 
 
 def unlisted_of(words, folder):
-    """Returns the routers whose tables the set has and its topology doesn't list: a yes would be said as if they weren't
-    there. Tells where that can't be seen."""
+    """Returns the routers whose tables the set has and its topology doesn't list: a yes would be said as if they
+    weren't there. Tells where that can't be seen."""
     if not os.path.lexists(os.path.join(folder, "topology")):
         return []
     try:

@@ -1,6 +1,7 @@
 """Files: only regular ones are read, in bounds, and a file is written beside its place and then renamed."""
 import contextlib
 import errno
+import json
 import os
 import stat
 import tempfile
@@ -42,6 +43,12 @@ def read_regular(path, most, named=None):
     if len(data) > most:
         raise Failed(f"{named or path} can't be read: it has more than {most} bytes")
     return data
+
+
+def read_json(path, most):
+    """Returns the value of a regular file of JSON, which has at most so many bytes. Where its text is no JSON, that is
+    a ValueError, or a RecursionError."""
+    return json.loads(read_regular(path, most))
 
 
 def sync_folder(path):

@@ -1,5 +1,5 @@
-"""What was written into a set after the next one was made of it, by whoever had its path before: an editor, or a copy that
-took long. A set keeps in `.carried` of which set it was made, and how each file was in both then.
+"""What was written into a set after the next one was made of it, by whoever had its path before: an editor, or a copy
+that took long. A set keeps in `.carried` of which set it was made, and how each file was in both then.
 """
 import contextlib
 import filecmp
@@ -8,14 +8,15 @@ import os
 import stat
 
 from mcaudit_tools.common import Failed
-from mcaudit_tools.files import read_regular
+from mcaudit_tools.files import read_json
 
 FILE = ".carried"
 MOST_BYTES = 16 << 20
 
 
 def state_of(path):
-    """Returns what another writing changes of a file or a link, and of all that a folder has; None where nothing is there."""
+    """Returns what another writing changes of a file or a link, and of all that a folder has; None where nothing is
+    there."""
     try:
         found = os.lstat(path)
         if stat.S_ISDIR(found.st_mode):
@@ -44,7 +45,7 @@ class Late:
         self.folder, self.earlier = folder, None
         self.written, self.both = [], []  # names: of what is to be carried, and of what changed in both sets
         with contextlib.suppress(Failed, ValueError, KeyError, TypeError, AttributeError, RecursionError):
-            found = json.loads(read_regular(os.path.join(folder, FILE), MOST_BYTES))
+            found = read_json(os.path.join(folder, FILE), MOST_BYTES)
             name, files = found["from"], {it: (before, after) for it, (before, after) in found["files"].items()}
             if found["version"] == 1 and os.path.basename(name) == name:
                 self.look(os.path.join(os.path.dirname(folder), name), files, is_left_out)
@@ -67,9 +68,10 @@ class Late:
         if self.earlier is None:
             return []
         old, new = os.path.basename(self.earlier), os.path.basename(self.folder)
-        return [*(f"{named}/{it} is what was written into {old} after {new} had been made of it" for it in self.written),
-                *(f"{named}/{it} was written in {new} and also in {old}, after {new} had been made of it: what {old} has is "
-                  "not in the new set" for it in self.both)]
+        return [*(f"{named}/{it} is what was written into {old} after {new} had been made of it"
+                  for it in self.written),
+                *(f"{named}/{it} was written in {new} and also in {old}, after {new} had been made of it: what {old} "
+                  "has is not in the new set" for it in self.both)]
 
 
 def is_same(one, two):

@@ -17,10 +17,10 @@ import sys
 import time
 
 from mcaudit_tools import audit as audits
-from mcaudit_tools import origins, sets
-from mcaudit_tools.ages import Ages, age_of
+from mcaudit_tools import locks, origins, sets
+from mcaudit_tools.ages import LATER, Ages, age_of
 from mcaudit_tools.common import CUT, Failed, Parser, Refused, clean, cut, find_tool
-from mcaudit_tools.files import read_regular, reason_of, write_beside
+from mcaudit_tools.files import read_json, reason_of, write_beside
 from mcaudit_tools.programs import RUNNING, run
 
 MOST_SHOWN = 20  # flows that are wrong
@@ -44,8 +44,8 @@ Of what changed, faults that came or went are printed first, and then paths that
 
 Only one run at a time works on SITE: another one ends at once, and writes nothing. Where a router was not read
 nothing is judged. Each set keeps its audit as audit.json, and SITE.monitor.json says which one was judged last."""
-MORE = """Statuses: 0 verdict yes, 1 verdict no, 2 mcaudit refuses the folder, 3 a router was not read, another run is at
-work, or something failed, 4 no memory, 5 wrong words.
+MORE = """Statuses: 0 verdict yes, 1 verdict no, 2 mcaudit refuses the folder, 3 a router was not read, another run is
+at work, or something failed, 4 no memory, 5 wrong words.
 With --plugin: 0 verdict yes; 1 yes, but a flow is wanted by nobody, or files are older than told; 2 verdict no; 3
 all else.
 
@@ -127,8 +127,8 @@ class Run:
         if self.words.no_collect:
             yield
             return
-        with sets.lock_file(f"{self.site}.lock") as opened:
-            if not sets.try_lock(opened):
+        with locks.lock_file(f"{self.site}.lock") as opened:
+            if not locks.try_lock(opened):
                 raise Busy(f"another run is at work on {self.site}")
             self.is_locked = True
             yield
@@ -136,7 +136,7 @@ class Run:
     def read_state(self):
         """Reads what is known from last time, if that is there."""
         try:
-            state = json.loads(read_regular(f"{self.site}.monitor.json", MOST_STATE))
+            state = read_json(f"{self.site}.monitor.json", MOST_STATE)
             times = [state["last_success"], state["last_change"], state.get("last_fault_change")]
             names = [state["judged"], *state["sets"]]
             if not all(it is None or isinstance(it, int) for it in times):
@@ -183,8 +183,8 @@ class Run:
         self.check_routers()
 
     def check_routers(self):
-        """Fails where routers were collected that the topology doesn't list: a yes would be said as if they weren't there.
-        mcaudit-collect sees that by itself only where its Python reads TOML."""
+        """Fails where routers were collected that the topology doesn't list: a yes would be said as if they weren't
+        there. mcaudit-collect sees that by itself only where its Python reads TOML."""
         if self.words.no_collect or not self.judged.is_right:
             return
         read = sorted(it.removeprefix("vif-") for it in os.listdir(self.folder) if it.startswith("vif-"))
@@ -206,7 +206,8 @@ class Run:
         path = f"{self.site}.sets/{last}/audit.json"
         if not last or not os.path.exists(path):
             return
-        status, output, said = self.command([find_tool("mcaudit-diff"), path, "/dev/stdin"], MOST_TEXT, self.text, AUDITING)
+        status, output, said = self.command([find_tool("mcaudit-diff"), path, "/dev/stdin"], MOST_TEXT, self.text,
+                                            AUDITING)
         if status == 2:
             self.say(said or f"mcaudit-diff refuses the audit of {last}")
             self.is_comparing = False
@@ -252,9 +253,9 @@ class Run:
     # What stays of a run
 
     def trim(self):
-        """Removes the sets that came before the last ones, but never the newest ones, a young one, that which the site leads
-        to, or which was judged last. The order is that in which runs met them, and not that of their names: a clock can go
-        back."""
+        """Removes the sets that came before the last ones, but never the newest ones, a young one, that which the site
+        leads to, or which was judged last. The order is that in which runs met them, and not that of their names: a
+        clock can go back."""
         if not self.is_locked:
             return
         folder = f"{self.site}.sets"
@@ -306,7 +307,8 @@ class Run:
     def ages(self):
         """Returns how old the files of the set are."""
         judged = self.judged
-        return Ages(self.folder or os.path.realpath(self.site), self.origins, judged and judged.routers, judged and judged.lans)
+        return Ages(self.folder or os.path.realpath(self.site), self.origins, judged and judged.routers,
+                    judged and judged.lans)
 
     # For Prometheus
 
@@ -320,7 +322,8 @@ class Run:
                 self.state.get("last_success")),
                ("last_change_timestamp_seconds", "When something had changed since the run before.",
                 self.state.get("last_change")),
-               ("last_fault_change_timestamp_seconds", "When a fault had come, gone or become another since the run before.",
+               ("last_fault_change_timestamp_seconds",
+                "When a fault had come, gone or become another since the run before.",
                 self.state.get("last_fault_change")),
                ("verdict", "Whether every listed flow is right.", judged and int(judged.is_right)),
                ("flows_right", "Listed flows that are right.", counts and counts["right"]),
@@ -336,6 +339,7 @@ class Run:
         ages, now, found = self.ages(), time.time(), []
         for of, name, label, times in (("tables were read", "table", "router", ages.tables()),
                                        ("reports were gathered", "reports", "lan", ages.reports())):
+            times = {it: max(0, when) for it, when in times.items()}
             found.append((f"{name}_read_timestamp_seconds", f"When the {NAMED[label]}'s {of}.",
                           [({label: it}, when) for it, when in times.items()]))
             found.append((f"{name}_age_seconds", f"How long before the end of the last run the {NAMED[label]}'s {of}.",
@@ -369,15 +373,15 @@ class Run:
                                   ("reports of", self.words.warn_reports, self.ages().reports)):
             now = time.time()
             for name, written in times().items() if most else ():
-                age = int(now - written)
-                if age > most:
-                    found.append(f"{what} {name} are {age} s old")
-                elif age < -origins.AHEAD:
+                if written == LATER:
                     found.append(f"{what} {name} are of a later time than now")
+                elif age_of(written, now) > most:
+                    found.append(f"{what} {name} are {age_of(written, now)} s old")
         return found
 
     def changes_text(self):
-        """Returns how many changes there are, and the first of them, among which faults that came or went are the first."""
+        """Returns how many changes there are, and the first of them, among which faults that came or went are the
+        first."""
         text = ""
         for change in self.changes:
             if len(text) + len(change) > MOST_LETTERS // 2:

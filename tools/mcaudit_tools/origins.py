@@ -11,7 +11,7 @@ import re
 import time
 
 from mcaudit_tools.common import Failed
-from mcaudit_tools.files import read_regular
+from mcaudit_tools.files import read_json
 
 FILE = "collected.json"
 MOST_BYTES = 16 << 20
@@ -33,7 +33,8 @@ class Origin:
 
     def as_json(self):
         """Returns it as collected.json has it."""
-        return {"by": self.by, "of": self.of, "time": self.time, **({"unchecked": self.unchecked} if self.unchecked else {})}
+        unchecked = {"unchecked": self.unchecked} if self.unchecked else {}
+        return {"by": self.by, "of": self.of, "time": self.time, **unchecked}
 
 
 class Unknown(Failed):
@@ -73,10 +74,10 @@ def old_origin(name, text):
     return Origin(OPERATOR, None, seconds_of(text))
 
 
-def parse(data):
-    """Reads the text of a collected.json."""
+def parse(path):
+    """Reads a collected.json."""
     try:
-        found = json.loads(data)
+        found = read_json(path, MOST_BYTES)
         if found["version"] not in (1, 2) or isinstance(found["version"], bool):
             raise Unknown("it is of a version that is not known")
         if found["version"] == 1:
@@ -87,10 +88,11 @@ def parse(data):
 
 
 def read(folder, named=None):
-    """Returns what a folder's collected.json says of its files: nothing, where there is none. The folder has this name."""
+    """Returns what a folder's collected.json says of its files: nothing, where there is none. The folder has this
+    name."""
     path = os.path.join(folder, FILE)
     try:
-        return parse(read_regular(path, MOST_BYTES)) if os.path.lexists(path) else {}
+        return parse(path) if os.path.lexists(path) else {}
     except Unknown as fault:
         raise Unknown(f"{os.path.join(named or folder, FILE)}: {fault}") from fault
 
@@ -101,16 +103,16 @@ def by_hand(path):
 
 
 def is_copy(folder, known):
-    """Whether the folder is a copy whose files have the times of copying: all that are told of are newer than told. A copy
-    is as old as what it copies."""
+    """Whether the folder is a copy whose files have the times of copying: all that are told of are newer than told. A
+    copy is as old as what it copies."""
     written = {name: os.stat(path).st_mtime for name, path in ((it, os.path.join(folder, it)) for it in known)
                if os.path.isfile(path)}
     return bool(written) and all(when > known[name].time + CHANGED for name, when in written.items())
 
 
 def current(path, origin, is_copied):
-    """Returns the origin of the file as it is now: where it is newer than told, somebody changed it by hand, unless the whole
-    folder is a copy."""
+    """Returns the origin of the file as it is now: where it is newer than told, somebody changed it by hand, unless the
+    whole folder is a copy."""
     if origin is None or (os.stat(path).st_mtime > origin.time + CHANGED and not is_copied):
         return by_hand(path)
     return origin

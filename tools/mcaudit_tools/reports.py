@@ -1,7 +1,7 @@
 """mcaudit-reports: writes what the hosts of one LAN answered to a General Query, in the form that mcaudit reads.
 
-That is the IGMP message of each report in hexadecimal, one a line (igmp-LAN). They are taken from a capture of tcpdump: of
-an interface, here or on a router, of a file, or of a recorded text.
+That is the IGMP message of each report in hexadecimal, one a line (igmp-LAN). They are taken from a capture of tcpdump:
+of an interface, here or on a router, of a file, or of a recorded text.
 
 An empty list says that nobody wants anything, and a list that lacks a report says so of some: so nothing is given out
 before all of it was written, and an empty one only where it was asked for.
@@ -71,35 +71,39 @@ USAGE = """mcaudit-reports [option ...] [--by WAY] INTERFACE
        mcaudit-reports [option ...] --static GROUP[,SOURCE] ...
        mcaudit-reports [option ...] --all SITE [NAME=WAY ...]"""
 OPTIONS = [
-    ("--by", "WAY", "the interface is that of a router: HOST, USER@HOST or !COMMAND, as `mcaudit-collect --help` says; root "
-     "is needed there"),
+    ("--by", "WAY", "the interface is that of a router: HOST, USER@HOST or !COMMAND, as `mcaudit-collect --help` says; "
+     "root is needed there"),
     ("--capture", "FILE", "read a capture file, pcap or pcapng"),
-    ("--text", None, "read a text on standard input, recorded with `tcpdump -n -tt -e -x`; a last line with the time alone "
-     "(`date +%%s`) says when the recording ended"),
-    ("--static", "GROUP[,SOURCE]", "put into the list what a host wants that can't be asked: all that is sent to GROUP, "
-     "or what SOURCE sends to it. Without an interface, FILE or text the list has such hosts alone, and nobody is asked"),
-    ("--all", "SITE", "gather the lists of all LANs of SITE/topology at once, as SITE/igmp-LAN: each on a router of the LAN, "
-     "or where that fails on its next one. The routers are given by NAME=WAY, as for mcaudit-collect. For --static say "
-     "LAN:GROUP[,SOURCE]. All lists come into SITE as one new set"),
-    ("-o", "FILE", "put the list into FILE, when it is whole and on the disk; with any other status than 0 FILE stays as "
-     "it is"),
-    ("--empty", None, "write the list though no host answered, or only for groups that routers never forward (224.0.0.x): "
-     "nobody on the LAN wants anything. With --all of every LAN, also of one whose hosts just weren't heard: name the LANs "
-     "by --empty-lan"),
+    ("--text", None, "read a text on standard input, recorded with `tcpdump -n -tt -e -x`; a last line with the time "
+     "alone (`date +%%s`) says when the recording ended"),
+    ("--static", "GROUP[,SOURCE]", "put into the list what a host wants that can't be asked: all that is sent to "
+     "GROUP, or what SOURCE sends to it. Without an interface, FILE or text the list has such hosts alone, and nobody "
+     "is asked"),
+    ("--all", "SITE", "gather the lists of all LANs of SITE/topology at once, as SITE/igmp-LAN: each on a router of "
+     "the LAN, or where that fails on its next one. The routers are given by NAME=WAY, as for mcaudit-collect. For "
+     "--static say LAN:GROUP[,SOURCE]. All lists come into SITE as one new set"),
+    ("-o", "FILE", "put the list into FILE, when it is whole and on the disk; with any other status than 0 FILE stays "
+     "as it is"),
+    ("--empty", None, "write the list though no host answered, or only for groups that routers never forward "
+     "(224.0.0.x): nobody on the LAN wants anything. With --all of every LAN, also of one whose hosts just weren't "
+     "heard: name the LANs by --empty-lan"),
     ("--empty-lan", "LAN", "with --all, the same for this LAN alone; may be given again for another one"),
     ("--ask", None, "where no query comes, ask: after --wait send two General Queries, of the interface's own address. "
-     "Routers may take it for the querier for 255 seconds, and a switch that snoops may keep streams from the LAN's other "
-     "routers meanwhile. With --all no LAN is asked that two routers of the topology lie on"),
+     "Routers may take it for the querier for 255 seconds, and a switch that snoops may keep streams from the LAN's "
+     "other routers meanwhile. With --all no LAN is asked that two routers of the topology lie on"),
     ("--ask-routers", None, "with --all, ask on those LANs too"),
-    ("--tries", "N", "gather again where a host joined or left meanwhile, or a report was lost, 1 to 99 times in all (1)"),
-    ("--queries", "N", "gather the answers to so many queries of the same querier, one after the other, 1 to 3 (1): the list "
-     "is the last one's, and what an earlier one had beyond it is named"),
-    ("--wait", "SECONDS", "wait so long for a General Query, at most 9999 (260: after 255 seconds without one, by RFC 3376, "
-     "another router of the LAN would have taken over)"),
+    ("--tries", "N", "gather again where a host joined or left meanwhile, or a report was lost, 1 to 99 times in all "
+     "(1)"),
+    ("--queries", "N", "gather the answers to so many queries of the same querier, one after the other, 1 to 3 (1): "
+     "the list is the last one's, and what an earlier one had beyond it is named"),
+    ("--wait", "SECONDS", "wait so long for a General Query, at most 9999 (260: after 255 seconds without one, by RFC "
+     "3376, another router of the LAN would have taken over)"),
     ("--slack", "SECONDS", "take answers that are so late, at most 99 (1)"),
-    ("--network", "PREFIX", "the LAN's network, as 10.0.1.0/24, whose addresses a query may come from; may be given again"),
+    ("--network", "PREFIX", "the LAN's network, as 10.0.1.0/24, whose addresses a query may come from; may be given "
+     "again"),
     ("--querier", "ADDRESS", "a query of this address counts too; may be given again"),
-    ("--interface", "NUMBER", "with --capture, the interface of a file that has several: its index, or its number in the file"),
+    ("--interface", "NUMBER", "with --capture, the interface of a file that has several: its index, or its number in "
+     "the file"),
     ("--routers", "FILE", "take the routers of FILE too: NAME=WAY, a line each"),
     ("--ssh", "COMMAND", "reach a HOST by `COMMAND HOST sh`")]
 REPEATED = "--static", "--empty-lan", "--routers", "--network", "--querier"
@@ -190,7 +194,8 @@ def take_statics(parser, found):
             parser.error("--static takes GROUP[,SOURCE]")
         report = static_report(rest if is_lan else word)
         if report is None:
-            parser.error(f"--static {word}: a group lies in 224.0.1.0 to 239.255.255.255, and a source is a host's address")
+            parser.error(f"--static {word}: a group lies in 224.0.1.0 to 239.255.255.255, and a source is a host's "
+                         "address")
         found.statics.setdefault(lan if is_lan else None, []).append(report)
 
 
@@ -237,8 +242,8 @@ def text_list(task):
         gathering.take(frame)
     found = task.list_of(gathering)
     if reader.lacks_links and found.status in (WRITTEN, REFUSED):
-        task.say("the text has no link headers (tcpdump -e): it doesn't show that the query was sent to all hosts, or that "
-                 "nothing is of another VLAN")
+        task.say("the text has no link headers (tcpdump -e): it doesn't show that the query was sent to all hosts, or "
+                 "that nothing is of another VLAN")
     return marked(task, found, ["link"] if reader.lacks_links else [])
 
 

@@ -3,11 +3,10 @@
 What is there at one time is a set, a folder SITE.sets/TIME. SITE is a symbolic link to one, and a rename of a new link
 over it is all that ever changes it: it leads to the old set or to the new one, whole. Whoever makes a set copies what
 the last one has and swaps the link under the lock SITE.write.lock, and so does whoever writes a file into SITE: what is
-written comes into the set before it is copied, or into the new one. What others write into a set that was copied already
-comes into the one after the new one (late.py).
+written comes into the set before it is copied, or into the new one. What others write into a set that was copied
+already comes into the one after the new one (late.py).
 """
 import contextlib
-import fcntl
 import os
 import re
 import shutil
@@ -15,12 +14,11 @@ import stat
 import tempfile
 import time
 
-from mcaudit_tools import late, origins
+from mcaudit_tools import late, locks, origins
 from mcaudit_tools.common import Failed, say
 from mcaudit_tools.files import reason_of, sync_files, sync_folder, write_beside
 from mcaudit_tools.programs import RUNNING
 
-PATIENCE = 10  # seconds that a lock is waited for
 SCRATCH = ".reading."  # what the folders are called in which sets are made
 OLD_SCRATCH = re.compile(r"\.reading\.[0-9]+")  # of 0.2.0, which locked none
 STALE = 3600  # seconds after which one of those is nobody's
@@ -49,16 +47,9 @@ class Site:
 
     # The lock
 
-    @contextlib.contextmanager
     def writing(self):
-        """Holds the lock of whoever writes into the site, which is waited for some seconds."""
-        with lock_file(f"{self.path}.write.lock") as opened:
-            until = time.monotonic() + PATIENCE
-            while not try_lock(opened):
-                if time.monotonic() >= until:
-                    raise Failed(f"{self.path}.write.lock is held by another run for {PATIENCE} s")
-                time.sleep(0.05)
-            yield
+        """Returns what holds the lock of whoever writes into the site, which is waited for some seconds."""
+        return locks.hold(f"{self.path}.write.lock")
 
     # What there is
 
@@ -94,8 +85,7 @@ class Site:
             with self.writing():
                 self.clear_stale()
                 made = tempfile.mkdtemp(prefix=SCRATCH, dir=self.sets)
-                opened = os.open(made, os.O_RDONLY | os.O_DIRECTORY | os.O_CLOEXEC)
-                fcntl.flock(opened, fcntl.LOCK_EX)
+                opened = locks.lock_folder(made)
         except OSError as fault:
             raise self.unwritable(fault) from fault
         try:
@@ -116,7 +106,7 @@ class Site:
                 continue
             opened = os.open(entry.path, os.O_RDONLY | os.O_DIRECTORY | os.O_CLOEXEC)
             try:
-                if try_lock(opened):
+                if locks.try_lock(opened):
                     shutil.rmtree(entry.path, ignore_errors=True)
             finally:
                 os.close(opened)
@@ -192,8 +182,8 @@ class Site:
             shutil.rmtree(made, ignore_errors=True)
 
     def publish(self, new, is_replaced, scratch, announce):
-        """Makes a set of the new files, {name: (path, origin)}, and of those of the last set that aren't replaced, and has
-        the site lead to it. Announces the set's path before that. Returns that path."""
+        """Makes a set of the new files, {name: (path, origin)}, and of those of the last set that aren't replaced, and
+        has the site lead to it. Announces the set's path before that. Returns that path."""
         made = os.path.join(scratch, "set")
         with self.writing():
             self.check(False)
@@ -231,8 +221,8 @@ class Site:
             raise
 
     def carry(self, last, made, is_replaced):
-        """Copies the other files of the last set into the one that is made, and what was written late into the set before
-        it. Returns where they come from, and what a person is to know of it."""
+        """Copies the other files of the last set into the one that is made, and what was written late into the set
+        before it. Returns where they come from, and what a person is to know of it."""
         if last is None:
             return {}, []
         found = late.Late(last, lambda name: is_left_out(name) or is_replaced(name))
@@ -248,7 +238,8 @@ class Site:
         return told, found.sentences(self.path)
 
     def carry_files(self, folder, names, made, named):
-        """Copies these files of a set into the one that is made. The set is told by a name. Returns where they come from."""
+        """Copies these files of a set into the one that is made. The set is told by a name. Returns where they come
+        from."""
         known, told = {}, {}
         with contextlib.suppress(origins.Unknown):
             known = origins.read(folder)
@@ -290,8 +281,8 @@ def copy(path, target, named):
 
 
 def moved_links(folder, place):
-    """Returns the old and the new target of each relative link in the folder, which is to lead from another place to where
-    it leads."""
+    """Returns the old and the new target of each relative link in the folder, which is to lead from another place to
+    where it leads."""
     found = {}
     at = os.path.join(os.path.realpath(os.path.dirname(place)), os.path.basename(place))
     for entry in os.scandir(folder):
@@ -308,31 +299,6 @@ def replace_link(path, target):
     """Makes the link lead to another target."""
     os.unlink(path)
     os.symlink(target, path)
-
-
-@contextlib.contextmanager
-def lock_file(path):
-    """Gives the descriptor of a lock's file, which is made where it isn't there."""
-    try:
-        try:
-            opened = os.open(path, os.O_RDWR | os.O_CREAT | os.O_NOFOLLOW | os.O_CLOEXEC | os.O_NONBLOCK, 0o644)
-        except PermissionError:
-            opened = os.open(path, os.O_RDONLY | os.O_NOFOLLOW | os.O_CLOEXEC | os.O_NONBLOCK)
-    except OSError as fault:
-        raise Failed(f"{path} can't be locked: {reason_of(fault)}") from fault
-    try:
-        yield opened
-    finally:
-        os.close(opened)
-
-
-def try_lock(opened):
-    """Takes the lock of an open file or folder for this program alone. Returns whether it could."""
-    try:
-        fcntl.flock(opened, fcntl.LOCK_EX | fcntl.LOCK_NB)
-    except BlockingIOError:
-        return False
-    return True
 
 
 def site_of(folder):

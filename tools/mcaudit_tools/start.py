@@ -9,7 +9,8 @@ import signal
 import sys
 
 if signal.getsignal(signal.SIGINT) is signal.default_int_handler:
-    signal.signal(signal.SIGINT, signal.SIG_DFL)  # until it is heeded it ends the tool as the others do, without a trace
+    # until it is heeded it ends the tool as the others do, without a trace
+    signal.signal(signal.SIGINT, signal.SIG_DFL)
 
 LEAST = (3, 9)
 FAILED = 3

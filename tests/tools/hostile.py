@@ -819,8 +819,8 @@ def packets_that_a_draft_measures(place):
     digits."""
     def lives_of(text):
         """Returns the times to live that are read, as text, or why none is."""
-        code = ("import sys\nfrom mcaudit_tools import common, draft\n"
-                "try:\n    lives = draft.times_to_live(sys.stdin.buffer.read())\n"
+        code = ("import sys\nfrom mcaudit_tools import common\nfrom mcaudit_tools.draft import measure\n"
+                "try:\n    lives = measure.times_to_live(sys.stdin.buffer.read())\n"
                 "except common.Failed as fault:\n    sys.exit(print(fault))\n"
                 "print(sorted((*map(str, key), *sorted(it)) for key, it in lives.items()))")
         done = subprocess.run([sys.executable, "-c", code], input=text, cwd=TOOLS, env=place.environment,

@@ -713,6 +713,22 @@ def times_that_are_none(place):
 
 
 @case
+def copy_with_one_time_ahead(place):
+    """A copy of a set is as old as what it copies, also where one file of it is told of a later time than now."""
+    shutil.copytree(NETWORK, place.at("site"))
+    now = int(time.time())
+    files = {name: {"by": "collect", "of": name.partition("-")[2], "time": now - 5000}
+             for name in os.listdir(place.at("site")) if name.startswith(("vif-", "cache-"))}
+    files["igmp-l1"] = {"by": "capture", "of": "r1", "time": now + 600}
+    place.write("site/collected.json", json.dumps({"version": 2, "files": files}))
+    for name in os.listdir(place.at("site")):
+        os.utime(place.at("site", name), (now, now))
+    assert place.run("monitor", "--plugin", "--no-collect", "site") == 1, place.said
+    assert re.search("tables 50[0-9][0-9] s old", place.said), place.said
+    assert "reports of l1 are of a later time than now" in place.said, place.said
+
+
+@case
 def metrics_of_times_that_are_none(place):
     """A list of a later time has the time 0 and the greatest age, so that whoever watches either is warned."""
     ways = place.routers("r1", "r2")

@@ -103,10 +103,11 @@ def by_hand(path):
 
 
 def is_copy(folder, known):
-    """Whether the folder is a copy whose files have the times of copying: all that are told of are newer than told. A
-    copy is as old as what it copies."""
+    """Whether the folder is a copy whose files have the times of copying: all that are told of are newer than told, but
+    for those that are told of a time too far ahead. A copy is as old as what it copies."""
+    last = time.time() + AHEAD
     written = {name: os.stat(path).st_mtime for name, path in ((it, os.path.join(folder, it)) for it in known)
-               if os.path.isfile(path)}
+               if known[name].time <= last and os.path.isfile(path)}
     return bool(written) and all(when > known[name].time + CHANGED for name, when in written.items())
 
 

@@ -27,5 +27,5 @@ pub use map_files::MapFiles;
 pub use packing::pack;
 pub use piece_source::PieceSource;
 pub use slot::{Slot, slot_at, slot_count};
-pub use source::{FileSource, may_be_asked};
+pub use source::FileSource;
 pub use unread::Unread;

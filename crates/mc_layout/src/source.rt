@@ -1,6 +1,6 @@
 //! Where files come from: a source, which may fail, and counts how often it did.
 
-ghost use Rattle.std.specs.Prelude.{◌≡◌, ◌<◌, ◌≤◌, ◌∷◌, ℕ, List, [], Option, IfOk, IfSome, true, vec_len};
+ghost use Rattle.std.specs.Prelude.{◌≡◌, ◌<◌, ◌≤◌, ◌∷◌, ℕ, List, [], Option, IfOk, IfSome, vec_len};
 ghost use Rattle.std.specs.Borrow.{GName};
 ghost use Rattle.mc_text.specs.Device.{counted};
 ghost use Rattle.mc_layout.specs.Files.{FileText, file_named, is_failure, IsRead};
@@ -42,13 +42,6 @@ pub trait FileSource {
     /// How many calls of `read` answered `Failed`.
     fn failures(&self) -> u64
         ensures { result ≡ failed self.now };
-}
-
-/// Whether a source may be asked once more: it still can count that as a failure.
-pub fn may_be_asked<F: FileSource>(files: &F) -> bool
-    ensures { result ≡ true → F.failed files.now < u64.MAX }
-{
-    files.failures() < u64::MAX
 }
 
 impl<F: FileSource> FileSource for &mut F {

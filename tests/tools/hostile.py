@@ -374,19 +374,25 @@ def sites_of_any_name(place):
 
 # Nothing that was written is lost, and one moment is judged
 
+def slow_collect(place, ways, seconds, name):
+    """Begins to make a set, each write of which takes so long. Returns the running tool once the set has this file."""
+    place.write("slow/sitecustomize.py", "import os, time\nfsync = os.fsync\n"
+                f"def slowly(opened):\n    time.sleep({seconds})\n    fsync(opened)\nos.fsync = slowly\n")
+    place.environment["PYTHONPATH"] = place.at("slow")
+    collecting = place.begin("collect", "--pause", "0", "site", *ways)
+    until = time.monotonic() + 20
+    while not glob.glob(place.at(f"site.sets/.reading.*/set/{name}")) and time.monotonic() < until:
+        time.sleep(0.01)
+    return collecting
+
+
 @case
 def list_that_comes_while_a_set_is_made(place):
     """It is in the new set."""
     ways = place.routers("r1", "r2")
     place.site("r2")
     place.write("site/igmp-l2", "")
-    place.write("slow/sitecustomize.py", "import os, time\nfsync = os.fsync\n"
-                "def slowly(opened):\n    time.sleep(.15)\n    fsync(opened)\nos.fsync = slowly\n")
-    place.environment["PYTHONPATH"] = place.at("slow")
-    with place.begin("collect", "--pause", "0", "site", *ways) as collecting:
-        until = time.monotonic() + 20
-        while not glob.glob(place.at("site.sets/.reading.*/set/collected.json")) and time.monotonic() < until:
-            time.sleep(0.02)
+    with slow_collect(place, ways, 0.15, "collected.json") as collecting:
         del place.environment["PYTHONPATH"]
         assert place.run("reports", "-o", "site/igmp-l2", "--static", "239.1.2.3") == 0, place.said
         assert collecting.wait(30) == 0
@@ -445,13 +451,7 @@ def file_written_between_its_copy_and_the_swap(place):
     """It comes into the set after the new one."""
     ways = place.routers("r1", "r2")
     place.site()
-    place.write("slow/sitecustomize.py", "import os, time\nfsync = os.fsync\n"
-                "def slowly(opened):\n    time.sleep(.1)\n    fsync(opened)\nos.fsync = slowly\n")
-    place.environment["PYTHONPATH"] = place.at("slow")
-    with place.begin("collect", "--pause", "0", "site", *ways) as collecting:
-        until = time.monotonic() + 20
-        while not glob.glob(place.at("site.sets/.reading.*/set/.carried")) and time.monotonic() < until:
-            time.sleep(0.01)
+    with slow_collect(place, ways, 0.1, ".carried") as collecting:
         place.write("site.sets/20260101T000000Z/igmp-l2", "late\n")
         assert os.path.realpath(place.at("site")).endswith("20260101T000000Z"), "the swap was before"
         assert collecting.wait(30) == 0

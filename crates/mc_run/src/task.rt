@@ -21,7 +21,8 @@ use std::alloc::Global;
 /// Does a task: its run, with its own arguments, over the input, over the files, which have to be those
 /// of its folder, or over neither, as the task is. It answers what the run answers; of an audit, whether
 /// the answer is enough: it is yes and, where the words want it strict, no flow is wanted by nobody.
-/// `pack`, `help` and `--version` answer yes once all is written.
+/// `pack`, `help` and `--version` answer yes once all is written. What the runs promise as `faults` and
+/// `left_out` is said at each run alone.
 pub fn run_task<R: Input, F: PieceSource, W: Output>(
     alloc: Global,
     task: &Task<'_>,

@@ -5,7 +5,7 @@ use Rattle.mc_layout.specs.declared.unread.Unread.{Unread}
 use Rattle.mc_layout.specs.declared.unread.Unread.TheVariants.{NoSuchFile, NotRegular}
 use Rattle.mc_layout.specs.declared.unread.Unread.TheVariants.{PermissionDenied, System, Failed}
 
--- The words.
+-- The words of each reason, where they are known.
 -- What the system says of a file that it doesn't open or read is said in the system's own words, of
 -- which nothing is known here.
 abbrev pub unread_text : Unread → Option (List ℕ)
